@@ -1,0 +1,2 @@
+-- What the functions on lists of nets answer, and what the table of slots says.
+pub mod Slots
