@@ -1,0 +1,109 @@
+-- A list of numbers laid over a longer one from a place on; pieces laid side by side are one piece.
+use Prim.Native.Nat.{ℕ, suc, _+_, _-_, _≤_, _<_}
+use mathlib.Core.Path.{_≡_, sym, ap, ap₂, _∙_}
+use mathlib.Core.List.{List, [], _∷_, _++_, append-assoc}
+use native.Mathlib.Omega.{arith}
+use native.Mathlib.Nat.{add-zero}
+use native.Mathlib.Numerals.{add-one}
+use lib.ListN.{length, getD, take, drop, set, length-append, length-drop, length-take, take-append-drop}
+use lib.Seq.{drop-drop, drop-append-seam, take-append-seam, take-at, drop-at, take-append-le, drop-append-le, take-take, length-take-le, set-split, drop-append-add, take-append-add}
+use Rattle.image.specs.Stands.{Stands}
+
+unfoldable pub laid : List ℕ → ℕ → List ℕ → List ℕ
+laid im at xs = take at im ++ (xs ++ drop (at + length xs) im)
+
+module _ (im : List ℕ) (at : ℕ) (xs : List ℕ) (fits : at + length xs ≤ length im) where
+  head-long : length (take at im) ≡ at
+  head-long = length-take-le at im (omega arith)
+
+  pub length-laid : length (laid im at xs) ≡ length im
+  unfolding laid
+  length-laid = simp (length-append, length-drop) (omega (arith, head-long))
+
+  -- What was laid stands there.
+  pub from-laid : drop at (laid im at xs) ≡ xs ++ drop (at + length xs) im
+  unfolding laid
+  from-laid = drop-at (take at im) (xs ++ drop (at + length xs) im) at head-long
+
+  pub stands-laid : Stands (laid im at xs) at xs
+  unfolding laid
+  stands-laid =
+      record {
+        rest = drop (at + length xs) im;
+        here = from-laid;
+        within = omega (arith, length-laid);
+      }
+
+  -- What stood before the place is as it was, and so is what stands after the piece.
+  pub take-laid : take at (laid im at xs) ≡ take at im
+  unfolding laid
+  take-laid = take-at (take at im) (xs ++ drop (at + length xs) im) at head-long
+
+  pub drop-laid : drop (at + length xs) (laid im at xs) ≡ drop (at + length xs) im
+  unfolding laid
+  drop-laid =
+      sym (drop-drop (length xs) at (laid im at xs))
+      ∙ ap (drop (length xs)) from-laid
+      ∙ drop-append-seam xs (drop (at + length xs) im)
+
+-- A piece laid behind another: both in one.
+pub laid-after : (im : List ℕ) (at : ℕ) (xs ys : List ℕ) → at + (length xs + length ys) ≤ length im
+    → laid (laid im at xs) (at + length xs) ys ≡ laid im at (xs ++ ys)
+unfolding laid
+laid-after im at xs ys fits =
+    ap₂ (λ (l r : List ℕ). l ++ (ys ++ r)) before behind
+    ∙ append-assoc (take at im) xs (ys ++ drop (at + length xs + length ys) im)
+    ∙ ap (λ (l : List ℕ). take at im ++ l) (sym (append-assoc xs ys (drop (at + length xs + length ys) im)))
+    ∙ ap (λ (n : ℕ). take at im ++ ((xs ++ ys) ++ drop n im)) whole
+  where
+    whole : at + length xs + length ys ≡ at + length (xs ++ ys)
+    whole = omega (arith, length-append xs ys)
+
+    first : at + length xs ≤ length im
+    first = omega arith
+
+    before : take (at + length xs) (laid im at xs) ≡ take at im ++ xs
+    before =
+        ap (take (at + length xs)) (sym (append-assoc (take at im) xs (drop (at + length xs) im)))
+        ∙ take-at (take at im ++ xs) (drop (at + length xs) im) (at + length xs)
+        (length-append (take at im) xs ∙ ap (λ (n : ℕ). n + length xs) (length-take-le at im (omega arith)))
+
+    behind : drop (at + length xs + length ys) (laid im at xs) ≡ drop (at + length xs + length ys) im
+    behind =
+        sym (drop-drop (length ys) (at + length xs) (laid im at xs))
+        ∙ ap (drop (length ys)) (drop-laid im at xs first)
+        ∙ drop-drop (length ys) (at + length xs) im
+
+-- A piece laid in front of another: both in one.
+pub laid-before : (im : List ℕ) (at : ℕ) (xs ys : List ℕ) → at + (length xs + length ys) ≤ length im
+    → laid (laid im (at + length xs) ys) at xs ≡ laid im at (xs ++ ys)
+unfolding laid
+laid-before im at xs ys fits =
+    ap₂ (λ (l r : List ℕ). l ++ (xs ++ r)) before behind
+    ∙ ap (λ (l : List ℕ). take at im ++ l) (sym (append-assoc xs ys (drop (at + length xs + length ys) im)))
+    ∙ ap (λ (n : ℕ). take at im ++ ((xs ++ ys) ++ drop n im)) whole
+  where
+    whole : at + length xs + length ys ≡ at + length (xs ++ ys)
+    whole = omega (arith, length-append xs ys)
+
+    second : at + length xs + length ys ≤ length im
+    second = omega arith
+
+    before : take at (laid im (at + length xs) ys) ≡ take at im
+    before =
+        sym (take-take at (at + length xs) (laid im (at + length xs) ys) (omega arith))
+        ∙ ap (take at) (take-laid im (at + length xs) ys second)
+        ∙ take-take at (at + length xs) im (omega arith)
+
+    behind : drop (at + length xs) (laid im (at + length xs) ys) ≡ ys ++ drop (at + length xs + length ys) im
+    behind = from-laid im (at + length xs) ys second
+
+-- One number stored.
+pub set-laid : (im : List ℕ) (at x : ℕ) → at < length im → set im at x ≡ laid im at (x ∷ [])
+unfolding laid
+set-laid im at x h = set-split im at x h ∙ ap (λ (n : ℕ). take at im ++ x ∷ drop n im) (sym (add-one at))
+
+-- Nothing laid changes nothing.
+pub laid-nothing : (im : List ℕ) (at : ℕ) → laid im at [] ≡ im
+unfolding laid
+laid-nothing im at = ap (λ (n : ℕ). take at im ++ drop n im) (add-zero at) ∙ take-append-drop at im

@@ -1,0 +1,5 @@
+-- The image of a file: its numbers with each net replaced by its slot and each module referred to by its position, and what reading
+-- it there means. No function.
+pub mod Stands
+pub mod Resolved
+pub mod Laid
