@@ -1,0 +1,2 @@
+-- Facts that the check's proofs cite.
+pub mod Numbers
