@@ -1,2 +1,3 @@
 -- Facts that the check's proofs cite.
 pub mod Numbers
+pub mod Later
