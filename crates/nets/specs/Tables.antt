@@ -9,8 +9,8 @@ use borrow.Author.Tests.{le-leb, lt-leb, eqb-true, eqb-false}
 use lib.Dec.{eqb, leb}
 use lib.ListN.{length, getD, set, replicate}
 use lib.Seq.{getD-set-same, getD-set-other}
-use Rattle.meaning.specs.Boxlist.{member}
-use Rattle.nets.specs.Slots.{slotOf, Knows}
+use Rattle.meaning.specs.Boxlist.{member, subset}
+use Rattle.nets.specs.Slots.{slotOf, Knows, Below}
 use Rattle.nets.specs.Members.{or-left, or-right, member-append}
 use Rattle.nets.specs.SlotLaws.{slot-below, slot-append, slot-fresh}
 
@@ -82,3 +82,13 @@ knows-none n base h = record { inside = λ x e. absurd (true≢false (sym e)); o
     zeros zero x = refl
     zeros (suc n) zero = refl
     zeros (suc n) (suc x) = zeros n x
+
+-- The nets of a list can be written as slots into an image from a place on: the table knows each of them, every slot fits a number of
+-- the image, and there is room.
+pub record Resolvable (list table : List ℕ) (base : ℕ) (image : List ℕ) (at : ℕ) : Type 0 where
+  pub nets : List ℕ
+  pub knows : Knows table base nets
+  pub listed : subset list nets ≡ true
+  pub few : length nets ≤ 65536
+  pub inTable : Below (length table) list
+  pub room : at + length list ≤ length image
