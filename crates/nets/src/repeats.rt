@@ -11,13 +11,17 @@ pub fn repeats(list: &[u16]) -> bool
     ensures { λ r. ⌜ r ≡ duplicates (now (list .entry)) ⌝ }
 {
     let mut met = false;
-    'search: for i in 0..list.len() {
-        for j in i + 1..list.len() {
+    let mut i = 0;
+    'search: while i < list.len() {
+        let mut j = i + 1;
+        while j < list.len() {
             if list[i] == list[j] {
                 met = true;
                 break 'search;
             }
+            j += 1;
         }
+        i += 1;
     }
     met
 }

@@ -46,16 +46,16 @@ record Compared (list : List ℕ) (i : ℕ) (met : Bool) (j : ℕ) : Type 0 wher
   left : member (getD list i 0) (drop (i + 1) list) ≡ member (getD list i 0) (drop j list)
 
 abbrev Inv-loop : tie.InvT-loop
-Inv-loop list met₀ i j₀ i-end j-end met j = Compared list i met j
+Inv-loop list met₀ i j₀ met j = Compared list i met j
 
 abbrev μ-loop : tie.MeasureT-loop
-μ-loop list met₀ i j₀ i-end j-end met j = length list - j
+μ-loop list met₀ i j₀ met j = length list - j
 
 abbrev Inv-search : tie.InvT-search
-Inv-search list met₀ i₀ i-end met i = Passed list met i
+Inv-search list met₀ i₀ met i = Passed list met i
 
 abbrev μ-search : tie.MeasureT-search
-μ-search list met₀ i₀ i-end met i = length list - i
+μ-search list met₀ i₀ met i = length list - i
 
 search-holds : tie.Need-search-holds Inv-loop μ-loop Inv-search μ-search
 search-holds c = record { unmet = refl; within = omega arith; left = refl }
