@@ -1,7 +1,13 @@
 -- Theorems about the definitions of `meaning`, a file for each of its topics. No function.
 pub mod Fillings
+pub mod Folds
 pub mod Gates
 pub mod Reading
+pub mod Members
+pub mod Tests
+pub mod Outcomes
+pub mod WellFormed
+pub mod Finding
 pub mod Accepted
 pub mod Refusals
 pub mod Evaluation

@@ -1,2 +1,6 @@
 -- What the functions on lists of nets answer, and what the table of slots says.
 pub mod Slots
+pub mod Members
+pub mod Walks
+pub mod SlotLaws
+pub mod Tables

@@ -1,0 +1,160 @@
+-- `nets::repeats::repeats` meets its contract. The outer loop's invariant: the list repeats a net just if it does from place i on.
+-- The inner one's: the net at i stands behind its place just if it stands from place j on. Assumes nothing.
+use Prim.Native.Nat.{ℕ, suc, _+_, _-_, _<_, _≤_}
+use native.Mathlib.Omega.{arith}
+use mathlib.Core.Path.{_≡_, refl, sym, ap, _∙_}
+use mathlib.Core.Bool.{Bool, true, false, _||_}
+use mathlib.Core.List.{List}
+use borrow.Author.Tests.{eq-eqb, ne-eqb}
+use lib.ListN.{length, getD, drop}
+use Rattle.meaning.specs.Boxlist.{member, duplicates}
+use Rattle.nets.specs.Walks.{member-here, member-end, duplicates-here, duplicates-end}
+use Rattle.nets.proofs.repeats.repeats.Statement.{statement}
+use Rattle.nets.proofs.repeats.repeats.Tie as tie
+
+-- The entry at j differs from the net at i: the net is to be sought from the next place on.
+pair-passed :
+    (l : List ℕ) (i j : ℕ) → j < length l → (getD l i 0 ≡ getD l j 0 → ⊥)
+    → member (getD l i 0) (drop j l) ≡ member (getD l i 0) (drop (j + 1) l)
+pair-passed l i j h ne = rw (member-here l j h (getD l i 0), ne-eqb (getD l i 0) (getD l j 0) ne)
+
+-- The net at i was sought to the list's end: repeats are to be sought from the next place on.
+net-passed :
+    (l : List ℕ) (i j : ℕ) → i < length l → length l ≤ j
+    → member (getD l i 0) (drop (i + 1) l) ≡ member (getD l i 0) (drop j l)
+    → duplicates (drop i l) ≡ duplicates (drop (i + 1) l)
+net-passed l i j h end left = rw (duplicates-here l i h, left, member-end l j end (getD l i 0))
+
+-- The entry at j is the net at i: it repeats.
+pair-met :
+    (l : List ℕ) (i j : ℕ) → i < length l → j < length l
+    → member (getD l i 0) (drop (i + 1) l) ≡ member (getD l i 0) (drop j l)
+    → getD l i 0 ≡ getD l j 0
+    → duplicates (drop i l) ≡ true
+pair-met l i j hi hj left same =
+    rw (duplicates-here l i hi, left, member-here l j hj (getD l i 0), eq-eqb (getD l i 0) (getD l j 0) same)
+
+-- No pair was met with a net before place i, nor of the net at i with one before place j.
+record Passed (list : List ℕ) (met : Bool) (i : ℕ) : Type 0 where
+  unmet : met ≡ false
+  within : i ≤ length list
+  left : duplicates list ≡ duplicates (drop i list)
+
+record Compared (list : List ℕ) (i : ℕ) (met : Bool) (j : ℕ) : Type 0 where
+  unmet : met ≡ false
+  within : j ≤ length list
+  left : member (getD list i 0) (drop (i + 1) list) ≡ member (getD list i 0) (drop j list)
+
+abbrev Inv-loop : tie.InvT-loop
+Inv-loop list met₀ i j₀ met j = Compared list i met j
+
+abbrev μ-loop : tie.MeasureT-loop
+μ-loop list met₀ i j₀ met j = length list - j
+
+abbrev Inv-search : tie.InvT-search
+Inv-search list met₀ i₀ met i = Passed list met i
+
+abbrev μ-search : tie.MeasureT-search
+μ-search list met₀ i₀ met i = length list - i
+
+search-holds : tie.Need-search-holds Inv-loop μ-loop Inv-search μ-search
+search-holds c = record { unmet = refl; within = omega arith; left = refl }
+
+add-j : tie.Need-add-j Inv-loop μ-loop Inv-search μ-search
+add-j c = omega arith
+
+loop-holds : tie.Need-loop-holds Inv-loop μ-loop Inv-search μ-search
+loop-holds c = record { unmet = c .before .search .inv .unmet; within = omega arith; left = refl }
+
+mul-if1 : tie.Need-mul-if1 Inv-loop μ-loop Inv-search μ-search
+mul-if1 c = omega arith
+
+shared-slice-read-if1 : tie.Need-shared-slice-read-if1 Inv-loop μ-loop Inv-search μ-search
+shared-slice-read-if1 c = omega arith
+
+mul-if1-2 : tie.Need-mul-if1-2 Inv-loop μ-loop Inv-search μ-search
+mul-if1-2 c = omega arith
+
+shared-slice-read-if1-2 : tie.Need-shared-slice-read-if1-2 Inv-loop μ-loop Inv-search μ-search
+shared-slice-read-if1-2 c = omega arith
+
+add-j-2 : tie.Need-add-j-2 Inv-loop μ-loop Inv-search μ-search
+add-j-2 c = omega arith
+
+loop-less : tie.Need-loop-less Inv-loop μ-loop Inv-search μ-search
+loop-less c = omega arith
+
+loop-again : tie.Need-loop-again Inv-loop μ-loop Inv-search μ-search
+loop-again c =
+    let turn = c .before .before .before in
+    record {
+      unmet = turn .before .loop .inv .unmet;
+      within = omega arith;
+      left =
+          turn .before .loop .inv .left
+          ∙ pair-passed (turn .before .before .before .before .args .list .now) (turn .before .before .before .search .i)
+          (turn .before .loop .j)
+          (turn .loop-test .taken)
+          (c .if1 .left);
+    }
+
+add-i : tie.Need-add-i Inv-loop μ-loop Inv-search μ-search
+add-i c = omega arith
+
+search-less : tie.Need-search-less Inv-loop μ-loop Inv-search μ-search
+search-less c = omega arith
+
+search-again : tie.Need-search-again Inv-loop μ-loop Inv-search μ-search
+search-again c =
+    record {
+      unmet = c .before .loop .inv .unmet;
+      within = omega arith;
+      left =
+          c .before .before .before .search .inv .left
+          ∙ net-passed (c .before .before .before .before .args .list .now) (c .before .before .before .search .i) (c .before .loop .j)
+          (c .before .before .search-test .taken)
+          (c .loop-test .left)
+          (c .before .loop .inv .left);
+    }
+
+returns : tie.Need-returns Inv-loop μ-loop Inv-search μ-search
+returns c =
+    c .before .search .inv .unmet
+    ∙ sym (c .before .search .inv .left ∙ duplicates-end (c .before .before .args .list .now) (c .before .search .i) (omega arith))
+
+returns-2 : tie.Need-returns-2 Inv-loop μ-loop Inv-search μ-search
+returns-2 c =
+    let turn = c .before .before .before in
+    let l = turn .before .before .before .before .args .list .now in
+    let i = turn .before .before .before .search .i in
+    sym
+    (turn .before .before .before .search .inv .left
+      ∙ pair-met l i (turn .before .loop .j)
+          (turn .before .before .search-test .taken)
+          (turn .loop-test .taken)
+          (turn .before .loop .inv .left)
+          (c .if1 .taken))
+
+pub repeats-spec : {M : Type 1} → statement M
+repeats-spec =
+    tie.close
+    (tie.spec
+    Inv-loop
+    μ-loop
+    Inv-search
+    μ-search
+    search-holds
+    add-j
+    loop-holds
+    mul-if1
+    shared-slice-read-if1
+    mul-if1-2
+    shared-slice-read-if1-2
+    add-j-2
+    loop-less
+    loop-again
+    add-i
+    search-less
+    search-again
+    returns
+    returns-2)
