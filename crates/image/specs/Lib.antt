@@ -3,3 +3,5 @@
 pub mod Stands
 pub mod Resolved
 pub mod Laid
+pub mod Frames
+pub mod Pieces
