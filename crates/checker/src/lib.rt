@@ -1,36 +1,4 @@
 // The check of a file's numbers: rules 6 to 17 in order, and the image on which everything later runs.
-ghost use mathlib.Core.Path.{_≡_};
-ghost use mathlib.Core.List.{List};
-ghost use Prim.Native.Nat.{ℕ, _+_, _-_, _<_, _≤_};
-ghost use lib.ListN.{length, getD, replicate};
-ghost use Rattle.meaning.specs.Syntax.{Module};
-ghost use Rattle.nets.specs.Slots.{Below};
-ghost use Rattle.checker.specs.Filed.{Filed, Countable};
-ghost use Rattle.checker.specs.Numbering.{Numbered, firstRepeat};
-
-// The number at a place, as an index.
-fn entry(numbers: &[u16], i: usize) -> usize
-    requires { ⌜ i < length (now numbers) ⌝ }
-    ensures { λ r. ⌜ r ≡ getD (now (numbers .entry)) i 0 ⌝ }
-{
-    numbers[i] as usize
-}
-
-// Fills the table of numbers, from the last module to the first, and answers the first position whose number stands on a later
-// module too.
-pub fn number_modules(numbers: &[u16], starts: &[usize], modules: usize, first: &mut [u16]) -> usize
-    requires { ⌜ Countable (now numbers) (now starts) modules (now first) ⌝ }
-    ensures { λ r. ⌜ ((ms : List Module) → Filed (now (numbers .entry)) (now (starts .entry)) ms → modules ≡ length ms → (r ≡ firstRepeat ms) × Numbered (now (first .exit)) ms) ⌝ }
-{
-    let mut repeated = modules;
-    let mut k = modules;
-    while 0 < k {
-        k -= 1;
-        let x = entry(numbers, starts[k]);
-        if first[x] != 0 {
-            repeated = k;
-        }
-        first[x] = (k + 1) as u16;
-    }
-    repeated
-}
+pub mod numbering;
+pub mod occurrences;
+pub mod references;

@@ -129,11 +129,11 @@ returns-2 c =
     let i = turn .before .before .before .search .i in
     sym
     (turn .before .before .before .search .inv .left
-      ∙ pair-met l i (turn .before .loop .j)
-          (turn .before .before .search-test .taken)
-          (turn .loop-test .taken)
-          (turn .before .loop .inv .left)
-          (c .if1 .taken))
+    ∙ pair-met l i (turn .before .loop .j)
+    (turn .before .before .search-test .taken)
+    (turn .loop-test .taken)
+    (turn .before .loop .inv .left)
+    (c .if1 .taken))
 
 pub repeats-spec : {M : Type 1} → statement M
 repeats-spec =

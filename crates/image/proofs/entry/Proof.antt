@@ -1,7 +1,7 @@
 use borrow.Author.Needs.{needs}
 use native.Mathlib.Omega.{arith}
-use Rattle.checker.proofs.entry.Statement.{statement}
-use Rattle.checker.proofs.entry.Tie as tie
+use Rattle.image.proofs.entry.Statement.{statement}
+use Rattle.image.proofs.entry.Tie as tie
 
 mul-result : tie.Need-mul-result
 mul-result c = search needs

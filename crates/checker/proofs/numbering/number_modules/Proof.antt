@@ -11,11 +11,11 @@ use Rattle.meaning.specs.Syntax.{Module}
 use Rattle.checker.specs.Filed.{Filed, Countable}
 use Rattle.checker.specs.Numbering.{firstOf, firstRepeat, Numbered, shifted}
 use Rattle.checker.proofs.Numbers.{Tabled, tabled-more, repeat-here, repeat-later, Positioned, positioned, headed}
-use Rattle.checker.proofs.number_modules.Statement.{statement}
-use Rattle.checker.proofs.number_modules.Tie as tie
-use Rattle.checker.proofs.number_modules.Reads as reads
-use Rattle.checker.proofs.number_modules.Lts as lts
-use Rattle.checker.proofs.entry.Reads as entry-reads
+use Rattle.checker.proofs.numbering.number_modules.Statement.{statement}
+use Rattle.checker.proofs.numbering.number_modules.Tie as tie
+use Rattle.checker.proofs.numbering.number_modules.Reads as reads
+use Rattle.checker.proofs.numbering.number_modules.Lts as lts
+use Rattle.image.proofs.entry.Reads as entry-reads
 
 record From (numbers starts first : List ℕ) (modules k repeated : ℕ) : Type 0 where
   within : k ≤ modules
