@@ -4,6 +4,7 @@ pub mod Gates
 pub mod Reading
 pub mod Accepted
 pub mod Refusals
+pub mod Related
 pub mod Evaluation
 pub mod Heval
 pub mod Adder
