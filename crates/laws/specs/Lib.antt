@@ -5,6 +5,7 @@ pub mod Reading
 pub mod Accepted
 pub mod Refusals
 pub mod Related
+pub mod Suffix
 pub mod Evaluation
 pub mod Heval
 pub mod Adder

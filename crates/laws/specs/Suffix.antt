@@ -1,0 +1,112 @@
+-- The meaning of a module depends only on the modules from it to the end of the list, and so do its figures and its flattening.
+-- Every one of them goes through the list until it meets the module's number: that is all that the one law here asks.
+use Prim.Native.Nat.{ℕ}
+use mathlib.Core.Path.{_≡_, refl, ap, fun-ext, _∙_}
+use mathlib.Core.Bool.{Bool, true, false, cond}
+use mathlib.Core.List.{List, [], _∷_, _++_, map}
+use lib.Dec.{eqb}
+use native.Mathlib.Omega.{arith}
+use lib.ListN.{replicate}
+use Rattle.meaning.specs.Syntax.{Occurrence, Module}
+use Rattle.meaning.specs.Boxlist.{Found, box, F, assoc}
+use Rattle.meaning.specs.Limits.{expandedSize}
+use Rattle.meaning.specs.Values.{Val, known}
+use Rattle.meaning.specs.Evaluation.{Meaning, run, gateOutputs, evaluate}
+use Rattle.meaning.specs.Figures.{gateWeight, gateCount, kindCount, tally, room, gateArrival, arrivals, inputCount, largest, delayBy, delay, inputLoads, largestLoad}
+use Rattle.meaning.specs.Flattening.{Board, Placed, Placing, place, flatModule}
+
+-- What a list of modules says of a number does not change by a module of another number in front.
+pub record Searches {C : Type 0} (f : List Module → ℕ → C) : Type 0 where
+  pub passes : (m : Module) (ms : List Module) (number : ℕ) → eqb number (m .number) ≡ false → f (m ∷ ms) number ≡ f ms number
+
+-- A number that no module of a list has is another than the first one's, and none of the rest has it.
+pub record Unmet (number : ℕ) (m : Module) (ms : List Module) : Type 0 where
+  pub another : eqb number (m .number) ≡ false
+  pub further : assoc number ms ≡ F
+
+pub unmet : (number : ℕ) (m : Module) (ms : List Module) → assoc number (m ∷ ms) ≡ F → Unmet number m ms
+unfolding assoc
+unmet number m ms = go (eqb number (m .number)) refl
+  where
+    go : (b : Bool) → eqb number (m .number) ≡ b → cond b (box m) (assoc number ms) ≡ F → Unmet number m ms
+    go true e h = absurd (let z : _≡_ {A = ℕ} 0 1 = cc in omega arith)
+    go false e h = record { another = e; further = h }
+
+-- Modules in front of which none has the number change nothing.
+pub past-front : {C : Type 0} {f : List Module → ℕ → C} → Searches f → (front ms : List Module) (number : ℕ)
+    → assoc number front ≡ F
+    → f (front ++ ms) number ≡ f ms number
+past-front search [] ms number h = refl
+past-front search (m ∷ front) ms number h =
+    let there = unmet number m front h in
+    search .passes m (front ++ ms) number (there .another) ∙ past-front search front ms number (there .further)
+
+pub assoc-searches : Searches (λ ms number. assoc number ms)
+unfolding assoc
+assoc-searches = record { passes = λ m ms number h. rw h }
+
+pub run-searches : {A : Type 0} (none : A) (gateMeaning : Meaning A) → Searches (run none gateMeaning)
+unfolding run
+run-searches none gateMeaning = record { passes = λ m ms number h. fun-ext (λ vs. rw h) }
+
+pub evaluate-searches : Searches evaluate
+unfolding evaluate
+evaluate-searches = run-searches (known false) gateOutputs
+
+pub expandedSize-searches : Searches expandedSize
+unfolding expandedSize
+expandedSize-searches = record { passes = λ m ms number h. rw h }
+
+pub gateWeight-searches : (weight : ℕ → ℕ) → Searches (gateWeight weight)
+unfolding gateWeight
+gateWeight-searches weight = record { passes = λ m ms number h. rw h }
+
+pub gateCount-searches : Searches gateCount
+unfolding gateCount
+gateCount-searches = gateWeight-searches (λ kind. 1)
+
+pub kindCount-searches : (kind : ℕ) → Searches (kindCount kind)
+unfolding kindCount
+kindCount-searches kind = gateWeight-searches (λ other. cond (eqb other kind) 1 0)
+
+pub tally-searches : Searches tally
+unfolding tally
+tally-searches =
+    record {
+      passes = λ m ms number h.
+          ap {B = List ℕ} (λ (counts : ℕ → ℕ). map counts (0 ∷ 1 ∷ 2 ∷ 3 ∷ 4 ∷ 5 ∷ 6 ∷ 7 ∷ 8 ∷ 9 ∷ 10 ∷ 11 ∷ 12 ∷ 13 ∷ 14 ∷ 15 ∷ []))
+          (fun-ext (λ kind. kindCount-searches kind .passes m ms number h));
+    }
+
+pub room-searches : Searches room
+unfolding room
+room-searches = record { passes = λ m ms number h. rw h }
+
+pub arrivals-searches : (delay : ℕ → ℕ) → Searches (arrivals delay)
+unfolding arrivals
+arrivals-searches delay = run-searches 0 (gateArrival delay)
+
+pub delayBy-searches : (delay : ℕ → ℕ) → Searches (delayBy delay)
+unfolding delayBy
+delayBy-searches delay =
+    record { passes = λ m ms number h. rw (arrivals-searches delay .passes m ms number h, assoc-searches .passes m ms number h) }
+
+pub delay-searches : Searches delay
+unfolding delay
+delay-searches = delayBy-searches (λ kind. 1)
+
+pub inputLoads-searches : Searches inputLoads
+unfolding inputLoads
+inputLoads-searches = record { passes = λ m ms number h. rw h }
+
+pub largestLoad-searches : Searches largestLoad
+unfolding largestLoad
+largestLoad-searches = record { passes = λ m ms number h. rw h }
+
+pub place-searches : Searches place
+unfolding place
+place-searches = record { passes = λ m ms number h. fun-ext (λ nets. fun-ext (λ board. rw h)) }
+
+pub flatModule-searches : Searches flatModule
+unfolding flatModule
+flatModule-searches = record { passes = λ m ms number h. fun-ext (λ inputs. rw (place-searches .passes m ms number h)) }
