@@ -6,6 +6,11 @@ pub mod Accepted
 pub mod Refusals
 pub mod Related
 pub mod Suffix
+pub mod OutputCount
+pub mod WellFormed
+pub mod References
+pub mod Known
 pub mod Evaluation
+pub mod HevalRun
 pub mod Heval
 pub mod Adder

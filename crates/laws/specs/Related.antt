@@ -4,21 +4,17 @@
 use Prim.Native.Nat.{ℕ}
 use mathlib.Core.Path.{_≡_, refl}
 use mathlib.Core.Bool.{Bool, true, false, cond}
-use mathlib.Core.List.{List, [], _∷_, _++_}
+use mathlib.Core.List.{List, [], _∷_, _++_, Forall₂, Forall₂·nil as none, Forall₂·cons as more}
 use lib.Dec.{eqb}
 use Rattle.meaning.specs.Syntax.{Occurrence, Module}
 use Rattle.meaning.specs.Gates.{isGate}
 use Rattle.meaning.specs.Evaluation.{Binding, Env, look, lookAll, pairs, Meaning, apply, walk, runModule, run}
 
--- Two lists of one length, related entry by entry.
-pub data Each {A B : Type 0} (R : A → B → Type 0) : List A → List B → Type 0 where
-  none : Each R [] []
-  more : {a : A} {b : B} {xs : List A} {ys : List B} → R a b → Each R xs ys → Each R (a ∷ xs) (b ∷ ys)
-
-pub each-append : {A B : Type 0} {R : A → B → Type 0} {xs xs′ : List A} {ys ys′ : List B}
-    → Each R xs ys → Each R xs′ ys′ → Each R (xs ++ xs′) (ys ++ ys′)
-each-append none rest = rest
-each-append (more r rs) rest = more r (each-append rs rest)
+-- Lists of one length, related entry by entry, are `Forall₂`; one after the other they are again.
+forall₂-append : {A B : Type 0} {R : A → B → Type 0} {xs xs′ : List A} {ys ys′ : List B}
+    → Forall₂ R xs ys → Forall₂ R xs′ ys′ → Forall₂ R (xs ++ xs′) (ys ++ ys′)
+forall₂-append none rest = rest
+forall₂-append (more r rs) rest = more r (forall₂-append rs rest)
 
 -- Two bindings of one net, to related values.
 pub record Bound {A B : Type 0} (R : A → B → Type 0) (x : Binding A) (y : Binding B) : Type 0 where
@@ -27,7 +23,7 @@ pub record Bound {A B : Type 0} (R : A → B → Type 0) (x : Binding A) (y : Bi
 
 -- Two meanings that take related lists to related lists.
 pub record Respects {A B : Type 0} (R : A → B → Type 0) (f : Meaning A) (g : Meaning B) : Type 0 where
-  pub keeps : (number : ℕ) {vs : List A} {ws : List B} → Each R vs ws → Each R (f number vs) (g number ws)
+  pub keeps : (number : ℕ) {vs : List A} {ws : List B} → Forall₂ R vs ws → Forall₂ R (f number vs) (g number ws)
 
 -- A test picks one of two related pairs.
 module _ {A B : Type 0} (R : A → B → Type 0) where
@@ -36,37 +32,37 @@ module _ {A B : Type 0} (R : A → B → Type 0) where
   cond-related false p q = q
 
 module _ {A B : Type 0} (R : A → B → Type 0) (noneA : A) (noneB : B) (unset : R noneA noneB) where
-  look-related : (net : ℕ) {e : Env A} {f : Env B} → Each (Bound R) e f → R (look noneA net e) (look noneB net f)
+  look-related : (net : ℕ) {e : Env A} {f : Env B} → Forall₂ (Bound R) e f → R (look noneA net e) (look noneB net f)
   unfolding look
   look-related net none = unset
   look-related net (more {b = y} bound rest) =
       rw (bound .same-net) (cond-related R (eqb net (y .net)) (bound .values) (look-related net rest))
 
-  lookAll-related : (nets : List ℕ) {e : Env A} {f : Env B} → Each (Bound R) e f → Each R (lookAll noneA nets e) (lookAll noneB nets f)
+  lookAll-related : (nets : List ℕ) {e : Env A} {f : Env B} → Forall₂ (Bound R) e f → Forall₂ R (lookAll noneA nets e) (lookAll noneB nets f)
   unfolding lookAll
   lookAll-related [] env = none
   lookAll-related (net ∷ nets) env = more (look-related net env) (lookAll-related nets env)
 
-  pairs-related : (nets : List ℕ) {vs : List A} {ws : List B} → Each R vs ws → Each (Bound R) (pairs noneA nets vs) (pairs noneB nets ws)
+  pairs-related : (nets : List ℕ) {vs : List A} {ws : List B} → Forall₂ R vs ws → Forall₂ (Bound R) (pairs noneA nets vs) (pairs noneB nets ws)
   unfolding pairs
   pairs-related [] vs = none
   pairs-related (net ∷ nets) none = more (record { same-net = refl; values = unset }) (pairs-related nets none)
   pairs-related (net ∷ nets) (more v vs) = more (record { same-net = refl; values = v }) (pairs-related nets vs)
 
   module _ {f : Meaning A} {g : Meaning B} (gates : Respects R f g) where
-    apply-related : {l : Meaning A} {l′ : Meaning B} → Respects R l l′ → (number : ℕ) {vs : List A} {ws : List B} → Each R vs ws
-        → Each R (apply f l number vs) (apply g l′ number ws)
-    apply-related later number vs = cond-related (Each R) (isGate number) (gates .keeps number vs) (later .keeps number vs)
+    apply-related : {l : Meaning A} {l′ : Meaning B} → Respects R l l′ → (number : ℕ) {vs : List A} {ws : List B} → Forall₂ R vs ws
+        → Forall₂ R (apply f l number vs) (apply g l′ number ws)
+    apply-related later number vs = cond-related (Forall₂ R) (isGate number) (gates .keeps number vs) (later .keeps number vs)
 
-    walk-related : {l : Meaning A} {l′ : Meaning B} → Respects R l l′ → (os : List Occurrence) {e : Env A} {e′ : Env B} → Each (Bound R) e e′
-        → Each (Bound R) (walk noneA f l os e) (walk noneB g l′ os e′)
+    walk-related : {l : Meaning A} {l′ : Meaning B} → Respects R l l′ → (os : List Occurrence) {e : Env A} {e′ : Env B} → Forall₂ (Bound R) e e′
+        → Forall₂ (Bound R) (walk noneA f l os e) (walk noneB g l′ os e′)
     unfolding walk
     walk-related later [] env = env
-    walk-related {l} {l′} later (o ∷ os) env =
-        walk-related later os (each-append (pairs-related (o .drives) (apply-related later (o .refers) (lookAll-related (o .takes) env))) env)
+    walk-related later (o ∷ os) env =
+        walk-related later os (forall₂-append (pairs-related (o .drives) (apply-related later (o .refers) (lookAll-related (o .takes) env))) env)
 
-    runModule-related : {l : Meaning A} {l′ : Meaning B} → Respects R l l′ → (m : Module) → {vs : List A} {ws : List B} → Each R vs ws
-        → Each R (runModule noneA f l m vs) (runModule noneB g l′ m ws)
+    runModule-related : {l : Meaning A} {l′ : Meaning B} → Respects R l l′ → (m : Module) → {vs : List A} {ws : List B} → Forall₂ R vs ws
+        → Forall₂ R (runModule noneA f l m vs) (runModule noneB g l′ m ws)
     unfolding runModule
     runModule-related later m vs = lookAll-related (m .outputs) (walk-related later (m .occurrences) (pairs-related (m .inputs) vs))
 
@@ -75,4 +71,4 @@ module _ {A B : Type 0} (R : A → B → Type 0) (noneA : A) (noneB : B) (unset 
     run-related [] = record { keeps = λ number vs. none }
     run-related (m ∷ ms) =
         let later = run-related ms in
-        record { keeps = λ number vs. cond-related (Each R) (eqb number (m .number)) (runModule-related later m vs) (later .keeps number vs) }
+        record { keeps = λ number vs. cond-related (Forall₂ R) (eqb number (m .number)) (runModule-related later m vs) (later .keeps number vs) }

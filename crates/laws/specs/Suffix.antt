@@ -41,6 +41,13 @@ past-front search (m ∷ front) ms number h =
     let there = unmet number m front h in
     search .passes m (front ++ ms) number (there .another) ∙ past-front search front ms number (there .further)
 
+-- A list of which no module has the number says what the empty list says.
+pub no-module : {C : Type 0} {f : List Module → ℕ → C} → Searches f → (ms : List Module) (number : ℕ) → assoc number ms ≡ F → f ms number ≡ f [] number
+no-module search [] number h = refl
+no-module search (m ∷ ms) number h =
+    let there = unmet number m ms h in
+    search .passes m ms number (there .another) ∙ no-module search ms number (there .further)
+
 pub assoc-searches : Searches (λ ms number. assoc number ms)
 unfolding assoc
 assoc-searches = record { passes = λ m ms number h. rw h }
