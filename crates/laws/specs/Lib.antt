@@ -1,5 +1,6 @@
 -- Theorems about the definitions of `meaning`, a file for each of its topics. No function.
 pub mod Fillings
+pub mod Folds
 pub mod Gates
 pub mod Reading
 pub mod Accepted
