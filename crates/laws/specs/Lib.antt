@@ -3,6 +3,11 @@ pub mod Fillings
 pub mod Folds
 pub mod Gates
 pub mod Reading
+pub mod Members
+pub mod Tests
+pub mod Outcomes
+pub mod WellFormed
+pub mod Finding
 pub mod Accepted
 pub mod Refusals
 pub mod Related
