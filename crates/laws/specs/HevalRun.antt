@@ -3,7 +3,7 @@
 use Prim.Native.Nat.{ℕ}
 use mathlib.Core.Path.{_≡_, refl, sym, ap, _∙_}
 use mathlib.Core.Bool.{Bool, true, false, cond}
-use mathlib.Core.List.{List, [], _∷_, _++_, map, map-append}
+use mathlib.Core.List.{List, [], _∷_, map, map-append}
 use lib.Dec.{eqb}
 use Rattle.meaning.specs.Syntax.{Occurrence, Module}
 use Rattle.meaning.specs.Gates.{isGate}
@@ -12,8 +12,9 @@ use Rattle.meaning.specs.Evaluation.{Binding, Env, look, lookAll, pairs, Meanin
 use Rattle.meaning.specs.Heval.{Pair, evalName, collectEvalName, pairlist, happly, Reference, hevalBody, hevalBox, heval}
 use Rattle.laws.specs.WellFormed.{Accepted, none, some}
 use Rattle.laws.specs.Known.{booleanRun}
-use Rattle.laws.specs.Suffix.{past-front, no-module, run-searches}
-use Rattle.laws.specs.References.{stands, Refer, nothing, also, refer-all, run-in-whole}
+use Rattle.laws.specs.Suffix.{no-module, run-searches}
+use Rattle.laws.specs.Standing.{stands}
+use Rattle.laws.specs.References.{Refer, nothing, also, refer-all, run-in-whole}
 
 -- HEVAL's association lists are environments of Booleans.
 abbrev pub asPair : Binding Bool → Pair
@@ -45,11 +46,12 @@ module _ {reference : Reference} {later : Meaning Bool} where
   unfolding hevalBody walk
   hevalBody-is-walk nothing env = refl
   hevalBody-is-walk (also {o} same rest) env =
-      rw
-      (same .answers (o .takes) (map asPair env),
-      collectEvalName-is-lookAll (o .takes) env,
-      pairlist-is-pairs (o .drives) (apply happly later (o .refers) (lookAll false (o .takes) env)),
-      ← map-append)
+      rw (
+        same .answers (o .takes) (map asPair env),
+        collectEvalName-is-lookAll (o .takes) env,
+        pairlist-is-pairs (o .drives) (apply happly later (o .refers) (lookAll false (o .takes) env)),
+        ← map-append,
+      )
       (hevalBody-is-walk rest _)
 
   hevalBox-is-runModule : (m : Module) → Refer (Answers reference later) (m .occurrences) → (bs : List Bool)
@@ -82,16 +84,3 @@ heval-is-run (some {m} {later} ok rest) number =
         ≡ cond b (runModule false happly (booleanRun later) m bs) (booleanRun later number bs)
     go true same bs = hevalBox-is-runModule m (refer-all same (m .occurrences)) bs
     go false same bs = hevalBox-is-run rest same number bs
-
-accepted-behind : (front ms : List Module) → Accepted (front ++ ms) → Accepted ms
-accepted-behind [] ms accepted = accepted
-accepted-behind (m ∷ front) ms (some ok rest) = accepted-behind front ms rest
-
--- So HEVAL too depends only on the modules from the named one on.
-pub heval-past-front : (front ms : List Module) → Accepted (front ++ ms) → (number : ℕ) → assoc number front ≡ F
-    → (args : List ℕ) (alist : List Pair) → heval (front ++ ms) number args alist ≡ heval ms number args alist
-heval-past-front front ms accepted number new args alist =
-    rw
-    (heval-is-run accepted number .answers args alist,
-    heval-is-run (accepted-behind front ms accepted) number .answers args alist,
-    past-front (run-searches false happly) front ms number new)

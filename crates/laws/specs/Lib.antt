@@ -13,10 +13,13 @@ pub mod Refusals
 pub mod Related
 pub mod Suffix
 pub mod OutputCount
-pub mod WellFormed
+pub mod Standing
 pub mod References
 pub mod Known
 pub mod Evaluation
 pub mod HevalRun
+pub mod Pairlist
 pub mod Heval
+pub mod WrongEvaluators
+pub mod EvaluationRows
 pub mod Adder

@@ -1,34 +1,18 @@
 -- In an accepted list of modules the references of a module mean the same in the whole list as among the modules after it: they
 -- go to later modules, and no number stands twice.
 use Prim.Native.Nat.{ℕ}
-use mathlib.Core.Path.{_≡_, refl, sym, ap, subst, _∙_}
-use mathlib.Core.Bool.{Bool, true, false, cond}
-use mathlib.Core.List.{List, [], _∷_, _++_}
+use mathlib.Core.Path.{_≡_, refl, sym, ap, _∙_}
+use mathlib.Core.Bool.{Bool, true, false}
+use mathlib.Core.List.{List, [], _∷_}
 use lib.Dec.{eqb}
 use borrow.Author.Tests.{eqb-true}
-use native.Mathlib.Omega.{arith}
 use Rattle.meaning.specs.Syntax.{Occurrence, Module}
 use Rattle.meaning.specs.Gates.{isGate}
-use Rattle.meaning.specs.Boxlist.{Found, box, F, assoc}
+use Rattle.meaning.specs.Boxlist.{box, F, assoc}
 use Rattle.meaning.specs.Evaluation.{Env, lookAll, pairs, Meaning, apply, walk, runModule, run}
-use Rattle.laws.specs.WellFormed.{Reference, toGate, toModule, Body, done, step, Accepted, none, some}
-use Rattle.laws.specs.Suffix.{Searches, run-searches}
-
--- A module is the first in a list that has the number.
-pub data Stands (number : ℕ) (m : Module) : List Module → Type 0 where
-  here : {later : List Module} → eqb number (m .number) ≡ true → Stands number m (m ∷ later)
-  there : {other : Module} {later : List Module} → eqb number (other .number) ≡ false → Stands number m later → Stands number m (other ∷ later)
-
-pub stands : (number : ℕ) (ms : List Module) {m : Module} → assoc number ms ≡ box m → Stands number m ms
-unfolding assoc
-stands number [] e = absurd (let z : _≡_ {A = ℕ} 0 1 = cc in omega arith)
-stands number (other ∷ ms) {m} e = go (eqb number (other .number)) refl e (stands number ms)
-  where
-    go : (b : Bool) → eqb number (other .number) ≡ b → cond b (box other) (assoc number ms) ≡ box m
-        → (assoc number ms ≡ box m → Stands number m ms)
-        → Stands number m (other ∷ ms)
-    go true h found rest = let same : other ≡ m = cc in subst (λ (x : Module). Stands number x (other ∷ ms)) same (here h)
-    go false h found rest = there h (rest found)
+use Rattle.laws.specs.WellFormed.{Reference, toGate, toModule, Body, done, step, Accepted, some}
+use Rattle.laws.specs.Standing.{Stands, here, there}
+use Rattle.laws.specs.Suffix.{run-searches}
 
 -- Every number that occurrences refer to has a property.
 pub data Refer (P : ℕ → Type 0) : List Occurrence → Type 0 where

@@ -6,14 +6,13 @@ use mathlib.Core.Bool.{Bool, true, false, cond}
 use mathlib.Core.List.{List, [], _∷_, _++_, map}
 use lib.Dec.{eqb}
 use native.Mathlib.Omega.{arith}
-use lib.ListN.{replicate}
-use Rattle.meaning.specs.Syntax.{Occurrence, Module}
-use Rattle.meaning.specs.Boxlist.{Found, box, F, assoc}
+use Rattle.meaning.specs.Syntax.{Module}
+use Rattle.meaning.specs.Boxlist.{box, F, assoc}
 use Rattle.meaning.specs.Limits.{expandedSize}
-use Rattle.meaning.specs.Values.{Val, known}
+use Rattle.meaning.specs.Values.{known}
 use Rattle.meaning.specs.Evaluation.{Meaning, run, gateOutputs, evaluate}
-use Rattle.meaning.specs.Figures.{gateWeight, gateCount, kindCount, tally, room, gateArrival, arrivals, inputCount, largest, delayBy, delay, inputLoads, largestLoad}
-use Rattle.meaning.specs.Flattening.{Board, Placed, Placing, place, flatModule}
+use Rattle.meaning.specs.Figures.{gateWeight, gateCount, kindCount, tally, room, gateArrival, arrivals, delayBy, delay, inputLoads, largestLoad}
+use Rattle.meaning.specs.Flattening.{place, flatModule}
 
 -- What a list of modules says of a number does not change by a module of another number in front.
 pub record Searches {C : Type 0} (f : List Module → ℕ → C) : Type 0 where
@@ -56,6 +55,13 @@ pub run-searches : {A : Type 0} (none : A) (gateMeaning : Meaning A) → Searche
 unfolding run
 run-searches none gateMeaning = record { passes = λ m ms number h. fun-ext (λ vs. rw h) }
 
+pub run-past-front :
+    {A : Type 0} (none : A) (gateMeaning : Meaning A) (front ms : List Module) (number : ℕ)
+    → assoc number front ≡ F
+    → (vs : List A)
+    → run none gateMeaning (front ++ ms) number vs ≡ run none gateMeaning ms number vs
+run-past-front none gateMeaning front ms number new vs = rw (past-front (run-searches none gateMeaning) front ms number new)
+
 pub evaluate-searches : Searches evaluate
 unfolding evaluate
 evaluate-searches = run-searches (known false) gateOutputs
@@ -81,8 +87,9 @@ unfolding tally
 tally-searches =
     record {
       passes = λ m ms number h.
-          ap {B = List ℕ} (λ (counts : ℕ → ℕ). map counts (0 ∷ 1 ∷ 2 ∷ 3 ∷ 4 ∷ 5 ∷ 6 ∷ 7 ∷ 8 ∷ 9 ∷ 10 ∷ 11 ∷ 12 ∷ 13 ∷ 14 ∷ 15 ∷ []))
-          (fun-ext (λ kind. kindCount-searches kind .passes m ms number h));
+          let past : (kind : ℕ) → kindCount kind (m ∷ ms) number ≡ kindCount kind ms number
+          = λ kind. kindCount-searches kind .passes m ms number h in
+          simp past;
     }
 
 pub room-searches : Searches room
