@@ -1,5 +1,5 @@
 -- Two runs (demand 3): where the second run's inputs agree with the first's at every input that the first knows, each output known
--- in the first has the same value in the second. It asks nothing of the list.
+-- in the first has the same value in the second. Nothing is asked of the list.
 use Prim.Native.Nat.{ℕ, zero, suc}
 use mathlib.Core.Path.{_≡_, refl, ap}
 use mathlib.Core.Bool.{Bool, false}
@@ -18,7 +18,10 @@ gates-keep : Respects Keeps gateOutputs gateOutputs
 gates-keep = record { keeps = λ number refines. Forall₂·cons (gate-monotone number refines) Forall₂·nil }
 
 -- Evaluation is monotone: as more inputs become known, known outputs stay.
-pub evaluate-monotone : (ms : List Module) (number : ℕ) {vs ws : List Val} → Refines vs ws → Refines (evaluate ms number vs) (evaluate ms number ws)
+pub evaluate-monotone :
+    (ms : List Module) (number : ℕ) {vs ws : List Val}
+    → Refines vs ws
+    → Refines (evaluate ms number vs) (evaluate ms number ws)
 unfolding evaluate
 evaluate-monotone ms number = run-related Keeps (known false) (known false) same gates-keep ms .keeps number
 
@@ -29,11 +32,14 @@ pub record Agrees (first second : List Val) : Type 0 where
 
 pub refines-agrees : {vs ws : List Val} → Refines vs ws → Agrees vs ws
 refines-agrees Forall₂·nil = record { same-count = refl; where-known = λ i b e. e }
-refines-agrees (Forall₂·cons {a = v} {b = w} {l₁ = vs} {l₂ = ws} keeps rest) =
+refines-agrees (Forall₂·cons {l₁ = vs} {l₂ = ws} keeps rest) =
     let further = refines-agrees rest in
     record { same-count = ap suc (further .same-count); where-known = at keeps (further .where-known) }
   where
-    at : {v w : Val} → Keeps v w → ((i : ℕ) (b : Bool) → getElem? vs i ≡ some (known b) → getElem? ws i ≡ some (known b))
+    at :
+        {v w : Val}
+        → Keeps v w
+        → ((i : ℕ) (b : Bool) → getElem? vs i ≡ some (known b) → getElem? ws i ≡ some (known b))
         → (i : ℕ) (b : Bool) → getElem? (v ∷ vs) i ≡ some (known b) → getElem? (w ∷ ws) i ≡ some (known b)
     at any further zero b e = cc
     at same further zero b e = e
@@ -52,5 +58,8 @@ agrees-refines (v ∷ vs) (w ∷ ws) a =
     head un h = any
     head (known b) h = let e : w ≡ known b = cc (h b refl) in rw e same
 
-pub two-runs : (ms : List Module) (number : ℕ) (vs ws : List Val) → Agrees vs ws → Agrees (evaluate ms number vs) (evaluate ms number ws)
+pub two-runs :
+    (ms : List Module) (number : ℕ) (vs ws : List Val)
+    → Agrees vs ws
+    → Agrees (evaluate ms number vs) (evaluate ms number ws)
 two-runs ms number vs ws agrees = refines-agrees (evaluate-monotone ms number (agrees-refines vs ws agrees))

@@ -1,6 +1,6 @@
 -- Evaluation and HEVAL of document 000 (demand 2): for an accepted file, a module in it and known input values, the outputs are
--- HEVAL's. So an output that is known early is HEVAL's value for every filling of the unknown inputs. And HEVAL too depends only on
--- the modules from the named one on.
+-- HEVAL's. So an output that is known early is HEVAL's value for every filling of the unknown inputs. And HEVAL too depends only
+-- on the modules from the named one on.
 use Prim.Native.Nat.{ℕ, zero, suc}
 use mathlib.Core.Path.{_≡_}
 use mathlib.Core.Bool.{Bool, false}
@@ -43,7 +43,9 @@ module _ (ms : List Module) (number : ℕ) (m : Module) (accepted : fileVerdict 
       rw (number-of there) (le-ltb (m .number) 16 (keeps-rules (good-accepted ms accepted) there .1 .above))
 
   -- HEVAL of a module is its run on Booleans.
-  heval-of-module : (args : List ℕ) (alist : List Pair) → heval ms number args alist ≡ booleanRun ms number (collectEvalName args alist)
+  heval-of-module :
+      (args : List ℕ) (alist : List Pair)
+      → heval ms number args alist ≡ booleanRun ms number (collectEvalName args alist)
   heval-of-module args alist = rw (heval-is-run (good-accepted ms accepted) number .answers args alist, not-a-gate)
 
   -- Demand 2: on known input values, given as the values of any arguments in any association list, the outputs are HEVAL's.
@@ -62,14 +64,15 @@ module _ (ms : List Module) (number : ℕ) (m : Module) (accepted : fileVerdict 
       → getElem? (evaluate ms number vs) i ≡ some (known b)
       → getElem? (heval ms number args alist) i ≡ some b
   known-early vs bs args alist fills actuals i b e =
-      let still : getElem? (evaluate ms number (map known bs)) i ≡ some (known b)
-      = refines-agrees (evaluate-monotone ms number (fills-refines fills)) .where-known i b e in
+      let still = refines-agrees (evaluate-monotone ms number (fills-refines fills)) .where-known i b e in
       known-at (heval ms number args alist) i b (rw (evaluate-is-heval bs args alist actuals) at still)
 
   -- An association list that binds the module's inputs to as many values will do.
-  pub inputs-bound : (bs : List Bool) → length bs ≡ length (m .inputs) → collectEvalName (m .inputs) (pairlist (m .inputs) bs) ≡ bs
-  inputs-bound bs count =
-      collect-of-pairlist (m .inputs) bs (keeps-rules (good-accepted ms accepted) (stands number ms found) .1 .inputsDistinct) count
+  pub inputs-bound :
+      (bs : List Bool) → length bs ≡ length (m .inputs) → collectEvalName (m .inputs) (pairlist (m .inputs) bs) ≡ bs
+  inputs-bound bs =
+      collect-of-pairlist (m .inputs) bs
+      (keeps-rules (good-accepted ms accepted) (stands number ms found) .1 .inputsDistinct)
 
   pub evaluate-is-heval-on-inputs :
       (bs : List Bool)

@@ -25,7 +25,8 @@ unfolding evalName look
 evalName-is-look name [] = refl
 evalName-is-look name (b ∷ env) = rw (evalName-is-look name env)
 
-collectEvalName-is-lookAll : (names : List ℕ) (env : Env Bool) → collectEvalName names (map asPair env) ≡ lookAll false names env
+collectEvalName-is-lookAll :
+    (names : List ℕ) (env : Env Bool) → collectEvalName names (map asPair env) ≡ lookAll false names env
 unfolding collectEvalName lookAll
 collectEvalName-is-lookAll [] env = refl
 collectEvalName-is-lookAll (name ∷ names) env = rw (evalName-is-look name env, collectEvalName-is-lookAll names env)
@@ -38,10 +39,15 @@ pairlist-is-pairs (name ∷ names) (b ∷ bs) = rw (pairlist-is-pairs names bs)
 
 -- An evaluator of references does at a number what a run does with these later modules.
 pub record Answers (reference : Reference) (later : Meaning Bool) (number : ℕ) : Type 0 where
-  pub answers : (args : List ℕ) (alist : List Pair) → reference number args alist ≡ apply happly later number (collectEvalName args alist)
+  pub answers :
+      (args : List ℕ) (alist : List Pair)
+      → reference number args alist ≡ apply happly later number (collectEvalName args alist)
 
 module _ {reference : Reference} {later : Meaning Bool} where
-  hevalBody-is-walk : {os : List Occurrence} → Refer (Answers reference later) os → (env : Env Bool)
+  hevalBody-is-walk :
+      {os : List Occurrence}
+      → Refer (Answers reference later) os
+      → (env : Env Bool)
       → hevalBody reference os (map asPair env) ≡ map asPair (walk false happly later os env)
   unfolding hevalBody walk
   hevalBody-is-walk nothing env = refl
@@ -54,14 +60,23 @@ module _ {reference : Reference} {later : Meaning Bool} where
       )
       (hevalBody-is-walk rest _)
 
-  hevalBox-is-runModule : (m : Module) → Refer (Answers reference later) (m .occurrences) → (bs : List Bool)
+  hevalBox-is-runModule :
+      (m : Module)
+      → Refer (Answers reference later) (m .occurrences)
+      → (bs : List Bool)
       → hevalBox reference (box m) bs ≡ runModule false happly later m bs
   unfolding runModule
   hevalBox-is-runModule m same bs =
-      rw (pairlist-is-pairs (m .inputs) bs, hevalBody-is-walk same (pairs false (m .inputs) bs)) (collectEvalName-is-lookAll (m .outputs) _)
+      rw
+      (pairlist-is-pairs (m .inputs) bs, hevalBody-is-walk same (pairs false (m .inputs) bs))
+      (collectEvalName-is-lookAll (m .outputs) _)
 
--- The box of a number, its body evaluated in the list where it was found.
-hevalBox-is-run : {ms : List Module} → Accepted ms → ((number : ℕ) → Answers (heval ms) (booleanRun ms) number) → (number : ℕ) (bs : List Bool)
+-- The box of a number, its body evaluated in the very list where it was found.
+hevalBox-is-run :
+    {ms : List Module}
+    → Accepted ms
+    → ((number : ℕ) → Answers (heval ms) (booleanRun ms) number)
+    → (number : ℕ) (bs : List Bool)
     → hevalBox (heval ms) (assoc number ms) bs ≡ booleanRun ms number bs
 unfolding run
 hevalBox-is-run {ms} ok same number bs = go (assoc number ms) refl
@@ -77,9 +92,15 @@ pub heval-is-run : {ms : List Module} → Accepted ms → (number : ℕ) → Ans
 unfolding heval run assoc
 heval-is-run none number = record { answers = λ args alist. refl }
 heval-is-run (some {m} {later} ok rest) number =
-    record { answers = λ args alist. ap (cond (isGate number) _) (go (eqb number (m .number)) (heval-is-run rest) (collectEvalName args alist)) }
+    record {
+      answers = λ args alist.
+          ap (cond (isGate number) _) (go (eqb number (m .number)) (heval-is-run rest) (collectEvalName args alist));
+    }
   where
-    go : (b : Bool) → ((number : ℕ) → Answers (heval later) (booleanRun later) number) → (bs : List Bool)
+    go :
+        (b : Bool)
+        → ((number : ℕ) → Answers (heval later) (booleanRun later) number)
+        → (bs : List Bool)
         → hevalBox (heval later) (cond b (box m) (assoc number later)) bs
         ≡ cond b (runModule false happly (booleanRun later) m bs) (booleanRun later number bs)
     go true same bs = hevalBox-is-runModule m (refer-all same (m .occurrences)) bs

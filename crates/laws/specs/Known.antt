@@ -1,5 +1,5 @@
--- On known bits evaluation is the run of the same list on Booleans, each gate the Boolean function of its name. It asks nothing of
--- the list.
+-- On known bits evaluation is the run of the same list on Booleans, where each gate is the Boolean function of its name. Nothing is
+-- asked of the list.
 use Prim.Native.Nat.{ℕ}
 use mathlib.Core.Path.{_≡_, refl, ap, ap₂, _∙_}
 use mathlib.Core.Bool.{Bool, false}
@@ -31,8 +31,14 @@ known-of (Forall₂·cons e rest) = ap₂ {C = List Val} (λ v vs. v ∷ vs) e (
 gates-on-known : Respects Is gateOutputs happly
 unfolding happly
 gates-on-known =
-    record { keeps = λ number {vs} {ws} same. Forall₂·cons (ap (gateValue number) (known-of same) ∙ gate-on-known number ws) Forall₂·nil }
+    record {
+      keeps = λ number {vs} {ws = bs} are.
+          Forall₂·cons (ap (gateValue number) (known-of are) ∙ gate-on-known number bs) Forall₂·nil;
+    }
 
-pub evaluate-on-known : (ms : List Module) (number : ℕ) (bs : List Bool) → evaluate ms number (map known bs) ≡ map known (booleanRun ms number bs)
+pub evaluate-on-known :
+    (ms : List Module) (number : ℕ) (bs : List Bool)
+    → evaluate ms number (map known bs) ≡ map known (booleanRun ms number bs)
 unfolding evaluate
-evaluate-on-known ms number bs = known-of (run-related Is (known false) false refl gates-on-known ms .keeps number (are-known bs))
+evaluate-on-known ms number bs =
+    known-of (run-related Is (known false) false refl gates-on-known ms .keeps number (are-known bs))

@@ -20,26 +20,32 @@ unfolding lookAll
 length-of-lookAll none [] env = refl
 length-of-lookAll none (net ∷ nets) env = ap suc (length-of-lookAll none nets env)
 
-pub length-of-runModule : {A : Type 0} (none : A) (gateMeaning later : Meaning A) (m : Module) (vs : List A)
+pub length-of-runModule :
+    {A : Type 0} (none : A) (gateMeaning later : Meaning A) (m : Module) (vs : List A)
     → length (runModule none gateMeaning later m vs) ≡ length (m .outputs)
 unfolding runModule
 length-of-runModule none gateMeaning later m vs =
     length-of-lookAll none (m .outputs) (walk none gateMeaning later (m .occurrences) (pairs none (m .inputs) vs))
 
-pub length-of-run : {A : Type 0} (none : A) (gateMeaning : Meaning A) (ms : List Module) (number : ℕ) (vs : List A)
+pub length-of-run :
+    {A : Type 0} (none : A) (gateMeaning : Meaning A) (ms : List Module) (number : ℕ) (vs : List A)
     → length (run none gateMeaning ms number vs) ≡ outputCount (assoc number ms)
 unfolding run assoc
 length-of-run none gateMeaning [] number vs = refl
 length-of-run {A} none gateMeaning (m ∷ ms) number vs =
-    go (eqb number (m .number)) _ _ (length-of-runModule none gateMeaning (run none gateMeaning ms) m vs) (length-of-run none gateMeaning ms number vs)
+    go (eqb number (m .number)) _ _
+    (length-of-runModule none gateMeaning (run none gateMeaning ms) m vs)
+    (length-of-run none gateMeaning ms number vs)
   where
-    go : (b : Bool) (here there : List A)
+    go :
+        (b : Bool) (here there : List A)
         → length here ≡ length (m .outputs)
         → length there ≡ outputCount (assoc number ms)
         → length (cond b here there) ≡ outputCount (cond b (box m) (assoc number ms))
     go true here there h t = h
     go false here there h t = t
 
-pub length-of-evaluate : (ms : List Module) (number : ℕ) (vs : List Val) → length (evaluate ms number vs) ≡ outputCount (assoc number ms)
+pub length-of-evaluate :
+    (ms : List Module) (number : ℕ) (vs : List Val) → length (evaluate ms number vs) ≡ outputCount (assoc number ms)
 unfolding evaluate
 length-of-evaluate = length-of-run (known false) gateOutputs

@@ -11,12 +11,14 @@ use Rattle.meaning.specs.Boxlist.{box, F, assoc}
 use Rattle.meaning.specs.Limits.{expandedSize}
 use Rattle.meaning.specs.Values.{known}
 use Rattle.meaning.specs.Evaluation.{Meaning, run, gateOutputs, evaluate}
-use Rattle.meaning.specs.Figures.{gateWeight, gateCount, kindCount, tally, room, gateArrival, arrivals, delayBy, delay, inputLoads, largestLoad}
+use Rattle.meaning.specs.Figures.{gateWeight, gateCount, kindCount, tally, room, inputLoads, largestLoad}
+use Rattle.meaning.specs.Figures.{gateArrival, arrivals, delayBy, delay}
 use Rattle.meaning.specs.Flattening.{place, flatModule}
 
--- What a list of modules says of a number does not change by a module of another number in front.
+-- What a list of modules says of a number stays the same with a module of another number in front.
 pub record Searches {C : Type 0} (f : List Module → ℕ → C) : Type 0 where
-  pub passes : (m : Module) (ms : List Module) (number : ℕ) → eqb number (m .number) ≡ false → f (m ∷ ms) number ≡ f ms number
+  pub passes :
+      (m : Module) (ms : List Module) (number : ℕ) → eqb number (m .number) ≡ false → f (m ∷ ms) number ≡ f ms number
 
 -- A number that no module of a list has is another than the first one's, and none of the rest has it.
 pub record Unmet (number : ℕ) (m : Module) (ms : List Module) : Type 0 where
@@ -31,8 +33,11 @@ unmet number m ms = go (eqb number (m .number)) refl
     go true e h = absurd (let z : _≡_ {A = ℕ} 0 1 = cc in omega arith)
     go false e h = record { another = e; further = h }
 
--- Modules in front of which none has the number change nothing.
-pub past-front : {C : Type 0} {f : List Module → ℕ → C} → Searches f → (front ms : List Module) (number : ℕ)
+-- Modules in front, none of which has the number, change nothing.
+pub past-front :
+    {C : Type 0} {f : List Module → ℕ → C}
+    → Searches f
+    → (front ms : List Module) (number : ℕ)
     → assoc number front ≡ F
     → f (front ++ ms) number ≡ f ms number
 past-front search [] ms number h = refl
@@ -41,12 +46,18 @@ past-front search (m ∷ front) ms number h =
     search .passes m (front ++ ms) number (there .another) ∙ past-front search front ms number (there .further)
 
 -- A list of which no module has the number says what the empty list says.
-pub no-module : {C : Type 0} {f : List Module → ℕ → C} → Searches f → (ms : List Module) (number : ℕ) → assoc number ms ≡ F → f ms number ≡ f [] number
+pub no-module :
+    {C : Type 0} {f : List Module → ℕ → C}
+    → Searches f
+    → (ms : List Module) (number : ℕ)
+    → assoc number ms ≡ F
+    → f ms number ≡ f [] number
 no-module search [] number h = refl
 no-module search (m ∷ ms) number h =
     let there = unmet number m ms h in
     search .passes m ms number (there .another) ∙ no-module search ms number (there .further)
 
+-- All of these search in that way.
 pub assoc-searches : Searches (λ ms number. assoc number ms)
 unfolding assoc
 assoc-searches = record { passes = λ m ms number h. rw h }

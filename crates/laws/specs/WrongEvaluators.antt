@@ -1,5 +1,5 @@
--- Evaluators that the promise shuts out (document 01, 'Settled by the promises'). Of each there are an accepted file, a module in it
--- and as many values as it has inputs for which it gives something else than evaluation; the file is the adder of width 1. An
+-- Evaluators that the promise shuts out (document 01, 'Settled by the promises'). For each there are an accepted file, a module in
+-- it and as many values as it has inputs, on which it gives something else than evaluation; the file is the adder of width 1. An
 -- evaluator that refuses every unknown bit gives no values at all: what shuts it out is the promise of the call.
 use Prim.Native.Nat.{ℕ}
 use mathlib.Core.Path.{_≡_, refl, ap}
@@ -50,12 +50,18 @@ firstOccurrence m = record { number = m .number; inputs = m .inputs; outputs = m
 abbrev pub firstOnly : List Module → Meaning Val
 firstOnly ms = run un gateOutputs (map firstOccurrence ms)
 
--- A call of the half adder shows it: at this output the two give different codes.
+-- What an evaluator gives at an output of the half adder: 0, 1 or 2.
+abbrev codeAt : (List Module → Meaning Val) → (v w : Val) → (output : ℕ) → ℕ
+codeAt evaluator v w output = code (getD (evaluator (adder 1) 16 (v ∷ w ∷ [])) output un)
+
+-- A call of the half adder shows it.
 on-half-adder :
     (wrong : List Module → Meaning Val) (v w : Val) (output : ℕ)
-    → let vs = v ∷ w ∷ [] in eqb (code (getD (wrong (adder 1) 16 vs) output un)) (code (getD (evaluate (adder 1) 16 vs) output un)) ≡ false
+    → eqb (codeAt wrong v w output) (codeAt evaluate v w output) ≡ false
     → Differs wrong
-unfolding adder rippleAdder adderCells upFrom fileVerdict modulesVerdict moduleVerdict bodyVerdict occurrenceVerdict sizesVerdict assoc member disjoint duplicates subset arityOkp driven netCount bodySize expandedSize gate gates
+unfolding
+    adder rippleAdder adderCells upFrom fileVerdict modulesVerdict moduleVerdict bodyVerdict occurrenceVerdict sizesVerdict assoc
+    member disjoint duplicates subset arityOkp driven netCount bodySize expandedSize gate gates
 on-half-adder wrong v w output apart =
     record {
       file = adder 1;
