@@ -17,7 +17,7 @@ use Rattle.laws.specs.Standing.{stands}
 use Rattle.laws.specs.References.{Refer, nothing, also, refer-all, run-in-whole}
 
 -- HEVAL's association lists are environments of Booleans.
-abbrev pub asPair : Binding Bool → Pair
+abbrev asPair : Binding Bool → Pair
 asPair b = record { name = b .net; value = b .value }
 
 evalName-is-look : (name : ℕ) (env : Env Bool) → evalName name (map asPair env) ≡ look false name env

@@ -20,9 +20,9 @@ forall₂-append none rest = rest
 forall₂-append (more r rs) rest = more r (forall₂-append rs rest)
 
 -- Two bindings of one net, to related values.
-pub record Bound {A B : Type 0} (R : A → B → Type 0) (x : Binding A) (y : Binding B) : Type 0 where
-  pub same-net : x .net ≡ y .net
-  pub values : R (x .value) (y .value)
+record Bound {A B : Type 0} (R : A → B → Type 0) (x : Binding A) (y : Binding B) : Type 0 where
+  same-net : x .net ≡ y .net
+  values : R (x .value) (y .value)
 
 -- Two meanings that take related lists to related lists.
 pub record Respects {A B : Type 0} (R : A → B → Type 0) (f : Meaning A) (g : Meaning B) : Type 0 where
