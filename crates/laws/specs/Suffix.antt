@@ -1,9 +1,9 @@
 -- The meaning of a module depends only on the modules from it to the end of the list, and so do its figures and its flattening.
 -- Every one of them goes through the list until it meets the module's number: that is all that the one law here asks.
 use Prim.Native.Nat.{ℕ}
-use mathlib.Core.Path.{_≡_, refl, ap, fun-ext, _∙_}
+use mathlib.Core.Path.{_≡_, refl, fun-ext, _∙_}
 use mathlib.Core.Bool.{Bool, true, false, cond}
-use mathlib.Core.List.{List, [], _∷_, _++_, map}
+use mathlib.Core.List.{List, [], _∷_, _++_}
 use lib.Dec.{eqb}
 use native.Mathlib.Omega.{arith}
 use Rattle.meaning.specs.Syntax.{Module}
