@@ -10,6 +10,16 @@ pub mod WellFormed
 pub mod Finding
 pub mod Accepted
 pub mod Refusals
+pub mod Related
+pub mod Suffix
+pub mod OutputCount
+pub mod Standing
+pub mod References
+pub mod Known
 pub mod Evaluation
+pub mod HevalRun
+pub mod Pairlist
 pub mod Heval
+pub mod WrongEvaluators
+pub mod EvaluationRows
 pub mod Adder
