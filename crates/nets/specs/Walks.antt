@@ -4,10 +4,10 @@ use Prim.Native.Nat.{ℕ, suc, _+_, _<_, _≤_}
 use native.Mathlib.Numerals.{add-one}
 use mathlib.Core.Path.{_≡_, refl, ap}
 use mathlib.Core.Bool.{Bool, true, false, not, _&&_, _||_, cond, Bool·beq}
-use mathlib.Core.List.{List, [], _∷_}
+use mathlib.Core.List.{List, [], _∷_, _++_}
 use lib.Dec.{eqb}
-use lib.ListN.{length, getD, drop, drop-of-length-le}
-use lib.Seq.{drop-cons}
+use lib.ListN.{length, getD, take, drop, drop-of-length-le}
+use lib.Seq.{take-suc, drop-cons}
 use Rattle.meaning.specs.Boxlist.{member, disjoint, duplicates, subset}
 
 -- All nets of a list stand in another, or, where `known` is false, none does.
@@ -25,6 +25,9 @@ beq-false false = refl
 module _ (l : List ℕ) (i : ℕ) (h : i < length l) where
   pub from-here : drop i l ≡ getD l i 0 ∷ drop (i + 1) l
   from-here = rw (drop-cons l i 0 h, add-one i)
+
+  pub up-to-here : take (i + 1) l ≡ take i l ++ (getD l i 0 ∷ [])
+  up-to-here = rw (add-one i, take-suc l i 0 h)
 
   pub member-here : (x : ℕ) → member x (drop i l) ≡ (eqb x (getD l i 0) || member x (drop (i + 1) l))
   unfolding member
