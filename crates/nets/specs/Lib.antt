@@ -2,5 +2,6 @@
 pub mod Slots
 pub mod Members
 pub mod Walks
+pub mod Marks
 pub mod SlotLaws
 pub mod Tables

@@ -7,21 +7,30 @@ ghost use Prim.Native.Nat.{ℕ, _+_, _<_, _^_};
 ghost use lib.ListN.{length, take, drop};
 ghost use Rattle.meaning.specs.Boxlist.{duplicates, disjoint, subset};
 ghost use Rattle.nets.specs.Slots.{slotOf, Knows, Below};
+ghost use Rattle.nets.specs.Walks.{alike};
 ghost use Rattle.nets.specs.Tables.{Resolvable};
+
+// Whether the table knows each net of the list, or, where `known` is false, none of them.
+fn alike(list: &[u16], table: &[u32], base: u32, known: bool) -> bool
+    requires { ⌜ Below (length (now table)) (now list) ⌝ }
+    ensures { λ r. ⌜ ((nets : List ℕ) → Knows (now (table .entry)) base nets → r ≡ alike known (now (list .entry)) nets) ⌝ }
+{
+    let mut i = 0;
+    while i < list.len() {
+        if (base <= table[list[i] as usize]) != known {
+            return false;
+        }
+        i += 1;
+    }
+    true
+}
 
 // Whether the table knows some net of the list.
 pub fn any_known(list: &[u16], table: &[u32], base: u32) -> bool
     requires { ⌜ Below (length (now table)) (now list) ⌝ }
     ensures { λ r. ⌜ ((nets : List ℕ) → Knows (now (table .entry)) base nets → r ≡ not (disjoint (now (list .entry)) nets)) ⌝ }
 {
-    let mut i = 0;
-    while i < list.len() {
-        if base <= table[list[i] as usize] {
-            return true;
-        }
-        i += 1;
-    }
-    false
+    !alike(list, table, base, false)
 }
 
 // Whether the table knows every net of the list.
@@ -29,14 +38,7 @@ pub fn all_known(list: &[u16], table: &[u32], base: u32) -> bool
     requires { ⌜ Below (length (now table)) (now list) ⌝ }
     ensures { λ r. ⌜ ((nets : List ℕ) → Knows (now (table .entry)) base nets → r ≡ subset (now (list .entry)) nets) ⌝ }
 {
-    let mut i = 0;
-    while i < list.len() {
-        if table[list[i] as usize] < base {
-            return false;
-        }
-        i += 1;
-    }
-    true
+    alike(list, table, base, true)
 }
 
 // New nets take the slots from `first` on.
