@@ -65,6 +65,10 @@ exact-give front a e Good written good =
           };
     }
 
+pub exact-refused : {A : Type 0} {front : List ℕ} {number place : ℕ} {e : A → List ℕ} {Good : A → Type 0}
+    → ExactAfter front (λ p bytes. refused number place) e Good
+exact-refused = record { took = λ p bytes ok a q rest h. absurd (refused-not-got h) }
+
 pub exact-bind : {A B : Type 0} (front : List ℕ) (r : Reader A) (next : A → Reader B) {e : A → List ℕ} {f : B → List ℕ} {Good : A → Type 0} {Fine : B → Type 0}
     → Exact r e Good → ((a : A) → Good a → ExactAfter (front ++ e a) (next a) f Fine) → ExactAfter front (bind r next) f Fine
 exact-bind {A = A} front r next {e} {f} {Good} {Fine} h k = record { took = λ p bytes ok b q rest. go p bytes ok b q rest (r p bytes) refl }
@@ -81,6 +85,20 @@ exact-bind {A = A} front r next {e} {f} {Good} {Fine} h k = record { took = λ p
           good = u .good;
         }
     go p bytes ok b q rest (refused number place) first then = absurd (refused-not-got then)
+
+-- The last reader of a row gives the whole.
+pub exact-last : {A : Type 0} {front : List ℕ} {r : Reader A} {e f : A → List ℕ} {Good Fine : A → Type 0}
+    → Exact r e Good → ((a : A) → Good a → front ++ e a ≡ f a) → ((a : A) → Good a → Fine a) → ExactAfter front r f Fine
+exact-last {front = front} {e = e} h whole fine =
+    record {
+      took = λ p bytes ok a q rest got-a.
+          let t : Took [] e _ p bytes a q rest = h .took p bytes ok a q rest got-a in
+          record {
+            bytes-are = rw (t .bytes-are, ← append-assoc front (e a) rest, whole a (t .good));
+            place-is = rw (← whole a (t .good), length-append) (omega arith);
+            good = fine a (t .good);
+          };
+    }
 
 -- As many things as the count says, each of them good.
 pub record Counted {A : Type 0} (n : ℕ) (Good : A → Type 0) (xs : List A) : Type 0 where

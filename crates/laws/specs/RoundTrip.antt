@@ -12,7 +12,7 @@ use borrow.Author.Tests.{lt-ltb, le-ltb, le-leb, lt-leb, ne-eqb}
 use Rattle.meaning.specs.Syntax.{Occurrence, Module}
 use Rattle.meaning.specs.Layout.{each, numberBytes, encode}
 use Rattle.meaning.specs.Reading.{got, atEnd, holds, read, mostModules, mostNets, mostOccurrences, mostBytes, readNumber, secondGroup, readCount, readNets, readOccurrence, readModule, readModules}
-use Rattle.meaning.specs.Ceilings.{Small, mostNumber, NetsWithin, OccurrenceWithin, ModuleWithin, Within}
+use Rattle.meaning.specs.Ceilings.{Small, mostNumber, NetsWithin, OccurrenceWithin, ModuleWithin, ModulesWithin, Within}
 use Rattle.laws.specs.Lists.{all-map}
 use Rattle.laws.specs.Written.{bytes-of-low, bytes-of-high, netsBytes, occurrenceBytes, moduleBytes, bytes-of-nets, bytes-of-occurrence, bytes-of-module, bytes-of-file}
 use Rattle.laws.specs.Reading.{Undoes, undoes-give, undoes-bind, undoes-many}
@@ -77,7 +77,7 @@ module-undone m w =
     (undoes-bind _ _ (undoes-many (all-map occurrence-undone (w .occurrences)))
     (undoes-give m))))))
 
-modules-undone : (ms : List Module) → Within ms → Undoes readModules ms (encode ms)
+pub modules-undone : (ms : List Module) → ModulesWithin ms → Undoes readModules ms (encode ms)
 unfolding readModules
 modules-undone ms w =
     rw (bytes-of-file ms)
@@ -89,7 +89,7 @@ pub round-trip : (ms : List Module) → Within ms → read (encode ms) ≡ holds
 unfolding read
 round-trip ms w =
     rw (le-leb (length (encode ms)) mostBytes (w .bytes))
-    (rw append-nil at (ap atEnd (modules-undone ms w .reads 0 [])))
+    (rw append-nil at (ap atEnd (modules-undone ms (w .modules) .reads 0 [])))
 
 -- Two files within the ceilings that are written alike are the same.
 pub equal-files : (ms ns : List Module) → Within ms → Within ns → encode ms ≡ encode ns → ms ≡ ns

@@ -30,9 +30,12 @@ pub record ModuleWithin (m : Module) : Type 0 where
   pub count : length (m .occurrences) ≤ mostOccurrences
   pub occurrences : All OccurrenceWithin (m .occurrences)
 
-pub record Within (ms : List Module) : Type 0 where
+pub record ModulesWithin (ms : List Module) : Type 0 where
   pub count : length ms ≤ mostModules
   pub modules : All ModuleWithin ms
+
+pub record Within (ms : List Module) : Type 0 where
+  pub modules : ModulesWithin ms
   pub bytes : length (encode ms) ≤ mostBytes
 
 -- A list of numbers that a file on a disk can hold.
