@@ -1,19 +1,20 @@
 -- Whatever is read from bytes is what would be written for it: a file that reads has one encoding, and is within the ceilings.
+-- That the bytes are bytes is needed: 300 and 1 would read as 300, whose bytes are 172 and 2.
 use Prim.Native.Nat.{ℕ, suc, _+_, _*_, _-_, _/_, _%_, _≤_, _<_}
 use native.Mathlib.Omega.{arith}
-use mathlib.Core.Path.{_≡_, refl, sym, subst, _∙_}
+use mathlib.Core.Path.{_≡_, refl, sym, _∙_}
 use mathlib.Core.Bool.{Bool, true, false, cond, _||_}
 use mathlib.Core.List.{List, [], _∷_, _++_, append-nil, append-assoc}
 use lib.Dec.{ltb, leb, eqb}
 use lib.ListN.{length}
 use borrow.Author.Tests.{ltb-true, ltb-false, leb-true, leb-false, eqb-false}
-use Rattle.meaning.specs.Lists.{All, none, more}
-use Rattle.meaning.specs.Syntax.{Occurrence, Module}
-use Rattle.meaning.specs.Layout.{each, numberBytes, encode}
-use Rattle.meaning.specs.Reading.{Step, got, refused, atEnd, holds, fails, read, mostModules, mostNets, mostOccurrences, mostBytes, onward, readNumber, readMany, secondGroup, readCount, readNets, readOccurrence, readModule, readModules}
+use Rattle.meaning.specs.Lists.{more}
+use Rattle.meaning.specs.Syntax.{Module}
+use Rattle.meaning.specs.Layout.{numberBytes, encode}
+use Rattle.meaning.specs.Reading.{Step, got, refused, atEnd, holds, fails, read, mostModules, mostNets, mostOccurrences, mostBytes, readNumber, readMany, secondGroup, readCount, readNets, readOccurrence, readModule, readModules}
 use Rattle.meaning.specs.Ceilings.{Bytes, Small, NetsWithin, OccurrenceWithin, ModuleWithin, ModulesWithin, Within}
 use Rattle.laws.specs.Written.{bytes-of-low, bytes-of-high, netsBytes, occurrenceBytes, moduleBytes, bytes-of-nets, bytes-of-occurrence, bytes-of-module, bytes-of-file}
-use Rattle.laws.specs.Reading.{Took, Exact, ExactAfter, Counted, exact-give, exact-bind, exact-many, exact-last, exact-refused, refused-not-got}
+use Rattle.laws.specs.Reading.{Took, Exact, ExactAfter, exact-give, exact-bind, exact-many, exact-last, exact-refused, refused-not-got}
 
 -- A number is taken off the front of the bytes by taking its own bytes off.
 took-number : (p n : ℕ) (w rest : List ℕ) (q : ℕ) → numberBytes n ≡ w → q ≡ p + length w → Small n
@@ -47,6 +48,7 @@ took-two low p (high ∷ bytes) small n q rest h = go (eqb high 0) refl (leb 128
         (omega arith)
         (omega arith))
 
+-- The first byte says whether a second follows.
 took-first : (p b : ℕ) (bytes : List ℕ) → b < 256 → (n q : ℕ) (rest : List ℕ) (low : Bool) → ltb b 128 ≡ low
     → cond low (got b (suc p) bytes) (secondGroup (b - 128) p bytes) ≡ got n q rest
     → Took [] numberBytes Small p (b ∷ bytes) n q rest
@@ -73,7 +75,12 @@ number-exact = record { took = go }
 pub count-exact : (ceiling : ℕ) → Exact (readCount ceiling) numberBytes (λ n. n ≤ ceiling)
 unfolding readCount
 count-exact ceiling =
-    record { took = λ p. exact-bind [] readNumber (λ n q rest. cond (leb n ceiling) (got n q rest) (refused 4 p)) number-exact (λ n small. go p n (leb n ceiling) refl) .took p }
+    record {
+      took = λ p.
+          exact-bind [] readNumber (λ n q rest. cond (leb n ceiling) (got n q rest) (refused 4 p)) number-exact
+          (λ n small. go p n (leb n ceiling) refl)
+          .took p;
+    }
   where
     go : (p n : ℕ) (b : Bool) → leb n ceiling ≡ b
         → ExactAfter (numberBytes n) (λ q rest. cond b (got n q rest) (refused 4 p)) numberBytes (λ n. n ≤ ceiling)
@@ -110,9 +117,6 @@ module-exact =
     (simp (bytes-of-module, append-assoc, counted .count))
     (record { number = h; inputs = i; outputs = o; count = rw (counted .count) few; occurrences = counted .entries }))))))
 
-fails-not-holds : {number place : ℕ} {ms : List Module} → fails number place ≡ holds ms → ⊥
-fails-not-holds h = let z : _≡_ {A = ℕ} 0 1 = cc in omega arith
-
 pub modules-exact : Exact readModules encode ModulesWithin
 unfolding readModules
 modules-exact =
@@ -126,12 +130,16 @@ pub record Holds (bytes : List ℕ) (ms : List Module) : Type 0 where
   pub encoded : encode ms ≡ bytes
   pub within : Within ms
 
+fails-not-holds : {number place : ℕ} {ms : List Module} → fails number place ≡ holds ms → ⊥
+fails-not-holds h = let z : _≡_ {A = ℕ} 0 1 = cc in omega arith
+
 -- Bytes that read are the encoding of what was read, which is within the ceilings.
 pub exactness : (bytes : List ℕ) → Bytes bytes → (ms : List Module) → read bytes ≡ holds ms → Holds bytes ms
 unfolding read
 exactness bytes ok ms = short (leb (length bytes) mostBytes) refl
   where
-    at-end : length bytes ≤ mostBytes → (s : Step (List Module)) → readModules 0 bytes ≡ s → atEnd s ≡ holds ms → Holds bytes ms
+    at-end : length bytes ≤ mostBytes → (s : Step (List Module)) → readModules 0 bytes ≡ s
+        → atEnd s ≡ holds ms → Holds bytes ms
     at-end few (got ns q []) e h =
         let same : ns ≡ ms = cc in
         let t : Took [] encode ModulesWithin 0 bytes ms q [] = modules-exact .took 0 bytes ok ms q [] (rw (← same) e) in
@@ -140,10 +148,12 @@ exactness bytes ok ms = short (leb (length bytes) mostBytes) refl
     at-end few (got ns q (b ∷ rest)) e h = absurd (fails-not-holds h)
     at-end few (refused number place) e h = absurd (fails-not-holds h)
 
-    short : (b : Bool) → leb (length bytes) mostBytes ≡ b → cond b (atEnd (readModules 0 bytes)) (fails 1 0) ≡ holds ms → Holds bytes ms
+    short : (b : Bool) → leb (length bytes) mostBytes ≡ b
+        → cond b (atEnd (readModules 0 bytes)) (fails 1 0) ≡ holds ms → Holds bytes ms
     short true e h = at-end (leb-true (length bytes) mostBytes e) (readModules 0 bytes) refl h
     short false e h = absurd (fails-not-holds h)
 
 -- A file has one encoding: what reads to the same file is the same bytes.
-pub equal-bytes : (xs ys : List ℕ) → Bytes xs → Bytes ys → (ms : List Module) → read xs ≡ holds ms → read ys ≡ holds ms → xs ≡ ys
-equal-bytes xs ys okx oky ms hx hy = sym (exactness xs okx ms hx .encoded) ∙ exactness ys oky ms hy .encoded
+pub equal-bytes : (xs ys : List ℕ) → Bytes xs → Bytes ys → (ms : List Module)
+    → read xs ≡ holds ms → read ys ≡ holds ms → xs ≡ ys
+equal-bytes xs ys xs-ok ys-ok ms h k = sym (exactness xs xs-ok ms h .encoded) ∙ exactness ys ys-ok ms k .encoded

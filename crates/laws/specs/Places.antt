@@ -1,13 +1,13 @@
 -- Where reading ends: a refusal of reading has a number of 1 to 5 and a place within 0 .. the file's length.
 use Prim.Native.Nat.{ℕ, zero, suc, _+_, _*_, _-_, _≤_}
 use native.Mathlib.Omega.{arith}
-use mathlib.Core.Path.{_≡_, refl}
+use mathlib.Core.Path.{_≡_}
 use mathlib.Core.Bool.{Bool, true, false, cond, _||_}
 use mathlib.Core.List.{List, [], _∷_}
-use lib.Dec.{lit≤, leb, ltb, eqb}
+use lib.Dec.{leb, ltb, eqb}
 use lib.ListN.{length}
 use Rattle.meaning.specs.Syntax.{Module}
-use Rattle.meaning.specs.Reading.{Step, got, refused, Reader, onward, bind, give, atEnd, File, holds, fails, read, mostModules, mostNets, mostOccurrences, mostBytes, readNumber, readMany, secondGroup, readCount, readNets, readOccurrence, readModule, readModules}
+use Rattle.meaning.specs.Reading.{Step, got, refused, Reader, onward, bind, give, atEnd, holds, fails, read, mostModules, mostNets, mostOccurrences, mostBytes, readNumber, readMany, secondGroup, readCount, readNets, readOccurrence, readModule, readModules}
 
 -- What a refusal of reading is, in a file of `end` bytes.
 pub record InFile (end number place : ℕ) : Type 0 where
@@ -27,7 +27,8 @@ pub steady-give : {A : Type 0} {a : A} → Steady (give a)
 steady-give = record { stays = λ end p bytes h. on h }
 
 stays-onward : {A B : Type 0} {end : ℕ} {s : Step A} {next : A → Reader B}
-    → Stays end s → ((a : A) (p : ℕ) (rest : List ℕ) → p + length rest ≡ end → Stays end (next a p rest)) → Stays end (onward next s)
+    → Stays end s → ((a : A) (p : ℕ) (rest : List ℕ) → p + length rest ≡ end → Stays end (next a p rest))
+    → Stays end (onward next s)
 stays-onward (on {a = a} {p = p} {rest = rest} h) k = k a p rest h
 stays-onward (off number place h) k = off number place h
 
@@ -65,7 +66,11 @@ number-steady = record { stays = go }
 pub count-steady : (ceiling : ℕ) → Steady (readCount ceiling)
 unfolding readCount
 count-steady ceiling =
-    record { stays = λ end p bytes h. stays-onward (number-steady .stays end p bytes h) (λ n q rest k. go end p (omega arith) n q rest k (leb n ceiling)) }
+    record {
+      stays = λ end p bytes h.
+          stays-onward (number-steady .stays end p bytes h)
+          (λ n q rest k. go end p (omega arith) n q rest k (leb n ceiling));
+    }
   where
     go : (end p : ℕ) → p ≤ end → (n q : ℕ) (rest : List ℕ) → q + length rest ≡ end → (b : Bool)
         → Stays end (cond b (got n q rest) (refused 4 p))
@@ -108,15 +113,18 @@ same-refusal {n = n} {p = p} {number = number} {place = place} h e =
     omega arith
 
 -- Each refusal of reading is one of 1 to 5, and its place lies in the file or at its end.
-pub refusal-in-file : (bytes : List ℕ) (number place : ℕ) → read bytes ≡ fails number place → InFile (length bytes) number place
+pub refusal-in-file : (bytes : List ℕ) (number place : ℕ)
+    → read bytes ≡ fails number place → InFile (length bytes) number place
 unfolding read
 refusal-in-file bytes number place = short (leb (length bytes) mostBytes)
   where
-    at-end : {s : Step (List Module)} → Stays (length bytes) s → atEnd s ≡ fails number place → InFile (length bytes) number place
+    at-end : {s : Step (List Module)} → Stays (length bytes) s
+        → atEnd s ≡ fails number place → InFile (length bytes) number place
     at-end (on {rest = []} k) e = absurd (holds-not-fails e)
     at-end (on {p = p} {rest = b ∷ rest} k) e = same-refusal {n = 5} {p = p} (omega arith) e
     at-end (off n p h) e = same-refusal h e
 
-    short : (b : Bool) → cond b (atEnd (readModules 0 bytes)) (fails 1 0) ≡ fails number place → InFile (length bytes) number place
+    short : (b : Bool)
+        → cond b (atEnd (readModules 0 bytes)) (fails 1 0) ≡ fails number place → InFile (length bytes) number place
     short true e = at-end (modules-steady .stays (length bytes) 0 bytes (omega arith)) e
     short false e = same-refusal {n = 1} {p = 0} (omega arith) e

@@ -34,12 +34,14 @@ undoes-many {r = r} {e = e} (more {x = x} {xs = xs} h hs) =
     (rw (← append-nil (each e xs)) (undoes-bind _ _ (undoes-many hs) (undoes-give (x ∷ xs))))
 
 -- A refusal is no thing.
-pub refused-not-got : {A : Type 0} {number place : ℕ} {a : A} {q : ℕ} {rest : List ℕ} → refused number place ≡ got a q rest → ⊥
+pub refused-not-got : {A : Type 0} {number place : ℕ} {a : A} {q : ℕ} {rest : List ℕ}
+    → refused number place ≡ got a q rest → ⊥
 refused-not-got h = let z : _≡_ {A = ℕ} 0 1 = cc in omega arith
 
 -- What reading `a` tells: its bytes were taken off the front, the place moved by their length, and `a` is good. `front` is what was
 -- taken before, for the same thing.
-pub record Took {A : Type 0} (front : List ℕ) (e : A → List ℕ) (Good : A → Type 0) (p : ℕ) (bytes : List ℕ) (a : A) (q : ℕ) (rest : List ℕ) : Type 0 where
+pub record Took {A : Type 0} (front : List ℕ) (e : A → List ℕ) (Good : A → Type 0)
+    (p : ℕ) (bytes : List ℕ) (a : A) (q : ℕ) (rest : List ℕ) : Type 0 where
   pub bytes-are : front ++ bytes ≡ e a ++ rest
   pub place-is : length front + q ≡ p + length (e a)
   pub good : Good a
@@ -69,26 +71,30 @@ pub exact-refused : {A : Type 0} {front : List ℕ} {number place : ℕ} {e : A 
     → ExactAfter front (λ p bytes. refused number place) e Good
 exact-refused = record { took = λ p bytes ok a q rest h. absurd (refused-not-got h) }
 
-pub exact-bind : {A B : Type 0} (front : List ℕ) (r : Reader A) (next : A → Reader B) {e : A → List ℕ} {f : B → List ℕ} {Good : A → Type 0} {Fine : B → Type 0}
-    → Exact r e Good → ((a : A) → Good a → ExactAfter (front ++ e a) (next a) f Fine) → ExactAfter front (bind r next) f Fine
-exact-bind {A = A} front r next {e} {f} {Good} {Fine} h k = record { took = λ p bytes ok b q rest. go p bytes ok b q rest (r p bytes) refl }
+pub exact-bind : {A B : Type 0} (front : List ℕ) (r : Reader A) (next : A → Reader B)
+    {e : A → List ℕ} {f : B → List ℕ} {Good : A → Type 0} {Fine : B → Type 0}
+    → Exact r e Good → ((a : A) → Good a → ExactAfter (front ++ e a) (next a) f Fine)
+    → ExactAfter front (bind r next) f Fine
+exact-bind {A = A} {B} front r next {e} {f} {Good} {Fine} h k =
+    record { took = λ p bytes ok b q rest. go p bytes ok b q rest (r p bytes) refl }
   where
-    go : (p : ℕ) (bytes : List ℕ) → Bytes bytes → (b : _) (q : ℕ) (rest : List ℕ) (s : Step A) → r p bytes ≡ s
+    go : (p : ℕ) (bytes : List ℕ) → Bytes bytes → (b : B) (q : ℕ) (rest : List ℕ) (s : Step A) → r p bytes ≡ s
         → onward next s ≡ got b q rest → Took front f Fine p bytes b q rest
-    go p bytes ok b q rest (got a q₁ rest₁) first then =
+    go p bytes ok b q rest (got a q₁ rest₁) first second =
         let t : Took [] e Good p bytes a q₁ rest₁ = h .took p bytes ok a q₁ rest₁ first in
-        let u : Took (front ++ e a) f Fine q₁ rest₁ b q rest =
-        k a (t .good) .took q₁ rest₁ (all-behind (e a) (rw (t .bytes-are) at ok)) b q rest then in
+        let ok₁ : Bytes rest₁ = all-behind (e a) (rw (t .bytes-are) at ok) in
+        let u : Took (front ++ e a) f Fine q₁ rest₁ b q rest = k a (t .good) .took q₁ rest₁ ok₁ b q rest second in
         record {
           bytes-are = rw (t .bytes-are, ← append-assoc front (e a) rest₁) (u .bytes-are);
           place-is = omega (arith, length-append front (e a));
           good = u .good;
         }
-    go p bytes ok b q rest (refused number place) first then = absurd (refused-not-got then)
+    go p bytes ok b q rest (refused number place) first second = absurd (refused-not-got second)
 
 -- The last reader of a row gives the whole.
 pub exact-last : {A : Type 0} {front : List ℕ} {r : Reader A} {e f : A → List ℕ} {Good Fine : A → Type 0}
-    → Exact r e Good → ((a : A) → Good a → front ++ e a ≡ f a) → ((a : A) → Good a → Fine a) → ExactAfter front r f Fine
+    → Exact r e Good → ((a : A) → Good a → front ++ e a ≡ f a) → ((a : A) → Good a → Fine a)
+    → ExactAfter front r f Fine
 exact-last {front = front} {e = e} h whole fine =
     record {
       took = λ p bytes ok a q rest got-a.
@@ -108,7 +114,8 @@ pub record Counted {A : Type 0} (n : ℕ) (Good : A → Type 0) (xs : List A) : 
 pub exact-many : {A : Type 0} {r : Reader A} {e : A → List ℕ} {Good : A → Type 0}
     → Exact r e Good → (n : ℕ) → Exact (readMany r n) (each e) (Counted n Good)
 unfolding readMany each
-exact-many {e = e} {Good} h zero = exact-give [] [] (each e) (Counted zero Good) refl (record { count = refl; entries = none })
+exact-many {e = e} {Good} h zero =
+    exact-give [] [] (each e) (Counted zero Good) refl (record { count = refl; entries = none })
 exact-many {r = r} {e} {Good} h (suc n) =
     exact-bind [] r _ h (λ x fine.
     exact-bind (e x) (readMany r n) _ (exact-many h n) (λ xs counted.

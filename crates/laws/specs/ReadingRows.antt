@@ -1,8 +1,7 @@
 -- The rows of document 01 that concern reading, as one statement.
-use Prim.Native.Nat.{ℕ}
 use mathlib.Core.Path.{_≡_, refl}
-use mathlib.Core.List.{List, [], _∷_, map}
-use Rattle.meaning.specs.Reading.{File, holds, fails, read, readModules, readCount, readMany, readModule, readNumber, secondGroup}
+use mathlib.Core.List.{[], _∷_, map}
+use Rattle.meaning.specs.Reading.{holds, fails, read, readModules, readCount, readMany, readNumber, secondGroup}
 
 -- No bytes gives 2 at 0; byte 00 is accepted; 80 00 gives 3 at 0; 80 gives 2 at 1; 00 00 gives 5 at 1; 81 01 gives 4 at 0.
 pub reading-rows :
