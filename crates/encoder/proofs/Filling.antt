@@ -21,7 +21,7 @@ fill-none before = record { size = refl; holds = refl }
 
 pub fill-more : {xs ys before middle after : List ℕ} {at next : ℕ}
     → Filled xs before middle at → Put ys middle at after next → Filled (xs ++ ys) before after next
-fill-more {xs = xs} {ys = ys} {before = before} f p =
+fill-more f p =
     record {
       size = rw length-append (omega arith);
       holds = rw (p .holds, f .holds, p .place, f .size, take-append-seam, drop-append-add, drop-drop, append-assoc);
