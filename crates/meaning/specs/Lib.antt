@@ -17,3 +17,4 @@ pub mod Heval
 pub mod Adder
 pub mod Figures
 pub mod Flattening
+pub mod Calls
