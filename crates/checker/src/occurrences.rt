@@ -1,5 +1,5 @@
 // Rules 11 to 14 for one occurrence, and its numbers in the image.
-use references::Reference;
+use crate::references::Reference;
 ghost use Prim.Native.Nat.{ℕ, _+_};
 ghost use Rattle.checker.specs.Scene.{Judgeable, Writable, Searchable};
 ghost use Rattle.checker.specs.Occurrences.{NetsJudged, Judged, Written};
@@ -53,7 +53,7 @@ pub fn judge_occurrence(
     if rule != 0 {
         return Reference::Broken(rule);
     }
-    references::judge_reference(numbers[r], taken, driven, k, numbers, starts, first)
+    crate::references::judge_reference(numbers[r], taken, driven, k, numbers, starts, first)
 }
 
 // Sets a fine occurrence down: the nets that it drives take the next slots, and its numbers in the image are those of the file with
