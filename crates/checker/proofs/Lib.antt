@@ -1,3 +1,4 @@
 -- Facts that the check's proofs cite.
 pub mod Numbers
 pub mod Later
+pub mod Targets

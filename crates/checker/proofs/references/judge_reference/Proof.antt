@@ -16,11 +16,15 @@ enum-known-arity c = search needs
 
 -- src/references.rt:66:17
 returns : tie.Need-returns
-returns c = ?
+returns c ms takes drives filed numbered unrepeated taken driven =
+    let a : Unit {0} = c .before .known-told .given .1 in
+    ?
 
 -- src/references.rt:69:17
 returns-2 : tie.Need-returns-2
-returns-2 c = ?
+returns-2 c ms takes drives filed numbered unrepeated taken driven =
+    let a : Unit {0} = c .before .before .before .arity .given .1 in
+    ?
 
 -- src/references.rt:73:25
 enum-told : tie.Need-enum-told
@@ -28,11 +32,15 @@ enum-told c = search needs
 
 -- src/references.rt:73:25
 judge-module-requires : tie.Need-judge-module-requires
-judge-module-requires c κs = ?
+judge-module-requires c κs =
+    let a : Unit = c .enum-told .given in
+    ?
 
 -- src/references.rt:51:1
 returns-3 : tie.Need-returns-3
-returns-3 c = ?
+returns-3 c ms takes drives filed numbered unrepeated taken driven =
+    let a : Unit {0} = c .before .before .before .arity .given .0 in
+    ?
 
 -- src/references.rt:51:1
 returns-4 : tie.Need-returns-4
