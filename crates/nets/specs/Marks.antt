@@ -42,6 +42,7 @@ marked-one {marks} {stamp} {nets} x h m =
     bounded : (y : ℕ) (b : Bool) → eqb y x ≡ b → getD (set marks x stamp) y 0 < stamp + 1
     bounded y true e = rw (eqb-true y x e, getD-set-same marks x stamp 0 h) (omega arith)
     bounded y false e = rw (getD-set-other marks x y stamp 0 (eqb-false y x e)) (m .bounded .below y)
+
     met :
         (y : ℕ) (b : Bool) → eqb y x ≡ b → (member y nets || (b || false)) ≡ eqb (getD (set marks x stamp) y 0) stamp
     met y true e =

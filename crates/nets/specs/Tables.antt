@@ -92,7 +92,7 @@ slots-read k [] s = refl
 slots-read {table} {base} {nets} k (x ∷ l) s =
     ap₂ _∷_
     (ap (λ (n : ℕ). n - base) (k .inside x (and-left (member x nets) (subset l nets) s))
-      ∙ add-sub-cancel-left base (slotOf x nets))
+    ∙ add-sub-cancel-left base (slotOf x nets))
     (slots-read k l (and-right (member x nets) (subset l nets) s))
 
 -- The nets of a list can be written as slots into an image from a place on: the table knows each of them, every slot fits a number of

@@ -1,50 +1,61 @@
+-- A gate has its own counts; any other number goes to the modules.
 use borrow.Author.Needs.{needs}
+use borrow.Author.Tests.{eq-eqb, ne-eqb}
+use Prim.Native.Nat.{ℕ}
+use mathlib.Core.Path.{_≡_, sym, ap, ap₂, _∙_}
+use mathlib.Core.Bool.{Bool, true, false, _&&_, and-false}
+use mathlib.Core.List.{List}
+use lib.Dec.{eqb}
+use lib.ListN.{length}
+use Rattle.meaning.specs.Gates.{isGate, gate}
+use Rattle.checker.proofs.NumberKinds.{gate-kind, module-kind}
+use Rattle.checker.proofs.Targets.{to-gate}
 use Rattle.checker.proofs.references.judge_reference.Statement.{statement}
 use Rattle.checker.proofs.references.judge_reference.Tie as tie
-use Rattle.checker.proofs.references.judge_reference.Reads as reads
-use Rattle.checker.proofs.references.judge_reference.Lts as lts
-use Rattle.checker.proofs.references.judge_module.Reads as judge-module-reads
-use Rattle.gates.proofs.kind_of.Reads as kind-of-reads
 
--- src/references.rt:63:11
 kind-of-requires : tie.Need-kind-of-requires
 kind-of-requires c κs = search needs
 
--- src/references.rt:64:31
 enum-known-arity : tie.Need-enum-known-arity
 enum-known-arity c = search needs
 
--- src/references.rt:66:17
 returns : tie.Need-returns
 returns c ms takes drives filed numbered unrepeated taken driven =
-    let a : Unit {0} = c .before .known-told .given .1 in
-    ?
+    let a = c .before .before .before .before .before .before .before .before .args in
+    let v = c .before .before .arity .given in
+    let g = gate-kind (a .number) (v .0 .0) (v .0 .1 .0) (sym (c .before .before .before .before .kind-of .ensures) ∙ v .1) in
+    sym (to-gate ms (a .k) (a .number) takes drives (g .0) false
+    (ap (λ (b : Bool). b && eqb 1 (length drives)) (ne-eqb (gate (a .number) .arity) (length takes) (λ e. c .if1 .taken (taken ∙ sym e ∙ g .1)))))
 
--- src/references.rt:69:17
 returns-2 : tie.Need-returns-2
 returns-2 c ms takes drives filed numbered unrepeated taken driven =
-    let a : Unit {0} = c .before .before .before .arity .given .1 in
-    ?
+    let a = c .before .before .before .before .before .before .before .before .before .args in
+    let v = c .before .before .before .arity .given in
+    let g = gate-kind (a .number) (v .0 .0) (v .0 .1 .0) (sym (c .before .before .before .before .before .kind-of .ensures) ∙ v .1) in
+    sym (to-gate ms (a .k) (a .number) takes drives (g .0) false
+    (ap (λ (b : Bool). eqb (gate (a .number) .arity) (length takes) && b) (ne-eqb 1 (length drives) (λ e. c .if2 .taken (driven ∙ sym e)))
+    ∙ and-false (eqb (gate (a .number) .arity) (length takes))))
 
--- src/references.rt:73:25
 enum-told : tie.Need-enum-told
 enum-told c = search needs
 
--- src/references.rt:73:25
 judge-module-requires : tie.Need-judge-module-requires
 judge-module-requires c κs =
-    let a : Unit = c .enum-told .given in
-    ?
+    let s = c .before .before .before .before .before .before in
+    (s .pre, module-kind (s .args .number) (sym (c .before .before .kind-of .ensures) ∙ c .enum-told .given .1))
 
--- src/references.rt:51:1
 returns-3 : tie.Need-returns-3
 returns-3 c ms takes drives filed numbered unrepeated taken driven =
-    let a : Unit {0} = c .before .before .before .arity .given .0 in
-    ?
+    let a = c .before .before .before .before .before .before .before .before .before .args in
+    let v = c .before .before .before .arity .given in
+    let g = gate-kind (a .number) (v .0 .0) (v .0 .1 .0) (sym (c .before .before .before .before .before .kind-of .ensures) ∙ v .1) in
+    sym (to-gate ms (a .k) (a .number) takes drives (g .0) true
+    (ap₂ _&&_
+    (eq-eqb (gate (a .number) .arity) (length takes) (g .1 ∙ sym (c .before .if1 .left) ∙ taken))
+    (eq-eqb 1 (length drives) (sym (c .if2 .left) ∙ driven))))
 
--- src/references.rt:51:1
 returns-4 : tie.Need-returns-4
-returns-4 c = search needs
+returns-4 c = c .judge-module .ensures
 
 pub judge-reference-spec : {M : Type 1} → statement M
 judge-reference-spec =

@@ -49,11 +49,12 @@ passed {list} {marks₀} {marks} {stamp} {i} p here known e =
       size = length-set marks (getD list i 0) stamp ∙ p .size;
       marked = rw (up-to-here list i here) (marked-one (getD list i 0) known (p .marked));
       single =
-          rw
-          (up-to-here list i here,
+          rw (
+            up-to-here list i here,
             duplicates-snoc (take i list) (getD list i 0),
             p .marked .met (getD list i 0),
-            ne-eqb (getD marks (getD list i 0) 0) stamp e)
+            ne-eqb (getD marks (getD list i 0) 0) stamp e,
+          )
           (p .single);
     }
 
@@ -95,12 +96,13 @@ same-length c = c .before .before .before .before .loop .inv .size
 -- src/repeats.rt:40:13
 returns : tie.Need-returns Inv-loop μ-loop
 returns c =
-    let turn = c .before .before .before in
-    (met (turn .before .before .args .list .now) (turn .before .loop .marks) (turn .before .before .args .stamp) (turn .before .loop .i)
-      (turn .loop-test .taken)
-      (turn .before .loop .inv .marked)
-      (c .if1 .taken),
-      turn .before .loop .inv .marked .bounded)
+    let turn = c .before .before .before in (
+      met (turn .before .before .args .list .now) (turn .before .loop .marks) (turn .before .before .args .stamp) (turn .before .loop .i)
+          (turn .loop-test .taken)
+          (turn .before .loop .inv .marked)
+          (c .if1 .taken),
+      turn .before .loop .inv .marked .bounded,
+    )
 
 -- src/repeats.rt:42:9
 mul-marks : tie.Need-mul-marks Inv-loop μ-loop
@@ -133,10 +135,11 @@ same-length-2 c = c .before .loop .inv .size
 
 -- src/repeats.rt:30:1
 returns-2 : tie.Need-returns-2 Inv-loop μ-loop
-returns-2 c =
-    (sym (c .before .loop .inv .single)
+returns-2 c = (
+  sym (c .before .loop .inv .single)
       ∙ ap duplicates (take-all (c .before .loop .i) (c .before .before .args .list .now) (c .loop-test .left)),
-      c .before .loop .inv .marked .bounded)
+  c .before .loop .inv .marked .bounded,
+)
 
 pub repeats-marked-spec : {M : Type 1} → statement M
 repeats-marked-spec =

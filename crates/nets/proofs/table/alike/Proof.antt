@@ -61,7 +61,7 @@ returns c nets k =
     let args = turn .before .before .args in
     sym
     (turn .before .loop .inv .left nets k
-      ∙ tested (args .list .now) (turn .before .loop .i) (args .known) false (turn .loop-test .taken) k (not-true _ (c .if1 .taken)))
+    ∙ tested (args .list .now) (turn .before .loop .i) (args .known) false (turn .loop-test .taken) k (not-true _ (c .if1 .taken)))
 
 add-i : tie.Need-add-i Inv-loop μ-loop
 add-i c = omega arith
@@ -86,7 +86,7 @@ returns-2 c nets k =
     let args = c .before .before .args in
     sym
     (c .before .loop .inv .left nets k
-      ∙ alike-end (args .list .now) (c .before .loop .i) (c .loop-test .left) nets (args .known))
+    ∙ alike-end (args .list .now) (c .before .loop .i) (c .loop-test .left) nets (args .known))
 
 pub alike-spec : {M : Type 1} → statement M
 alike-spec =

@@ -41,9 +41,9 @@ passed {list} {table₀} {table} {base} {first} {i} p here inTable =
         → Knows (set table (getD list i 0) (base + first + i)) base (nets ++ take (i + 1) list)
     one nets e d j k =
         let next : base + length (nets ++ take i list) ≡ base + first + i
-            = omega (arith, length-append nets (take i list), length-take-le i list (omega arith)) in
+        = omega (arith, length-append nets (take i list), length-take-le i list (omega arith)) in
         let new : member (getD list i 0) (nets ++ take i list) ≡ false
-            = member-append (getD list i 0) nets (take i list) ∙ rw (disjoint-entry list nets i here j) (entry-fresh list i here d) in
+        = member-append (getD list i 0) nets (take i list) ∙ rw (disjoint-entry list nets i here j) (entry-fresh list i here d) in
         rw (up-to-here list i here, ← append-assoc nets (take i list) (getD list i 0 ∷ []), ← next)
         (knows-one (getD list i 0) inTable new k)
 

@@ -139,7 +139,7 @@ whole :
     → Knows table base nets
     → subset list nets ≡ true
     → paste image at (slots table base list) i
-        ≡ take at image ++ (map (λ (x : ℕ). slotOf x nets) list ++ drop (at + length list) image)
+    ≡ take at image ++ (map (λ (x : ℕ). slotOf x nets) list ++ drop (at + length list) image)
 whole {table} {base} {nets} list image at i within end k s =
     let e : i ≡ length list = omega arith in
     rw (e, take-all (length list) (slots table base list) (omega (arith, length-map list (λ (x : ℕ). getD table x 0 - base))), slots-read k list s)
@@ -150,10 +150,10 @@ returns : tie.Need-returns Inv-loop μ-loop
 returns c nets k s =
     c .before .loop .inv .pasted
     ∙ whole (c .before .before .args .list .now) (c .before .before .args .image .now) (c .before .before .args .at) (c .before .loop .i)
-        (c .before .loop .inv .within)
-        (c .loop-test .left)
-        k
-        s
+    (c .before .loop .inv .within)
+    (c .loop-test .left)
+    k
+    s
 
 pub resolve-spec : {M : Type 1} → statement M
 resolve-spec =
