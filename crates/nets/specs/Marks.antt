@@ -1,7 +1,7 @@
 -- Marks: a table indexed by net number in which the nets that were met have the stamp, and no entry is above it.
-use Prim.Native.Nat.{ℕ, suc, _+_, _<_, _≤_}
+use Prim.Native.Nat.{ℕ, _+_, _<_, _≤_}
 use native.Mathlib.Omega.{arith}
-use mathlib.Core.Path.{_≡_, refl, sym, ap, _∙_}
+use mathlib.Core.Path.{_≡_, refl, sym, _∙_}
 use mathlib.Core.Bool.{Bool, true, false, _||_, or-false, or-true}
 use mathlib.Core.List.{List, [], _∷_, _++_}
 use borrow.Author.Tests.{eqb-true, eqb-false, eq-eqb, ne-eqb}
@@ -42,6 +42,7 @@ marked-one {marks} {stamp} {nets} x h m =
     bounded : (y : ℕ) (b : Bool) → eqb y x ≡ b → getD (set marks x stamp) y 0 < stamp + 1
     bounded y true e = rw (eqb-true y x e, getD-set-same marks x stamp 0 h) (omega arith)
     bounded y false e = rw (getD-set-other marks x y stamp 0 (eqb-false y x e)) (m .bounded .below y)
+
     met :
         (y : ℕ) (b : Bool) → eqb y x ≡ b → (member y nets || (b || false)) ≡ eqb (getD (set marks x stamp) y 0) stamp
     met y true e =

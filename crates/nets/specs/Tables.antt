@@ -3,7 +3,7 @@ use Prim.Native.Nat.{ℕ, zero, suc, _+_, _-_, _<_, _≤_}
 use native.Mathlib.Nat.{add-sub-cancel-left}
 use native.Mathlib.Omega.{arith}
 use mathlib.Core.Path.{_≡_, refl, sym, ap, ap₂, _∙_}
-use mathlib.Core.Bool.{Bool, true, false, not, _||_, cond, true≢false, or-false}
+use mathlib.Core.Bool.{Bool, true, false, _||_, true≢false, or-false}
 use mathlib.Core.List.{List, [], _∷_, _++_, map}
 use borrow.Author.Tests.{le-leb, lt-leb, eqb-true, eqb-false}
 use lib.Dec.{eqb, leb}
@@ -92,7 +92,7 @@ slots-read k [] s = refl
 slots-read {table} {base} {nets} k (x ∷ l) s =
     ap₂ _∷_
     (ap (λ (n : ℕ). n - base) (k .inside x (and-left (member x nets) (subset l nets) s))
-      ∙ add-sub-cancel-left base (slotOf x nets))
+    ∙ add-sub-cancel-left base (slotOf x nets))
     (slots-read k l (and-right (member x nets) (subset l nets) s))
 
 -- The nets of a list can be written as slots into an image from a place on: the table knows each of them, every slot fits a number of

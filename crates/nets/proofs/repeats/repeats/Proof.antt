@@ -1,9 +1,9 @@
 -- `nets::repeats::repeats` meets its contract. The outer loop's invariant: the list repeats a net just if it does from place i on.
 -- The inner one's: the net at i stands behind its place just if it stands from place j on. Assumes nothing.
-use Prim.Native.Nat.{ℕ, suc, _+_, _-_, _<_, _≤_}
+use Prim.Native.Nat.{ℕ, _+_, _-_, _<_, _≤_}
 use native.Mathlib.Omega.{arith}
-use mathlib.Core.Path.{_≡_, refl, sym, ap, _∙_}
-use mathlib.Core.Bool.{Bool, true, false, _||_}
+use mathlib.Core.Path.{_≡_, refl, sym, _∙_}
+use mathlib.Core.Bool.{Bool, true, false}
 use mathlib.Core.List.{List}
 use borrow.Author.Tests.{eq-eqb, ne-eqb}
 use lib.ListN.{length, getD, drop}
@@ -60,29 +60,8 @@ abbrev μ-search : tie.MeasureT-search
 search-holds : tie.Need-search-holds Inv-loop μ-loop Inv-search μ-search
 search-holds c = record { unmet = refl; within = omega arith; left = refl }
 
-add-j : tie.Need-add-j Inv-loop μ-loop Inv-search μ-search
-add-j c = omega arith
-
 loop-holds : tie.Need-loop-holds Inv-loop μ-loop Inv-search μ-search
 loop-holds c = record { unmet = c .before .search .inv .unmet; within = omega arith; left = refl }
-
-mul-if1 : tie.Need-mul-if1 Inv-loop μ-loop Inv-search μ-search
-mul-if1 c = omega arith
-
-shared-slice-read-if1 : tie.Need-shared-slice-read-if1 Inv-loop μ-loop Inv-search μ-search
-shared-slice-read-if1 c = omega arith
-
-mul-if1-2 : tie.Need-mul-if1-2 Inv-loop μ-loop Inv-search μ-search
-mul-if1-2 c = omega arith
-
-shared-slice-read-if1-2 : tie.Need-shared-slice-read-if1-2 Inv-loop μ-loop Inv-search μ-search
-shared-slice-read-if1-2 c = omega arith
-
-add-j-2 : tie.Need-add-j-2 Inv-loop μ-loop Inv-search μ-search
-add-j-2 c = omega arith
-
-loop-less : tie.Need-loop-less Inv-loop μ-loop Inv-search μ-search
-loop-less c = omega arith
 
 loop-again : tie.Need-loop-again Inv-loop μ-loop Inv-search μ-search
 loop-again c =
@@ -97,12 +76,6 @@ loop-again c =
           (turn .loop-test .taken)
           (c .if1 .left);
     }
-
-add-i : tie.Need-add-i Inv-loop μ-loop Inv-search μ-search
-add-i c = omega arith
-
-search-less : tie.Need-search-less Inv-loop μ-loop Inv-search μ-search
-search-less c = omega arith
 
 search-again : tie.Need-search-again Inv-loop μ-loop Inv-search μ-search
 search-again c =
@@ -129,11 +102,11 @@ returns-2 c =
     let i = turn .before .before .before .search .i in
     sym
     (turn .before .before .before .search .inv .left
-      ∙ pair-met l i (turn .before .loop .j)
-          (turn .before .before .search-test .taken)
-          (turn .loop-test .taken)
-          (turn .before .loop .inv .left)
-          (c .if1 .taken))
+    ∙ pair-met l i (turn .before .loop .j)
+    (turn .before .before .search-test .taken)
+    (turn .loop-test .taken)
+    (turn .before .loop .inv .left)
+    (c .if1 .taken))
 
 pub repeats-spec : {M : Type 1} → statement M
 repeats-spec =
@@ -144,17 +117,17 @@ repeats-spec =
     Inv-search
     μ-search
     search-holds
-    add-j
+    (λ c. omega arith)
     loop-holds
-    mul-if1
-    shared-slice-read-if1
-    mul-if1-2
-    shared-slice-read-if1-2
-    add-j-2
-    loop-less
+    (λ c. omega arith)
+    (λ c. omega arith)
+    (λ c. omega arith)
+    (λ c. omega arith)
+    (λ c. omega arith)
+    (λ c. omega arith)
     loop-again
-    add-i
-    search-less
+    (λ c. omega arith)
+    (λ c. omega arith)
     search-again
     returns
     returns-2)

@@ -13,8 +13,6 @@ use Rattle.nets.specs.Tables.{known-member}
 use Rattle.nets.specs.Walks.{alike, alike-here, alike-end}
 use Rattle.nets.proofs.table.alike.Statement.{statement}
 use Rattle.nets.proofs.table.alike.Tie as tie
-use Rattle.nets.proofs.table.alike.Reads as reads
-use Rattle.nets.proofs.table.alike.Lts as lts
 
 -- What the test of a turn says: whether the net at i is as asked.
 tested :
@@ -40,12 +38,6 @@ abbrev μ-loop : tie.MeasureT-loop
 loop-holds : tie.Need-loop-holds Inv-loop μ-loop
 loop-holds c = record { within = omega arith; left = λ nets k. refl }
 
-mul-if1 : tie.Need-mul-if1 Inv-loop μ-loop
-mul-if1 c = omega arith
-
-shared-slice-read-if1 : tie.Need-shared-slice-read-if1 Inv-loop μ-loop
-shared-slice-read-if1 c = omega arith
-
 cast-if1 : tie.Need-cast-if1 Inv-loop μ-loop
 cast-if1 c = omega (arith, c .shared-slice-known .given (c .before .before .loop .i))
 
@@ -61,13 +53,7 @@ returns c nets k =
     let args = turn .before .before .args in
     sym
     (turn .before .loop .inv .left nets k
-      ∙ tested (args .list .now) (turn .before .loop .i) (args .known) false (turn .loop-test .taken) k (not-true _ (c .if1 .taken)))
-
-add-i : tie.Need-add-i Inv-loop μ-loop
-add-i c = omega arith
-
-loop-less : tie.Need-loop-less Inv-loop μ-loop
-loop-less c = omega arith
+    ∙ tested (args .list .now) (turn .before .loop .i) (args .known) false (turn .loop-test .taken) k (not-true _ (c .if1 .taken)))
 
 loop-again : tie.Need-loop-again Inv-loop μ-loop
 loop-again c =
@@ -86,7 +72,7 @@ returns-2 c nets k =
     let args = c .before .before .args in
     sym
     (c .before .loop .inv .left nets k
-      ∙ alike-end (args .list .now) (c .before .loop .i) (c .loop-test .left) nets (args .known))
+    ∙ alike-end (args .list .now) (c .before .loop .i) (c .loop-test .left) nets (args .known))
 
 pub alike-spec : {M : Type 1} → statement M
 alike-spec =
@@ -95,13 +81,13 @@ alike-spec =
     Inv-loop
     μ-loop
     loop-holds
-    mul-if1
-    shared-slice-read-if1
+    (λ c. omega arith)
+    (λ c. omega arith)
     cast-if1
     mul-if1-2
     shared-slice-read-if1-2
     returns
-    add-i
-    loop-less
+    (λ c. omega arith)
+    (λ c. omega arith)
     loop-again
     returns-2)
