@@ -9,10 +9,11 @@ use borrow.Author.Tests.{eq-eqb, not-true}
 use lib.Dec.{eqb}
 use lib.ListN.{length, getD, take, drop, length-append}
 use lib.Seq.{split-at, length-take-le, append-snoc}
-use Rattle.meaning.specs.Boxlist.{member, disjoint, duplicates}
+use Rattle.meaning.specs.Boxlist.{member, disjoint, duplicates, subset}
 use Rattle.meaning.specs.Adder.{upFrom}
 use Rattle.nets.specs.Slots.{slotOf}
-use Rattle.nets.specs.Members.{or-left, or-right, and-left, and-right, disjoint-snoc, entry-fresh}
+use Rattle.nets.specs.Booleans.{or-left, or-right, and-left, and-right}
+use Rattle.nets.specs.Members.{map-subset, disjoint-snoc, entry-fresh}
 
 pub slot-below : (x : ℕ) (xs : List ℕ) → member x xs ≡ true → slotOf x xs < length xs
 unfolding member slotOf
@@ -36,6 +37,11 @@ slot-append x (y ∷ xs) ys m = go (eqb x y) m (slot-append x xs ys)
         → cond b 0 (suc (slotOf x (xs ++ ys))) ≡ cond b 0 (suc (slotOf x xs))
     go true e rest = refl
     go false e rest = ap suc (rest e)
+
+pub slots-append :
+    (l xs ys : List ℕ) → subset l xs ≡ true → map (λ (x : ℕ). slotOf x (xs ++ ys)) l ≡ map (λ (x : ℕ). slotOf x xs) l
+slots-append l xs ys s =
+    map-subset (λ (x : ℕ). slotOf x (xs ++ ys)) (λ (x : ℕ). slotOf x xs) xs (λ x m. slot-append x xs ys m) l s
 
 -- A net that is added takes the next slot.
 pub slot-fresh : (x : ℕ) (xs ys : List ℕ) → member x xs ≡ false → slotOf x (xs ++ (x ∷ ys)) ≡ length xs

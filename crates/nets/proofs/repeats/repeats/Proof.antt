@@ -34,15 +34,14 @@ pair-met :
 pair-met l i j hi hj left same =
     rw (duplicates-here l i hi, left, member-here l j hj (getD l i 0), eq-eqb (getD l i 0) (getD l j 0) same)
 
--- No pair was met with a net before place i, nor of the net at i with one before place j.
+-- The nets before place i are in no pair.
 record Passed (list : List ℕ) (met : Bool) (i : ℕ) : Type 0 where
   unmet : met ≡ false
-  within : i ≤ length list
   left : duplicates list ≡ duplicates (drop i list)
 
+-- Nor is the net at i with one before place j.
 record Compared (list : List ℕ) (i : ℕ) (met : Bool) (j : ℕ) : Type 0 where
   unmet : met ≡ false
-  within : j ≤ length list
   left : member (getD list i 0) (drop (i + 1) list) ≡ member (getD list i 0) (drop j list)
 
 abbrev Inv-loop : tie.InvT-loop
@@ -58,17 +57,16 @@ abbrev μ-search : tie.MeasureT-search
 μ-search list met₀ i₀ met i = length list - i
 
 search-holds : tie.Need-search-holds Inv-loop μ-loop Inv-search μ-search
-search-holds c = record { unmet = refl; within = omega arith; left = refl }
+search-holds c = record { unmet = refl; left = refl }
 
 loop-holds : tie.Need-loop-holds Inv-loop μ-loop Inv-search μ-search
-loop-holds c = record { unmet = c .before .search .inv .unmet; within = omega arith; left = refl }
+loop-holds c = record { unmet = c .before .search .inv .unmet; left = refl }
 
 loop-again : tie.Need-loop-again Inv-loop μ-loop Inv-search μ-search
 loop-again c =
     let turn = c .before .before .before in
     record {
       unmet = turn .before .loop .inv .unmet;
-      within = omega arith;
       left =
           turn .before .loop .inv .left
           ∙ pair-passed (turn .before .before .before .before .args .list .now) (turn .before .before .before .search .i)
@@ -81,7 +79,6 @@ search-again : tie.Need-search-again Inv-loop μ-loop Inv-search μ-search
 search-again c =
     record {
       unmet = c .before .loop .inv .unmet;
-      within = omega arith;
       left =
           c .before .before .before .search .inv .left
           ∙ net-passed (c .before .before .before .before .args .list .now) (c .before .before .before .search .i) (c .before .loop .j)
@@ -93,7 +90,7 @@ search-again c =
 returns : tie.Need-returns Inv-loop μ-loop Inv-search μ-search
 returns c =
     c .before .search .inv .unmet
-    ∙ sym (c .before .search .inv .left ∙ duplicates-end (c .before .before .args .list .now) (c .before .search .i) (omega arith))
+    ∙ sym (c .before .search .inv .left ∙ duplicates-end (c .before .before .args .list .now) (c .before .search .i) (c .search-test .left))
 
 returns-2 : tie.Need-returns-2 Inv-loop μ-loop Inv-search μ-search
 returns-2 c =

@@ -1,6 +1,6 @@
 -- `nets::repeats::repeats_marked` meets its contract. The loop's invariant: the nets before place i are the marked ones, and none of
 -- them repeats. Assumes nothing.
-use Prim.Native.Nat.{ℕ, _+_, _-_, _<_, _≤_}
+use Prim.Native.Nat.{ℕ, _+_, _-_, _<_}
 use native.Mathlib.Omega.{arith}
 use mathlib.Core.Path.{_≡_, refl, sym, ap, _∙_}
 use mathlib.Core.Bool.{Bool, true, false}
@@ -16,7 +16,6 @@ use Rattle.nets.proofs.repeats.repeats_marked.Statement.{statement}
 use Rattle.nets.proofs.repeats.repeats_marked.Tie as tie
 
 record Passed (list marks₀ : List ℕ) (stamp : ℕ) (marks : List ℕ) (i : ℕ) : Type 0 where
-  within : i ≤ length list
   size : length marks ≡ length marks₀
   marked : Marked marks stamp (take i list)
   single : duplicates (take i list) ≡ false
@@ -41,7 +40,6 @@ passed : {list marks₀ marks : List ℕ} {stamp i : ℕ} → Passed list marks�
     → Passed list marks₀ stamp (set marks (getD list i 0) stamp) (i + 1)
 passed {list} {marks₀} {marks} {stamp} {i} p here known e =
     record {
-      within = omega arith;
       size = length-set marks (getD list i 0) stamp ∙ p .size;
       marked = rw (up-to-here list i here) (marked-one (getD list i 0) known (p .marked));
       single =
@@ -62,7 +60,7 @@ abbrev μ-loop : tie.MeasureT-loop
 
 loop-holds : tie.Need-loop-holds Inv-loop μ-loop
 unfolding duplicates
-loop-holds c = record { within = omega arith; size = refl; marked = marked-none (c .pre .1); single = refl }
+loop-holds c = record { size = refl; marked = marked-none (c .pre .1); single = refl }
 
 cast-net : tie.Need-cast-net Inv-loop μ-loop
 cast-net c = omega (arith, c .shared-slice-known .given (c .before .before .loop .i))

@@ -1,6 +1,6 @@
 -- `nets::table::learn` meets its contract. The loop's invariant: where the list's nets are new and no two the same, the table knows
 -- those before place i besides the nets that it knew. Assumes nothing.
-use Prim.Native.Nat.{ℕ, _+_, _-_, _<_, _≤_}
+use Prim.Native.Nat.{ℕ, _+_, _-_, _<_}
 use native.Mathlib.Omega.{arith}
 use mathlib.Core.Path.{_≡_, refl, _∙_}
 use mathlib.Core.Bool.{true, false}
@@ -16,19 +16,18 @@ use Rattle.nets.proofs.table.learn.Statement.{statement}
 use Rattle.nets.proofs.table.learn.Tie as tie
 
 record Passed (list table₀ : List ℕ) (base first : ℕ) (table : List ℕ) (i : ℕ) : Type 0 where
-  within : i ≤ length list
   size : length table ≡ length table₀
   knows :
       (nets : List ℕ) → Knows table₀ base nets → first ≡ length nets → duplicates list ≡ false → disjoint list nets ≡ true
       → Knows table base (nets ++ take i list)
 
+-- With the next slot stored at the net at i the walk goes on.
 passed :
     {list table₀ table : List ℕ} {base first i : ℕ} → Passed list table₀ base first table i → i < length list
     → getD list i 0 < length table
     → Passed list table₀ base first (set table (getD list i 0) (base + first + i)) (i + 1)
 passed {list} {table₀} {table} {base} {first} {i} p here inTable =
     record {
-      within = omega arith;
       size = length-set table (getD list i 0) (base + first + i) ∙ p .size;
       knows = λ nets k e d j. one nets e d j (p .knows nets k e d j);
     }
@@ -52,7 +51,7 @@ abbrev μ-loop : tie.MeasureT-loop
 μ-loop list table₀ base first i₀ table i = length list - i
 
 loop-holds : tie.Need-loop-holds Inv-loop μ-loop
-loop-holds c = record { within = omega arith; size = refl; knows = λ nets k e d j. rw (append-nil nets) k }
+loop-holds c = record { size = refl; knows = λ nets k e d j. rw (append-nil nets) k }
 
 cast-table-2 : tie.Need-cast-table-2 Inv-loop μ-loop
 cast-table-2 c = omega (arith, c .shared-slice-known .given (c .before .before .loop .i))

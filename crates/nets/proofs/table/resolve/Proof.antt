@@ -40,6 +40,7 @@ known {list} {table} {base} i r here =
     let f = r .few in
     record { above = omega arith; small = omega arith }
 
+-- With the slot of the net at i stored the walk goes on.
 passed :
     {list table : List ℕ} {base : ℕ} {image₀ : List ℕ} {at : ℕ} {image : List ℕ} {i : ℕ}
     → Passed list table base image₀ at image i
@@ -55,6 +56,18 @@ passed {list} {table} {base} {image₀} {at} {image} {i} p here room =
           rw (p .pasted, ← List·getD-map f list i 0, add-one i)
           (paste-suc image₀ at (slots table base list) i (f 0) room (rw (length-map list f) here));
     }
+
+-- At the end of the walk all slots stand in the image, and they are those of any list of nets that the table knows.
+whole :
+    {table : List ℕ} {base : ℕ} {nets : List ℕ} (list image : List ℕ) (at i : ℕ) → i ≤ length list → length list ≤ i
+    → Knows table base nets
+    → subset list nets ≡ true
+    → paste image at (slots table base list) i
+    ≡ take at image ++ (map (λ (x : ℕ). slotOf x nets) list ++ drop (at + length list) image)
+whole {table} {base} {nets} list image at i within end k s =
+    let e : i ≡ length list = omega arith in
+    rw (e, take-all (length list) (slots table base list) (omega (arith, length-map list (λ (x : ℕ). getD table x 0 - base))), slots-read k list s)
+    (append-assoc (take at image) (map (λ (x : ℕ). slotOf x nets) list) (drop (at + length list) image))
 
 abbrev Inv-loop : tie.InvT-loop
 Inv-loop list table base image₀ at i₀ image i = Passed list table base image₀ at image i
@@ -95,17 +108,6 @@ loop-again c = passed (c .before .before .before .loop .inv) (c .before .before 
 
 same-length : tie.Need-same-length Inv-loop μ-loop
 same-length c = c .before .loop .inv .size
-
-whole :
-    {table : List ℕ} {base : ℕ} {nets : List ℕ} (list image : List ℕ) (at i : ℕ) → i ≤ length list → length list ≤ i
-    → Knows table base nets
-    → subset list nets ≡ true
-    → paste image at (slots table base list) i
-    ≡ take at image ++ (map (λ (x : ℕ). slotOf x nets) list ++ drop (at + length list) image)
-whole {table} {base} {nets} list image at i within end k s =
-    let e : i ≡ length list = omega arith in
-    rw (e, take-all (length list) (slots table base list) (omega (arith, length-map list (λ (x : ℕ). getD table x 0 - base))), slots-read k list s)
-    (append-assoc (take at image) (map (λ (x : ℕ). slotOf x nets) list) (drop (at + length list) image))
 
 returns : tie.Need-returns Inv-loop μ-loop
 returns c nets k s =
