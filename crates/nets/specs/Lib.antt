@@ -1,7 +1,9 @@
 -- What the functions on lists of nets answer, and what the table of slots says.
 pub mod Slots
+pub mod Booleans
 pub mod Members
 pub mod Walks
+pub mod Bounds
 pub mod Marks
 pub mod SlotLaws
 pub mod Tables

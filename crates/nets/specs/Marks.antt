@@ -1,7 +1,7 @@
 -- Marks: a table indexed by net number in which the nets that were met have the stamp, and no entry is above it.
-use Prim.Native.Nat.{ℕ, suc, _+_, _<_, _≤_}
+use Prim.Native.Nat.{ℕ, _+_, _<_}
 use native.Mathlib.Omega.{arith}
-use mathlib.Core.Path.{_≡_, refl, sym, ap, _∙_}
+use mathlib.Core.Path.{_≡_, refl, sym, _∙_}
 use mathlib.Core.Bool.{Bool, true, false, _||_, or-false, or-true}
 use mathlib.Core.List.{List, [], _∷_, _++_}
 use borrow.Author.Tests.{eqb-true, eqb-false, eq-eqb, ne-eqb}
@@ -10,14 +10,12 @@ use lib.ListN.{length, getD, set}
 use lib.Seq.{getD-set-same, getD-set-other}
 use Rattle.meaning.specs.Boxlist.{member}
 use Rattle.nets.specs.Slots.{Below}
+use Rattle.nets.specs.Bounds.{below-more}
 use Rattle.nets.specs.Members.{member-append}
 
 pub record Marked (marks : List ℕ) (stamp : ℕ) (nets : List ℕ) : Type 0 where
   pub bounded : Below (stamp + 1) marks
   pub met : (x : ℕ) → member x nets ≡ eqb (getD marks x 0) stamp
-
-pub below-more : {b : ℕ} {xs : List ℕ} (c : ℕ) → b ≤ c → Below b xs → Below c xs
-below-more c h low = record { below = λ i. omega (arith, low .below i) }
 
 -- Where every entry is below the stamp no net was met.
 pub marked-none : {marks : List ℕ} {stamp : ℕ} → Below stamp marks → Marked marks stamp []

@@ -3,37 +3,14 @@
 use Prim.Native.Nat.{ℕ, zero, suc, _<_}
 use native.Mathlib.Nat.{le-of-suc-le-suc, not-suc-le-zero}
 use mathlib.Core.Path.{_≡_, refl, sym, ap, ap₂, _∙_}
-use mathlib.Core.Bool.{Bool, true, false, not, _&&_, _||_, true≢false, or-assoc, or-comm}
-use mathlib.Core.List.{List, [], _∷_, _++_}
-use borrow.Author.Tests.{eqb-true, eqb-false, eq-eqb, ne-eqb, not-true}
+use mathlib.Core.Bool.{Bool, true, false, not, _||_, or-assoc, or-comm}
+use mathlib.Core.List.{List, [], _∷_, _++_, map}
+use borrow.Author.Tests.{eq-eqb, not-true}
 use lib.Dec.{eqb}
 use lib.ListN.{length, getD, take, drop, take-append-drop}
 use lib.Seq.{take-suc}
 use Rattle.meaning.specs.Boxlist.{member, disjoint, duplicates, subset}
-
--- The sides of an `or` that is false, and of an `and` that is true.
-pub or-left : (a b : Bool) → (a || b) ≡ false → a ≡ false
-or-left true b e = e
-or-left false b e = refl
-
-pub or-right : (a b : Bool) → (a || b) ≡ false → b ≡ false
-or-right true b e = absurd (true≢false e)
-or-right false b e = e
-
-pub and-left : (a b : Bool) → (a && b) ≡ true → a ≡ true
-and-left true b e = refl
-and-left false b e = e
-
-pub and-right : (a b : Bool) → (a && b) ≡ true → b ≡ true
-and-right true b e = e
-and-right false b e = absurd (true≢false (sym e))
-
-pub eqb-sym : (x y : ℕ) → eqb x y ≡ eqb y x
-eqb-sym x y = go (eqb y x) refl
-  where
-    go : (b : Bool) → eqb y x ≡ b → eqb x y ≡ b
-    go true e = eq-eqb x y (sym (eqb-true y x e))
-    go false e = ne-eqb x y (λ q. eqb-false y x e (sym q))
+use Rattle.nets.specs.Booleans.{or-left, or-right, and-left, and-right, eqb-sym}
 
 -- A net stands in two joined lists if it stands in one of them.
 pub member-append : (x : ℕ) (xs ys : List ℕ) → member x (xs ++ ys) ≡ (member x xs || member x ys)
@@ -72,13 +49,32 @@ subset-entry [] ns i h s = absurd (not-suc-le-zero h)
 subset-entry (x ∷ l) ns zero h s = and-left (member x ns) (subset l ns) s
 subset-entry (x ∷ l) ns (suc i) h s = subset-entry l ns i (le-of-suc-le-suc h) (and-right (member x ns) (subset l ns) s)
 
--- A sublist stays one when the list grows.
+-- A sublist stays one when the list grows, at its end or at its front.
 pub subset-append-left : (l ns ms : List ℕ) → subset l ns ≡ true → subset l (ns ++ ms) ≡ true
 unfolding subset
 subset-append-left [] ns ms s = refl
 subset-append-left (x ∷ l) ns ms s =
     rw (member-append x ns ms, and-left (member x ns) (subset l ns) s)
     (subset-append-left l ns ms (and-right (member x ns) (subset l ns) s))
+
+pub subset-append-right : (l ns ms : List ℕ) → subset l ms ≡ true → subset l (ns ++ ms) ≡ true
+subset-append-right l ns ms s =
+    subset-same (ns ++ ms) (ms ++ ns) (λ x. member-swap x ns ms) l ∙ subset-append-left l ms ns s
+
+-- Every list is a sublist of itself.
+pub subset-self : (l : List ℕ) → subset l l ≡ true
+unfolding subset member
+subset-self [] = refl
+subset-self (x ∷ l) = rw (eq-eqb x x refl) (subset-append-right l (x ∷ []) l (subset-self l))
+
+-- What is said alike of each net of a list is said alike of a sublist, net by net.
+pub map-subset :
+    (f g : ℕ → ℕ) (ns : List ℕ) → ((x : ℕ) → member x ns ≡ true → f x ≡ g x)
+    → (l : List ℕ) → subset l ns ≡ true → map f l ≡ map g l
+unfolding subset
+map-subset f g ns alike [] s = refl
+map-subset f g ns alike (x ∷ l) s =
+    ap₂ _∷_ (alike x (and-left (member x ns) (subset l ns) s)) (map-subset f g ns alike l (and-right (member x ns) (subset l ns) s))
 
 -- A list stays disjoint when the other grows by a net that it lacks.
 pub disjoint-snoc :

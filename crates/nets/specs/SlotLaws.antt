@@ -1,19 +1,19 @@
 -- Where nets stand: a net's slot is below the number of nets, keeps when nets are added, and nets that are added take the next slots.
-use Prim.Native.Nat.{ℕ, zero, suc, _+_, _<_}
-use native.Mathlib.Nat.{add-zero, suc-add}
+use Prim.Native.Nat.{ℕ, suc, _<_}
 use native.Mathlib.Numerals.{add-one}
 use native.Mathlib.Omega.{arith}
 use mathlib.Core.Path.{_≡_, refl, sym, ap, ap₂, _∙_}
-use mathlib.Core.Bool.{Bool, true, false, not, _&&_, _||_, cond, true≢false}
+use mathlib.Core.Bool.{Bool, true, false, not, _||_, cond, true≢false}
 use mathlib.Core.List.{List, [], _∷_, _++_, map}
 use borrow.Author.Tests.{eq-eqb, not-true}
 use lib.Dec.{eqb}
 use lib.ListN.{length, getD, take, drop, length-append}
 use lib.Seq.{split-at, length-take-le, append-snoc}
-use Rattle.meaning.specs.Boxlist.{member, disjoint, duplicates}
+use Rattle.meaning.specs.Boxlist.{member, disjoint, duplicates, subset}
 use Rattle.meaning.specs.Adder.{upFrom}
 use Rattle.nets.specs.Slots.{slotOf}
-use Rattle.nets.specs.Members.{or-left, or-right, and-left, and-right, disjoint-snoc, entry-fresh}
+use Rattle.nets.specs.Booleans.{or-left, or-right, and-left, and-right}
+use Rattle.nets.specs.Members.{map-subset, disjoint-snoc, entry-fresh}
 
 pub slot-below : (x : ℕ) (xs : List ℕ) → member x xs ≡ true → slotOf x xs < length xs
 unfolding member slotOf
@@ -37,6 +37,11 @@ slot-append x (y ∷ xs) ys m = go (eqb x y) m (slot-append x xs ys)
         → cond b 0 (suc (slotOf x (xs ++ ys))) ≡ cond b 0 (suc (slotOf x xs))
     go true e rest = refl
     go false e rest = ap suc (rest e)
+
+pub slots-append :
+    (l xs ys : List ℕ) → subset l xs ≡ true → map (λ (x : ℕ). slotOf x (xs ++ ys)) l ≡ map (λ (x : ℕ). slotOf x xs) l
+slots-append l xs ys s =
+    map-subset (λ (x : ℕ). slotOf x (xs ++ ys)) (λ (x : ℕ). slotOf x xs) xs (λ x m. slot-append x xs ys m) l s
 
 -- A net that is added takes the next slot.
 pub slot-fresh : (x : ℕ) (xs ys : List ℕ) → member x xs ≡ false → slotOf x (xs ++ (x ∷ ys)) ≡ length xs

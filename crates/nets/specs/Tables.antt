@@ -1,9 +1,9 @@
 -- What a table that knows the nets of a list tells of them, how it learns one more, and how it starts afresh.
-use Prim.Native.Nat.{ℕ, zero, suc, _+_, _-_, _<_, _≤_}
+use Prim.Native.Nat.{ℕ, _+_, _-_, _<_, _≤_}
 use native.Mathlib.Nat.{add-sub-cancel-left}
 use native.Mathlib.Omega.{arith}
-use mathlib.Core.Path.{_≡_, refl, sym, ap, ap₂, _∙_}
-use mathlib.Core.Bool.{Bool, true, false, not, _||_, cond, true≢false, or-false}
+use mathlib.Core.Path.{_≡_, refl, sym, ap, _∙_}
+use mathlib.Core.Bool.{Bool, true, false, _||_, true≢false, or-false}
 use mathlib.Core.List.{List, [], _∷_, _++_, map}
 use borrow.Author.Tests.{le-leb, lt-leb, eqb-true, eqb-false}
 use lib.Dec.{eqb, leb}
@@ -11,7 +11,9 @@ use lib.ListN.{length, getD, set, replicate}
 use lib.Seq.{getD-set-same, getD-set-other}
 use Rattle.meaning.specs.Boxlist.{member, subset}
 use Rattle.nets.specs.Slots.{slotOf, Knows, Below}
-use Rattle.nets.specs.Members.{or-left, or-right, and-left, and-right, member-append}
+use Rattle.nets.specs.Booleans.{or-left, or-right}
+use Rattle.nets.specs.Members.{member-append, map-subset}
+use Rattle.nets.specs.Bounds.{below-zeros}
 use Rattle.nets.specs.SlotLaws.{slot-below, slot-append, slot-fresh}
 
 -- A net is known if its entry is not below the base.
@@ -76,24 +78,18 @@ next-base {table} {base} {nets} d k h =
 -- A table of zeros knows no net.
 pub knows-none : (n base : ℕ) → 0 < base → Knows (replicate n 0) base []
 unfolding member
-knows-none n base h = record { inside = λ x e. absurd (true≢false (sym e)); outside = λ x e. rw (zeros n x) h }
-  where
-    zeros : (n x : ℕ) → getD {A = ℕ} (replicate n 0) x 0 ≡ 0
-    zeros zero x = refl
-    zeros (suc n) zero = refl
-    zeros (suc n) (suc x) = zeros n x
+knows-none n base h =
+    record { inside = λ x e. absurd (true≢false (sym e)); outside = λ x e. below-zeros n base h .below x }
 
 -- The slots of known nets, read off the table.
 pub slots-read :
     {table : List ℕ} {base : ℕ} {nets : List ℕ} → Knows table base nets → (l : List ℕ) → subset l nets ≡ true
     → map (λ (x : ℕ). getD table x 0 - base) l ≡ map (λ (x : ℕ). slotOf x nets) l
-unfolding subset
-slots-read k [] s = refl
-slots-read {table} {base} {nets} k (x ∷ l) s =
-    ap₂ _∷_
-    (ap (λ (n : ℕ). n - base) (k .inside x (and-left (member x nets) (subset l nets) s))
-    ∙ add-sub-cancel-left base (slotOf x nets))
-    (slots-read k l (and-right (member x nets) (subset l nets) s))
+slots-read {table} {base} {nets} k l s =
+    map-subset (λ (x : ℕ). getD table x 0 - base) (λ (x : ℕ). slotOf x nets) nets
+    (λ x m. ap (λ (n : ℕ). n - base) (k .inside x m) ∙ add-sub-cancel-left base (slotOf x nets))
+    l
+    s
 
 -- The nets of a list can be written as slots into an image from a place on: the table knows each of them, every slot fits a number of
 -- the image, and there is room.

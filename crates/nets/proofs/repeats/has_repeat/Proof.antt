@@ -1,7 +1,7 @@
 -- `nets::repeats::has_repeat` meets its contract, as either search does; where pairs are compared no mark is touched. Assumes nothing.
 use native.Mathlib.Omega.{arith}
 use borrow.Author.Needs.{needs}
-use Rattle.nets.specs.Marks.{below-more}
+use Rattle.nets.specs.Bounds.{below-more}
 use Rattle.nets.proofs.repeats.has_repeat.Statement.{statement}
 use Rattle.nets.proofs.repeats.has_repeat.Tie as tie
 

@@ -1,9 +1,9 @@
 -- `nets::repeats::repeats` meets its contract. The outer loop's invariant: the list repeats a net just if it does from place i on.
 -- The inner one's: the net at i stands behind its place just if it stands from place j on. Assumes nothing.
-use Prim.Native.Nat.{ℕ, suc, _+_, _-_, _<_, _≤_}
+use Prim.Native.Nat.{ℕ, _+_, _-_, _<_, _≤_}
 use native.Mathlib.Omega.{arith}
-use mathlib.Core.Path.{_≡_, refl, sym, ap, _∙_}
-use mathlib.Core.Bool.{Bool, true, false, _||_}
+use mathlib.Core.Path.{_≡_, refl, sym, _∙_}
+use mathlib.Core.Bool.{Bool, true, false}
 use mathlib.Core.List.{List}
 use borrow.Author.Tests.{eq-eqb, ne-eqb}
 use lib.ListN.{length, getD, drop}
@@ -34,15 +34,14 @@ pair-met :
 pair-met l i j hi hj left same =
     rw (duplicates-here l i hi, left, member-here l j hj (getD l i 0), eq-eqb (getD l i 0) (getD l j 0) same)
 
--- No pair was met with a net before place i, nor of the net at i with one before place j.
+-- The nets before place i are in no pair.
 record Passed (list : List ℕ) (met : Bool) (i : ℕ) : Type 0 where
   unmet : met ≡ false
-  within : i ≤ length list
   left : duplicates list ≡ duplicates (drop i list)
 
+-- Nor is the net at i with one before place j.
 record Compared (list : List ℕ) (i : ℕ) (met : Bool) (j : ℕ) : Type 0 where
   unmet : met ≡ false
-  within : j ≤ length list
   left : member (getD list i 0) (drop (i + 1) list) ≡ member (getD list i 0) (drop j list)
 
 abbrev Inv-loop : tie.InvT-loop
@@ -58,38 +57,16 @@ abbrev μ-search : tie.MeasureT-search
 μ-search list met₀ i₀ met i = length list - i
 
 search-holds : tie.Need-search-holds Inv-loop μ-loop Inv-search μ-search
-search-holds c = record { unmet = refl; within = omega arith; left = refl }
-
-add-j : tie.Need-add-j Inv-loop μ-loop Inv-search μ-search
-add-j c = omega arith
+search-holds c = record { unmet = refl; left = refl }
 
 loop-holds : tie.Need-loop-holds Inv-loop μ-loop Inv-search μ-search
-loop-holds c = record { unmet = c .before .search .inv .unmet; within = omega arith; left = refl }
-
-mul-if1 : tie.Need-mul-if1 Inv-loop μ-loop Inv-search μ-search
-mul-if1 c = omega arith
-
-shared-slice-read-if1 : tie.Need-shared-slice-read-if1 Inv-loop μ-loop Inv-search μ-search
-shared-slice-read-if1 c = omega arith
-
-mul-if1-2 : tie.Need-mul-if1-2 Inv-loop μ-loop Inv-search μ-search
-mul-if1-2 c = omega arith
-
-shared-slice-read-if1-2 : tie.Need-shared-slice-read-if1-2 Inv-loop μ-loop Inv-search μ-search
-shared-slice-read-if1-2 c = omega arith
-
-add-j-2 : tie.Need-add-j-2 Inv-loop μ-loop Inv-search μ-search
-add-j-2 c = omega arith
-
-loop-less : tie.Need-loop-less Inv-loop μ-loop Inv-search μ-search
-loop-less c = omega arith
+loop-holds c = record { unmet = c .before .search .inv .unmet; left = refl }
 
 loop-again : tie.Need-loop-again Inv-loop μ-loop Inv-search μ-search
 loop-again c =
     let turn = c .before .before .before in
     record {
       unmet = turn .before .loop .inv .unmet;
-      within = omega arith;
       left =
           turn .before .loop .inv .left
           ∙ pair-passed (turn .before .before .before .before .args .list .now) (turn .before .before .before .search .i)
@@ -98,17 +75,10 @@ loop-again c =
           (c .if1 .left);
     }
 
-add-i : tie.Need-add-i Inv-loop μ-loop Inv-search μ-search
-add-i c = omega arith
-
-search-less : tie.Need-search-less Inv-loop μ-loop Inv-search μ-search
-search-less c = omega arith
-
 search-again : tie.Need-search-again Inv-loop μ-loop Inv-search μ-search
 search-again c =
     record {
       unmet = c .before .loop .inv .unmet;
-      within = omega arith;
       left =
           c .before .before .before .search .inv .left
           ∙ net-passed (c .before .before .before .before .args .list .now) (c .before .before .before .search .i) (c .before .loop .j)
@@ -120,7 +90,7 @@ search-again c =
 returns : tie.Need-returns Inv-loop μ-loop Inv-search μ-search
 returns c =
     c .before .search .inv .unmet
-    ∙ sym (c .before .search .inv .left ∙ duplicates-end (c .before .before .args .list .now) (c .before .search .i) (omega arith))
+    ∙ sym (c .before .search .inv .left ∙ duplicates-end (c .before .before .args .list .now) (c .before .search .i) (c .search-test .left))
 
 returns-2 : tie.Need-returns-2 Inv-loop μ-loop Inv-search μ-search
 returns-2 c =
@@ -144,17 +114,17 @@ repeats-spec =
     Inv-search
     μ-search
     search-holds
-    add-j
+    (λ c. omega arith)
     loop-holds
-    mul-if1
-    shared-slice-read-if1
-    mul-if1-2
-    shared-slice-read-if1-2
-    add-j-2
-    loop-less
+    (λ c. omega arith)
+    (λ c. omega arith)
+    (λ c. omega arith)
+    (λ c. omega arith)
+    (λ c. omega arith)
+    (λ c. omega arith)
     loop-again
-    add-i
-    search-less
+    (λ c. omega arith)
+    (λ c. omega arith)
     search-again
     returns
     returns-2)

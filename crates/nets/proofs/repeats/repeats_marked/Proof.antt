@@ -1,26 +1,21 @@
 -- `nets::repeats::repeats_marked` meets its contract. The loop's invariant: the nets before place i are the marked ones, and none of
 -- them repeats. Assumes nothing.
-use Prim.Native.Nat.{ℕ, _+_, _-_, _<_, _≤_}
+use Prim.Native.Nat.{ℕ, _+_, _-_, _<_}
 use native.Mathlib.Omega.{arith}
 use mathlib.Core.Path.{_≡_, refl, sym, ap, _∙_}
-use mathlib.Core.Bool.{Bool, true, false, _||_, true≢false}
+use mathlib.Core.Bool.{Bool, true, false}
 use mathlib.Core.List.{List}
 use borrow.Author.Tests.{eq-eqb, ne-eqb}
-use lib.Dec.{eqb}
 use lib.ListN.{length, getD, take, set, length-set}
 use lib.Seq.{take-all}
-use Rattle.meaning.specs.Boxlist.{member, duplicates}
-use Rattle.nets.specs.Slots.{Below}
+use Rattle.meaning.specs.Boxlist.{duplicates}
 use Rattle.nets.specs.Members.{duplicates-snoc, entry-fresh}
 use Rattle.nets.specs.Walks.{up-to-here}
 use Rattle.nets.specs.Marks.{Marked, marked-none, marked-one}
 use Rattle.nets.proofs.repeats.repeats_marked.Statement.{statement}
 use Rattle.nets.proofs.repeats.repeats_marked.Tie as tie
-use Rattle.nets.proofs.repeats.repeats_marked.Reads as reads
-use Rattle.nets.proofs.repeats.repeats_marked.Lts as lts
 
 record Passed (list marks₀ : List ℕ) (stamp : ℕ) (marks : List ℕ) (i : ℕ) : Type 0 where
-  within : i ≤ length list
   size : length marks ≡ length marks₀
   marked : Marked marks stamp (take i list)
   single : duplicates (take i list) ≡ false
@@ -45,7 +40,6 @@ passed : {list marks₀ marks : List ℕ} {stamp i : ℕ} → Passed list marks�
     → Passed list marks₀ stamp (set marks (getD list i 0) stamp) (i + 1)
 passed {list} {marks₀} {marks} {stamp} {i} p here known e =
     record {
-      within = omega arith;
       size = length-set marks (getD list i 0) stamp ∙ p .size;
       marked = rw (up-to-here list i here) (marked-one (getD list i 0) known (p .marked));
       single =
@@ -64,36 +58,22 @@ Inv-loop list marks₀ stamp i₀ marks i = Passed list marks₀ stamp marks i
 abbrev μ-loop : tie.MeasureT-loop
 μ-loop list marks₀ stamp i₀ marks i = length list - i
 
--- src/repeats.rt:37:5
 loop-holds : tie.Need-loop-holds Inv-loop μ-loop
 unfolding duplicates
-loop-holds c = record { within = omega arith; size = refl; marked = marked-none (c .pre .1); single = refl }
+loop-holds c = record { size = refl; marked = marked-none (c .pre .1); single = refl }
 
--- src/repeats.rt:38:19
-mul-net : tie.Need-mul-net Inv-loop μ-loop
-mul-net c = omega arith
-
--- src/repeats.rt:38:19
-shared-slice-read-net : tie.Need-shared-slice-read-net Inv-loop μ-loop
-shared-slice-read-net c = omega arith
-
--- src/repeats.rt:38:19
 cast-net : tie.Need-cast-net Inv-loop μ-loop
 cast-net c = omega (arith, c .shared-slice-known .given (c .before .before .loop .i))
 
--- src/repeats.rt:39:12
 mul-if1 : tie.Need-mul-if1 Inv-loop μ-loop
 mul-if1 c = omega (arith, c .shared-slice-known .given (c .before .before .loop .i))
 
--- src/repeats.rt:39:12
 slice-read-if1 : tie.Need-slice-read-if1 Inv-loop μ-loop
 slice-read-if1 c = omega (arith, c .before .before .before .before .pre .0 .below (c .before .before .before .loop .i))
 
--- src/repeats.rt:40:13
 same-length : tie.Need-same-length Inv-loop μ-loop
 same-length c = c .before .before .before .before .loop .inv .size
 
--- src/repeats.rt:40:13
 returns : tie.Need-returns Inv-loop μ-loop
 returns c =
     let turn = c .before .before .before in (
@@ -104,24 +84,13 @@ returns c =
       turn .before .loop .inv .marked .bounded,
     )
 
--- src/repeats.rt:42:9
 mul-marks : tie.Need-mul-marks Inv-loop μ-loop
 mul-marks c = omega (arith, c .before .before .shared-slice-known .given (c .before .before .before .before .loop .i))
 
--- src/repeats.rt:42:9
 slice-write-marks : tie.Need-slice-write-marks Inv-loop μ-loop
 slice-write-marks c =
     omega (arith, c .before .before .before .before .before .pre .0 .below (c .before .before .before .before .loop .i))
 
--- src/repeats.rt:43:9
-add-i : tie.Need-add-i Inv-loop μ-loop
-add-i c = omega arith
-
--- src/repeats.rt:37:5
-loop-less : tie.Need-loop-less Inv-loop μ-loop
-loop-less c = omega arith
-
--- src/repeats.rt:37:5
 loop-again : tie.Need-loop-again Inv-loop μ-loop
 loop-again c =
     let turn = c .before .before .before in
@@ -129,11 +98,9 @@ loop-again c =
     (omega (arith, turn .before .before .pre .0 .below (turn .before .loop .i)))
     (c .if1 .left)
 
--- src/repeats.rt:30:1
 same-length-2 : tie.Need-same-length-2 Inv-loop μ-loop
 same-length-2 c = c .before .loop .inv .size
 
--- src/repeats.rt:30:1
 returns-2 : tie.Need-returns-2 Inv-loop μ-loop
 returns-2 c = (
   sym (c .before .loop .inv .single)
@@ -148,8 +115,8 @@ repeats-marked-spec =
     Inv-loop
     μ-loop
     loop-holds
-    mul-net
-    shared-slice-read-net
+    (λ c. omega arith)
+    (λ c. omega arith)
     cast-net
     mul-if1
     slice-read-if1
@@ -157,8 +124,8 @@ repeats-marked-spec =
     returns
     mul-marks
     slice-write-marks
-    add-i
-    loop-less
+    (λ c. omega arith)
+    (λ c. omega arith)
     loop-again
     same-length-2
     returns-2)

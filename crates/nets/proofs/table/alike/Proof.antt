@@ -1,6 +1,6 @@
 -- `nets::table::alike` meets its contract. The loop's invariant: all nets of the list are as asked just if they are from place i on.
 -- Assumes nothing.
-use Prim.Native.Nat.{ℕ, _+_, _-_, _<_, _≤_}
+use Prim.Native.Nat.{ℕ, _+_, _-_, _<_}
 use native.Mathlib.Omega.{arith}
 use mathlib.Core.Path.{_≡_, refl, sym, _∙_}
 use mathlib.Core.Bool.{Bool, true, false, _&&_, Bool·beq}
@@ -13,8 +13,6 @@ use Rattle.nets.specs.Tables.{known-member}
 use Rattle.nets.specs.Walks.{alike, alike-here, alike-end}
 use Rattle.nets.proofs.table.alike.Statement.{statement}
 use Rattle.nets.proofs.table.alike.Tie as tie
-use Rattle.nets.proofs.table.alike.Reads as reads
-use Rattle.nets.proofs.table.alike.Lts as lts
 
 -- What the test of a turn says: whether the net at i is as asked.
 tested :
@@ -25,26 +23,15 @@ tested :
 tested {table} {base} {nets} list i known answer here k test =
     rw (alike-here list i here nets known, known-member table base nets k (getD list i 0), test)
 
-record Passed (list table : List ℕ) (base : ℕ) (known : Bool) (i : ℕ) : Type 0 where
-  within : i ≤ length list
-  left :
-      (nets : List ℕ) → Knows table base nets
-      → alike known list nets ≡ alike known (drop i list) nets
-
 abbrev Inv-loop : tie.InvT-loop
-Inv-loop list table base known i₀ i = Passed list table base known i
+Inv-loop list table base known i₀ i =
+    (nets : List ℕ) → Knows table base nets → alike known list nets ≡ alike known (drop i list) nets
 
 abbrev μ-loop : tie.MeasureT-loop
 μ-loop list table base known i₀ i = length list - i
 
 loop-holds : tie.Need-loop-holds Inv-loop μ-loop
-loop-holds c = record { within = omega arith; left = λ nets k. refl }
-
-mul-if1 : tie.Need-mul-if1 Inv-loop μ-loop
-mul-if1 c = omega arith
-
-shared-slice-read-if1 : tie.Need-shared-slice-read-if1 Inv-loop μ-loop
-shared-slice-read-if1 c = omega arith
+loop-holds c nets k = refl
 
 cast-if1 : tie.Need-cast-if1 Inv-loop μ-loop
 cast-if1 c = omega (arith, c .shared-slice-known .given (c .before .before .loop .i))
@@ -60,32 +47,21 @@ returns c nets k =
     let turn = c .before .before .before in
     let args = turn .before .before .args in
     sym
-    (turn .before .loop .inv .left nets k
+    (turn .before .loop .inv nets k
     ∙ tested (args .list .now) (turn .before .loop .i) (args .known) false (turn .loop-test .taken) k (not-true _ (c .if1 .taken)))
 
-add-i : tie.Need-add-i Inv-loop μ-loop
-add-i c = omega arith
-
-loop-less : tie.Need-loop-less Inv-loop μ-loop
-loop-less c = omega arith
-
 loop-again : tie.Need-loop-again Inv-loop μ-loop
-loop-again c =
+loop-again c nets k =
     let turn = c .before .before .before in
     let args = turn .before .before .args in
-    record {
-      within = omega arith;
-      left =
-          λ nets k.
-          turn .before .loop .inv .left nets k
-          ∙ tested (args .list .now) (turn .before .loop .i) (args .known) true (turn .loop-test .taken) k (not-false _ (c .if1 .left));
-    }
+    turn .before .loop .inv nets k
+    ∙ tested (args .list .now) (turn .before .loop .i) (args .known) true (turn .loop-test .taken) k (not-false _ (c .if1 .left))
 
 returns-2 : tie.Need-returns-2 Inv-loop μ-loop
 returns-2 c nets k =
     let args = c .before .before .args in
     sym
-    (c .before .loop .inv .left nets k
+    (c .before .loop .inv nets k
     ∙ alike-end (args .list .now) (c .before .loop .i) (c .loop-test .left) nets (args .known))
 
 pub alike-spec : {M : Type 1} → statement M
@@ -95,13 +71,13 @@ alike-spec =
     Inv-loop
     μ-loop
     loop-holds
-    mul-if1
-    shared-slice-read-if1
+    (λ c. omega arith)
+    (λ c. omega arith)
     cast-if1
     mul-if1-2
     shared-slice-read-if1-2
     returns
-    add-i
-    loop-less
+    (λ c. omega arith)
+    (λ c. omega arith)
     loop-again
     returns-2)

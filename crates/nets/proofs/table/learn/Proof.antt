@@ -1,36 +1,33 @@
 -- `nets::table::learn` meets its contract. The loop's invariant: where the list's nets are new and no two the same, the table knows
 -- those before place i besides the nets that it knew. Assumes nothing.
-use Prim.Native.Nat.{ℕ, _+_, _-_, _<_, _≤_}
+use Prim.Native.Nat.{ℕ, _+_, _-_, _<_}
 use native.Mathlib.Omega.{arith}
-use mathlib.Core.Path.{_≡_, refl, sym, ap, _∙_}
+use mathlib.Core.Path.{_≡_, refl, _∙_}
 use mathlib.Core.Bool.{true, false}
 use mathlib.Core.List.{List, [], _∷_, _++_, append-assoc, append-nil}
 use lib.ListN.{length, getD, take, set, length-set, length-append}
 use lib.Seq.{take-all, length-take-le}
 use Rattle.meaning.specs.Boxlist.{member, duplicates, disjoint}
-use Rattle.nets.specs.Slots.{Knows, Below}
+use Rattle.nets.specs.Slots.{Knows}
 use Rattle.nets.specs.Members.{member-append, disjoint-entry, entry-fresh}
 use Rattle.nets.specs.Walks.{up-to-here}
 use Rattle.nets.specs.Tables.{knows-one}
 use Rattle.nets.proofs.table.learn.Statement.{statement}
 use Rattle.nets.proofs.table.learn.Tie as tie
-use Rattle.nets.proofs.table.learn.Reads as reads
-use Rattle.nets.proofs.table.learn.Lts as lts
 
 record Passed (list table₀ : List ℕ) (base first : ℕ) (table : List ℕ) (i : ℕ) : Type 0 where
-  within : i ≤ length list
   size : length table ≡ length table₀
   knows :
       (nets : List ℕ) → Knows table₀ base nets → first ≡ length nets → duplicates list ≡ false → disjoint list nets ≡ true
       → Knows table base (nets ++ take i list)
 
+-- With the next slot stored at the net at i the walk goes on.
 passed :
     {list table₀ table : List ℕ} {base first i : ℕ} → Passed list table₀ base first table i → i < length list
     → getD list i 0 < length table
     → Passed list table₀ base first (set table (getD list i 0) (base + first + i)) (i + 1)
 passed {list} {table₀} {table} {base} {first} {i} p here inTable =
     record {
-      within = omega arith;
       size = length-set table (getD list i 0) (base + first + i) ∙ p .size;
       knows = λ nets k e d j. one nets e d j (p .knows nets k e d j);
     }
@@ -53,61 +50,26 @@ Inv-loop list table₀ base first i₀ table i = Passed list table₀ base first
 abbrev μ-loop : tie.MeasureT-loop
 μ-loop list table₀ base first i₀ table i = length list - i
 
--- src/table.rt:51:5
 loop-holds : tie.Need-loop-holds Inv-loop μ-loop
-loop-holds c = record { within = omega arith; size = refl; knows = λ nets k e d j. rw (append-nil nets) k }
+loop-holds c = record { size = refl; knows = λ nets k e d j. rw (append-nil nets) k }
 
--- src/table.rt:52:35
-add-table : tie.Need-add-table Inv-loop μ-loop
-add-table c = omega arith
-
--- src/table.rt:52:50
-cast-table : tie.Need-cast-table Inv-loop μ-loop
-cast-table c = omega arith
-
--- src/table.rt:52:35
-add-table-2 : tie.Need-add-table-2 Inv-loop μ-loop
-add-table-2 c = omega arith
-
--- src/table.rt:52:15
-mul-table : tie.Need-mul-table Inv-loop μ-loop
-mul-table c = omega arith
-
--- src/table.rt:52:15
-shared-slice-read-table : tie.Need-shared-slice-read-table Inv-loop μ-loop
-shared-slice-read-table c = omega arith
-
--- src/table.rt:52:15
 cast-table-2 : tie.Need-cast-table-2 Inv-loop μ-loop
 cast-table-2 c = omega (arith, c .shared-slice-known .given (c .before .before .loop .i))
 
--- src/table.rt:52:9
 mul-table-2 : tie.Need-mul-table-2 Inv-loop μ-loop
 mul-table-2 c = omega (arith, c .shared-slice-known .given (c .before .before .loop .i))
 
--- src/table.rt:52:9
 slice-write-table : tie.Need-slice-write-table Inv-loop μ-loop
 slice-write-table c = omega (arith, c .before .before .before .pre .0 .below (c .before .before .loop .i))
 
--- src/table.rt:53:9
-add-i : tie.Need-add-i Inv-loop μ-loop
-add-i c = omega arith
-
--- src/table.rt:51:5
-loop-less : tie.Need-loop-less Inv-loop μ-loop
-loop-less c = omega arith
-
--- src/table.rt:51:5
 loop-again : tie.Need-loop-again Inv-loop μ-loop
 loop-again c =
     passed (c .before .before .loop .inv) (c .before .loop-test .taken)
     (omega (arith, c .before .before .before .pre .0 .below (c .before .before .loop .i)))
 
--- src/table.rt:45:1
 same-length : tie.Need-same-length Inv-loop μ-loop
 same-length c = c .before .loop .inv .size
 
--- src/table.rt:45:1
 returns : tie.Need-returns Inv-loop μ-loop
 returns c nets k e d j =
     rw (← take-all (c .before .loop .i) (c .before .before .args .list .now) (c .loop-test .left))
@@ -120,16 +82,16 @@ learn-spec =
     Inv-loop
     μ-loop
     loop-holds
-    add-table
-    cast-table
-    add-table-2
-    mul-table
-    shared-slice-read-table
+    (λ c. omega arith)
+    (λ c. omega arith)
+    (λ c. omega arith)
+    (λ c. omega arith)
+    (λ c. omega arith)
     cast-table-2
     mul-table-2
     slice-write-table
-    add-i
-    loop-less
+    (λ c. omega arith)
+    (λ c. omega arith)
     loop-again
     same-length
     returns)

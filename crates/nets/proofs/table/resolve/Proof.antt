@@ -1,11 +1,11 @@
 -- `nets::table::resolve` meets its contract. The loop's invariant: the image is as it was, with the slots of the nets before place i
 -- pasted in. Assumes nothing.
-use Prim.Native.Nat.{ℕ, suc, _+_, _-_, _<_, _≤_}
+use Prim.Native.Nat.{ℕ, _+_, _-_, _<_, _≤_}
 use native.Mathlib.Numerals.{add-one}
 use native.Mathlib.Omega.{arith}
-use mathlib.Core.Path.{_≡_, refl, sym, ap, _∙_}
+use mathlib.Core.Path.{_≡_, refl, _∙_}
 use mathlib.Core.Bool.{true}
-use mathlib.Core.List.{List, [], _∷_, _++_, map, append-assoc}
+use mathlib.Core.List.{List, _++_, map, append-assoc}
 use lib.ListN.{length, getD, take, drop, set, length-set, length-map, List·getD-map}
 use lib.Seq.{paste, paste-zero, paste-suc, take-all}
 use Rattle.meaning.specs.Boxlist.{subset}
@@ -15,8 +15,6 @@ use Rattle.nets.specs.SlotLaws.{slot-below}
 use Rattle.nets.specs.Tables.{Resolvable, slots-read}
 use Rattle.nets.proofs.table.resolve.Statement.{statement}
 use Rattle.nets.proofs.table.resolve.Tie as tie
-use Rattle.nets.proofs.table.resolve.Reads as reads
-use Rattle.nets.proofs.table.resolve.Lts as lts
 
 -- The slots as the loop reads them off the table.
 abbrev slots : (table : List ℕ) (base : ℕ) (list : List ℕ) → List ℕ
@@ -42,6 +40,7 @@ known {list} {table} {base} i r here =
     let f = r .few in
     record { above = omega arith; small = omega arith }
 
+-- With the slot of the net at i stored the walk goes on.
 passed :
     {list table : List ℕ} {base : ℕ} {image₀ : List ℕ} {at : ℕ} {image : List ℕ} {i : ℕ}
     → Passed list table base image₀ at image i
@@ -58,82 +57,7 @@ passed {list} {table} {base} {image₀} {at} {image} {i} p here room =
           (paste-suc image₀ at (slots table base list) i (f 0) room (rw (length-map list f) here));
     }
 
-abbrev Inv-loop : tie.InvT-loop
-Inv-loop list table base image₀ at i₀ image i = Passed list table base image₀ at image i
-
-abbrev μ-loop : tie.MeasureT-loop
-μ-loop list table base image₀ at i₀ image i = length list - i
-
--- src/table.rt:63:5
-loop-holds : tie.Need-loop-holds Inv-loop μ-loop
-loop-holds c =
-    let args = c .args in
-    record {
-      within = omega arith;
-      size = refl;
-      pasted = paste-zero (args .image .now) (args .at) (slots (args .table .now) (args .base) (args .list .now));
-    }
-
--- src/table.rt:64:32
-mul-image : tie.Need-mul-image Inv-loop μ-loop
-mul-image c = omega arith
-
--- src/table.rt:64:32
-shared-slice-read-image : tie.Need-shared-slice-read-image Inv-loop μ-loop
-shared-slice-read-image c = omega arith
-
--- src/table.rt:64:32
-cast-image : tie.Need-cast-image Inv-loop μ-loop
-cast-image c = omega (arith, c .shared-slice-known .given (c .before .before .loop .i))
-
--- src/table.rt:64:26
-mul-image-2 : tie.Need-mul-image-2 Inv-loop μ-loop
-mul-image-2 c = omega (arith, c .shared-slice-known .given (c .before .before .loop .i))
-
--- src/table.rt:64:26
-shared-slice-read-image-2 : tie.Need-shared-slice-read-image-2 Inv-loop μ-loop
-shared-slice-read-image-2 c = c .before .before .before .before .pre .inTable .below (c .before .before .before .loop .i)
-
--- src/table.rt:64:26
-sub-image : tie.Need-sub-image Inv-loop μ-loop
-sub-image c =
-    known (c .before .before .before .loop .i) (c .before .before .before .before .pre) (c .before .before .loop-test .taken) .above
-
--- src/table.rt:64:25
-cast-image-2 : tie.Need-cast-image-2 Inv-loop μ-loop
-cast-image-2 c =
-    record {
-      fits = known (c .before .before .before .loop .i) (c .before .before .before .before .pre) (c .before .before .loop-test .taken) .small;
-    }
-
--- src/table.rt:64:15
-add-image : tie.Need-add-image Inv-loop μ-loop
-add-image c = omega arith
-
--- src/table.rt:64:9
-mul-image-3 : tie.Need-mul-image-3 Inv-loop μ-loop
-mul-image-3 c = omega arith
-
--- src/table.rt:64:9
-slice-write-image : tie.Need-slice-write-image Inv-loop μ-loop
-slice-write-image c = omega arith
-
--- src/table.rt:65:9
-add-i : tie.Need-add-i Inv-loop μ-loop
-add-i c = omega arith
-
--- src/table.rt:63:5
-loop-less : tie.Need-loop-less Inv-loop μ-loop
-loop-less c = omega arith
-
--- src/table.rt:63:5
-loop-again : tie.Need-loop-again Inv-loop μ-loop
-loop-again c = passed (c .before .before .before .loop .inv) (c .before .before .loop-test .taken) (omega arith)
-
--- src/table.rt:58:1
-same-length : tie.Need-same-length Inv-loop μ-loop
-same-length c = c .before .loop .inv .size
-
+-- At the end of the walk all slots stand in the image, and they are those of any list of nets that the table knows.
 whole :
     {table : List ℕ} {base : ℕ} {nets : List ℕ} (list image : List ℕ) (at i : ℕ) → i ≤ length list → length list ≤ i
     → Knows table base nets
@@ -145,7 +69,46 @@ whole {table} {base} {nets} list image at i within end k s =
     rw (e, take-all (length list) (slots table base list) (omega (arith, length-map list (λ (x : ℕ). getD table x 0 - base))), slots-read k list s)
     (append-assoc (take at image) (map (λ (x : ℕ). slotOf x nets) list) (drop (at + length list) image))
 
--- src/table.rt:58:1
+abbrev Inv-loop : tie.InvT-loop
+Inv-loop list table base image₀ at i₀ image i = Passed list table base image₀ at image i
+
+abbrev μ-loop : tie.MeasureT-loop
+μ-loop list table base image₀ at i₀ image i = length list - i
+
+loop-holds : tie.Need-loop-holds Inv-loop μ-loop
+loop-holds c =
+    let args = c .args in
+    record {
+      within = omega arith;
+      size = refl;
+      pasted = paste-zero (args .image .now) (args .at) (slots (args .table .now) (args .base) (args .list .now));
+    }
+
+cast-image : tie.Need-cast-image Inv-loop μ-loop
+cast-image c = omega (arith, c .shared-slice-known .given (c .before .before .loop .i))
+
+mul-image-2 : tie.Need-mul-image-2 Inv-loop μ-loop
+mul-image-2 c = omega (arith, c .shared-slice-known .given (c .before .before .loop .i))
+
+shared-slice-read-image-2 : tie.Need-shared-slice-read-image-2 Inv-loop μ-loop
+shared-slice-read-image-2 c = c .before .before .before .before .pre .inTable .below (c .before .before .before .loop .i)
+
+sub-image : tie.Need-sub-image Inv-loop μ-loop
+sub-image c =
+    known (c .before .before .before .loop .i) (c .before .before .before .before .pre) (c .before .before .loop-test .taken) .above
+
+cast-image-2 : tie.Need-cast-image-2 Inv-loop μ-loop
+cast-image-2 c =
+    record {
+      fits = known (c .before .before .before .loop .i) (c .before .before .before .before .pre) (c .before .before .loop-test .taken) .small;
+    }
+
+loop-again : tie.Need-loop-again Inv-loop μ-loop
+loop-again c = passed (c .before .before .before .loop .inv) (c .before .before .loop-test .taken) (omega arith)
+
+same-length : tie.Need-same-length Inv-loop μ-loop
+same-length c = c .before .loop .inv .size
+
 returns : tie.Need-returns Inv-loop μ-loop
 returns c nets k s =
     c .before .loop .inv .pasted
@@ -162,18 +125,18 @@ resolve-spec =
     Inv-loop
     μ-loop
     loop-holds
-    mul-image
-    shared-slice-read-image
+    (λ c. omega arith)
+    (λ c. omega arith)
     cast-image
     mul-image-2
     shared-slice-read-image-2
     sub-image
     cast-image-2
-    add-image
-    mul-image-3
-    slice-write-image
-    add-i
-    loop-less
+    (λ c. omega arith)
+    (λ c. omega arith)
+    (λ c. omega arith)
+    (λ c. omega arith)
+    (λ c. omega arith)
     loop-again
     same-length
     returns)
