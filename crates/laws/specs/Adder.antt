@@ -1,1 +1,5 @@
--- Laws of this topic.
+-- The written adder of width n (document 01, 'Written modules'), each fact proved once over the width.
+pub mod Nets
+pub mod Ripple
+pub mod Outputs
+pub mod Sum
