@@ -3,3 +3,7 @@ pub mod Nets
 pub mod Ripple
 pub mod Outputs
 pub mod Sum
+pub mod Figures
+pub mod Delay
+pub mod Tests
+pub mod Accepted
