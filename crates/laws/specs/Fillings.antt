@@ -21,7 +21,7 @@ common-known (known false) (known false) e = (e, e)
 common-known (known false) un e = absurd (un-not-known e)
 common-known un w e = absurd (un-not-known e)
 
-pub common-same : (v : Val) → common v v ≡ v
+common-same : (v : Val) → common v v ≡ v
 common-same (known true) = refl
 common-same (known false) = refl
 common-same un = refl
