@@ -5,5 +5,8 @@ pub mod Outputs
 pub mod Sum
 pub mod Figures
 pub mod Delay
+pub mod Numbers
+pub mod Bytes
 pub mod Tests
 pub mod Accepted
+pub mod Written

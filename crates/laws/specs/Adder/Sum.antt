@@ -10,7 +10,7 @@ use Rattle.meaning.specs.Values.{Val, known}
 use Rattle.meaning.specs.Gates.{gate, gates, gateValue}
 use Rattle.meaning.specs.Evaluation.{evaluate, run}
 use Rattle.meaning.specs.Adder.{adder, bit, binary}
-use Rattle.laws.specs.Fillings.{on-known}
+use Rattle.laws.specs.Gates.{gate-on-known}
 use Rattle.laws.specs.Adder.Ripple.{ripple, fullSum, fullCarry, length-of-ripple, map-of-ripple}
 use Rattle.laws.specs.Adder.Outputs.{adder-outputs}
 
@@ -45,10 +45,6 @@ unfolding sumBits
 length-of-sumBits = length-of-ripple (fullSum gateBit) (fullCarry gateBit)
 
 -- On known values the chain of the gates is the chain on bits.
-gate-on-known : (number : ℕ) (bits : List Bool) → gateValue number (map known bits) ≡ known (gateBit number bits)
-unfolding gateValue
-gate-on-known number = on-known (gate number .function)
-
 known-sum : (x y z : Bool) → fullSum gateValue (known x) (known y) (known z) ≡ known (fullSum gateBit x y z)
 known-sum x y z = rw (gate-on-known 9 (x ∷ y ∷ [])) (gate-on-known 9 (gateBit 9 (x ∷ y ∷ []) ∷ z ∷ []))
 
