@@ -9,4 +9,6 @@ pub mod Numbers
 pub mod Bytes
 pub mod Tests
 pub mod Accepted
+pub mod ByTest
 pub mod Written
+pub mod Rows

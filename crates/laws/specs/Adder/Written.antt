@@ -1,6 +1,6 @@
 -- The written adder is within the ceilings, so reading its bytes gives it back, and the check accepts them.
 use mathlib.Core.Path.{_≡_, refl, ap, _∙_}
-use mathlib.Core.Bool.{Bool, true, false, _&&_, and-eq-true-iff}
+use mathlib.Core.Bool.{Bool, true, _&&_, and-eq-true-iff}
 use mathlib.Core.List.{List, [], _∷_, _++_, append-nil}
 use Prim.Native.Nat.{ℕ, zero, suc, _+_, _*_, _≤_}
 use native.Mathlib.Omega.{arith}
@@ -8,54 +8,55 @@ use lib.Dec.{lit≤, leb}
 use borrow.Author.Tests.{leb-true}
 use lib.ListN.{length, length-append}
 use Rattle.meaning.specs.Lists.{All, none, more}
+use Rattle.meaning.specs.Syntax.{Occurrence, Module}
 use Rattle.meaning.specs.Layout.{encode}
-use Rattle.meaning.specs.Reading.{mostNets, holds, read}
+use Rattle.meaning.specs.Reading.{mostNets, mostOccurrences, holds, read}
 use Rattle.meaning.specs.Ceilings.{Small, mostNumber, NetsWithin, OccurrenceWithin, ModuleWithin, Within}
 use Rattle.meaning.specs.Verdict.{good, verdict, verdictOf}
 use Rattle.meaning.specs.Adder.{upFrom, adderCells, rippleAdder, fullAdder, halfAdder, adder}
 use Rattle.laws.specs.RoundTrip.{round-trip}
+use Rattle.laws.specs.Adder.ByTest.{every, all-by-test}
 use Rattle.laws.specs.Adder.Nets.{length-upFrom}
 use Rattle.laws.specs.Adder.Numbers.{length-of-cells}
 use Rattle.laws.specs.Adder.Bytes.{length-of-adder}
 use Rattle.laws.specs.Adder.Accepted.{adder-accepted}
 
--- Nets that are written out are within by a test.
-abbrev allSmall : List ℕ → Bool
-allSmall [] = true
-allSmall (x ∷ xs) = leb x mostNumber && allSmall xs
+-- What is written out is within by tests.
+abbrev isSmall : ℕ → Bool
+isSmall x = leb x mostNumber
 
-small-by-test : (nets : List ℕ) → allSmall nets ≡ true → All Small nets
-small-by-test [] test = none
-small-by-test (x ∷ xs) test =
-    let both = and-eq-true-iff (leb x mostNumber) (allSmall xs) .0 test in
-    more (leb-true x mostNumber (both .0)) (small-by-test xs (both .1))
+abbrev areFew : List ℕ → Bool
+areFew nets = leb (length nets) mostNets && every isSmall nets
 
-nets-by-test : (nets : List ℕ) → leb (length nets) mostNets ≡ true → allSmall nets ≡ true → NetsWithin nets
-nets-by-test nets few small = record { count = leb-true (length nets) mostNets few; numbers = small-by-test nets small }
+nets-by-test : (nets : List ℕ) → areFew nets ≡ true → NetsWithin nets
+nets-by-test nets passed =
+    let both = and-eq-true-iff (leb (length nets) mostNets) _ .0 passed in
+    record { count = leb-true _ _ (both .0); numbers = all-by-test isSmall (λ x. leb-true x mostNumber) nets (both .1) }
+
+abbrev fits : Occurrence → Bool
+fits o = isSmall (o .refers) && (areFew (o .drives) && areFew (o .takes))
+
+occurrence-by-test : (o : Occurrence) → fits o ≡ true → OccurrenceWithin o
+occurrence-by-test o passed =
+    let both = and-eq-true-iff (isSmall (o .refers)) _ .0 passed in
+    let nets = and-eq-true-iff (areFew (o .drives)) _ .0 (both .1) in
+    record { drives = nets-by-test _ (nets .0); refers = leb-true _ _ (both .0); takes = nets-by-test _ (nets .1) }
+
+module-by-test : (m : Module) → Small (m .number) → areFew (m .inputs) ≡ true → areFew (m .outputs) ≡ true
+    → length (m .occurrences) ≤ mostOccurrences → every fits (m .occurrences) ≡ true → ModuleWithin m
+module-by-test m number inputs outputs count occurrences =
+    record {
+      number = number;
+      inputs = nets-by-test _ inputs;
+      outputs = nets-by-test _ outputs;
+      count = count;
+      occurrences = all-by-test fits occurrence-by-test _ occurrences;
+    }
 
 tail-within : All ModuleWithin (fullAdder ∷ halfAdder ∷ [])
 tail-within =
-    more
-    (record {
-      number = lit≤ tt;
-      inputs = nets-by-test _ refl refl;
-      outputs = nets-by-test _ refl refl;
-      count = lit≤ tt;
-      occurrences =
-          more (record { drives = nets-by-test _ refl refl; refers = lit≤ tt; takes = nets-by-test _ refl refl })
-          (more (record { drives = nets-by-test _ refl refl; refers = lit≤ tt; takes = nets-by-test _ refl refl })
-          (more (record { drives = nets-by-test _ refl refl; refers = lit≤ tt; takes = nets-by-test _ refl refl }) none));
-    })
-    (more
-    (record {
-      number = lit≤ tt;
-      inputs = nets-by-test _ refl refl;
-      outputs = nets-by-test _ refl refl;
-      count = lit≤ tt;
-      occurrences =
-          more (record { drives = nets-by-test _ refl refl; refers = lit≤ tt; takes = nets-by-test _ refl refl })
-          (more (record { drives = nets-by-test _ refl refl; refers = lit≤ tt; takes = nets-by-test _ refl refl }) none);
-    })
+    more (module-by-test fullAdder (lit≤ tt) refl refl (lit≤ tt) refl)
+    (more (module-by-test halfAdder (lit≤ tt) refl refl (lit≤ tt) refl)
     none)
 
 small-run : (first n : ℕ) (nets : List ℕ) → first + n ≤ suc mostNumber → All Small nets → All Small (upFrom first n ++ nets)
