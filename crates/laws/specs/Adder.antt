@@ -3,8 +3,10 @@ pub mod Nets
 pub mod Ripple
 pub mod Outputs
 pub mod Sum
+pub mod Early
 pub mod Figures
 pub mod Delay
+pub mod Load
 pub mod Numbers
 pub mod Bytes
 pub mod Tests

@@ -43,7 +43,7 @@ pub adder-nets : (n : ℕ) → netCount (rippleAdder n) ≡ 4 * n + 1
 unfolding netCount rippleAdder
 adder-nets n = omega (arith, length-upFrom 0 (2 * n + 1), driven-by-cells 1 (n + 1) (2 * n + 1) (3 * n + 1) 0 n)
 
-referred-by-cells : (later : ℕ → ℕ) (a b s k before n : ℕ) → 1 ≤ n → largestReferred later (adderCells a b s k before n) ≡ later 17
+pub referred-by-cells : (later : ℕ → ℕ) (a b s k before n : ℕ) → 1 ≤ n → largestReferred later (adderCells a b s k before n) ≡ later 17
 unfolding largestReferred adderCells
 referred-by-cells later a b s k before zero some = omega arith
 referred-by-cells later a b s k before (suc zero) some = omega arith
