@@ -13,4 +13,5 @@ pub mod Tests
 pub mod Accepted
 pub mod ByTest
 pub mod Written
+pub mod Small
 pub mod Rows

@@ -1,7 +1,9 @@
 -- Facts about lists that are written one after the other (`each`), and about what holds of every entry (`All`).
-use Prim.Native.Nat.{ℕ}
+use Prim.Native.Nat.{ℕ, zero, suc, _<_}
+use native.Mathlib.Omega.{arith}
 use mathlib.Core.Path.{_≡_, refl}
 use mathlib.Core.List.{List, [], _∷_, _++_, append-assoc}
+use lib.ListN.{length, getD}
 use Rattle.meaning.specs.Lists.{All, none, more}
 use Rattle.meaning.specs.Layout.{each}
 
@@ -26,3 +28,8 @@ all-behind (x ∷ xs) (more px h) = all-behind xs h
 pub all-map : {A : Type 0} {P Q : A → Type 0} {xs : List A} → ((x : A) → P x → Q x) → All P xs → All Q xs
 all-map f none = none
 all-map f (more {x = x} px h) = more (f x px) (all-map f h)
+
+pub all-at : {A : Type 0} {P : A → Type 0} {xs : List A} → All P xs → (i : ℕ) (d : A) → i < length xs → P (getD xs i d)
+all-at none i d h = absurd (omega arith)
+all-at (more px ps) zero d h = px
+all-at (more px ps) (suc i) d h = all-at ps i d (omega arith)

@@ -14,6 +14,7 @@ mostNumber = 16383
 abbrev pub Small : ℕ → Type 0
 Small n = n ≤ mostNumber
 
+-- At most 192 entries in any list of nets.
 pub record NetsWithin (nets : List ℕ) : Type 0 where
   pub count : length nets ≤ mostNets
   pub numbers : All Small nets
@@ -23,6 +24,7 @@ pub record OccurrenceWithin (o : Occurrence) : Type 0 where
   pub refers : Small (o .refers)
   pub takes : NetsWithin (o .takes)
 
+-- At most 4,096 occurrences in a module.
 pub record ModuleWithin (m : Module) : Type 0 where
   pub number : Small (m .number)
   pub inputs : NetsWithin (m .inputs)
@@ -30,14 +32,16 @@ pub record ModuleWithin (m : Module) : Type 0 where
   pub count : length (m .occurrences) ≤ mostOccurrences
   pub occurrences : All OccurrenceWithin (m .occurrences)
 
+-- At most 128 modules.
 pub record ModulesWithin (ms : List Module) : Type 0 where
   pub count : length ms ≤ mostModules
   pub modules : All ModuleWithin ms
 
+-- At most 65,535 bytes.
 pub record Within (ms : List Module) : Type 0 where
   pub modules : ModulesWithin ms
   pub bytes : length (encode ms) ≤ mostBytes
 
--- A list of numbers that a file on a disk can hold.
+-- Every entry is a byte.
 abbrev pub Bytes : List ℕ → Type 0
 Bytes = All (λ b. b < 256)

@@ -1,12 +1,11 @@
 -- The delay of the written adder: arrivals are its outputs on times, so they are the chain of full adders on times. By unit delay the
 -- first carry arrives at 3 and each further one 2 later, so that the last arrives at 2n+1 and no sum after it.
-use mathlib.Core.Path.{_≡_, refl, ap, _∙_, sym}
-use mathlib.Core.List.{List, [], _∷_, _++_}
+use mathlib.Core.Path.{_≡_, ap, _∙_}
+use mathlib.Core.List.{List, _∷_, _++_}
 use Prim.Native.Nat.{ℕ, zero, suc, _+_, _*_, _≤_}
 use native.Mathlib.Omega.{arith}
 use lib.ListN.{length, replicate, length-replicate, replicate-append-replicate}
 use Rattle.meaning.specs.Boxlist.{assoc}
-use Rattle.meaning.specs.Evaluation.{run}
 use Rattle.meaning.specs.Figures.{largest, arrivals, inputCount, delayBy, delay}
 use Rattle.meaning.specs.Adder.{upFrom, rippleAdder, adder}
 use Rattle.laws.specs.Adder.Nets.{length-upFrom}

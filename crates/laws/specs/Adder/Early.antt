@@ -1,8 +1,8 @@
 -- How early a sum is known: the lowest outputs of the written adder depend on the carry in and the lowest values of both numbers
 -- alone. So where those are known, the lowest sum bits are known and are those of the true sum, whatever the upper bits will be.
-use mathlib.Core.Path.{_≡_, refl, ap, ap₂, _∙_, sym}
+use mathlib.Core.Path.{_≡_, ap, _∙_}
 use mathlib.Core.Bool.{Bool, false}
-use mathlib.Core.List.{List, [], _∷_, _++_, map, map-append}
+use mathlib.Core.List.{List, _∷_, _++_, map, map-append}
 use Prim.Native.Nat.{ℕ, _+_}
 use native.Mathlib.Omega.{arith}
 use lib.ListN.{length, take, length-map}
@@ -10,7 +10,7 @@ use Rattle.meaning.specs.Values.{Val, known}
 use Rattle.meaning.specs.Gates.{gateValue}
 use Rattle.meaning.specs.Evaluation.{run, evaluate}
 use Rattle.meaning.specs.Adder.{adder, bit, binary}
-use Rattle.laws.specs.Adder.Ripple.{ripple, fullSum, fullCarry, lowest-of-ripple}
+use Rattle.laws.specs.Adder.Ripple.{fullSum, fullCarry, lowest-of-ripple}
 use Rattle.laws.specs.Adder.Outputs.{oneOutput, adder-outputs}
 use Rattle.laws.specs.Adder.Sum.{sumBits, adder-on-known, binary-of-sumBits}
 

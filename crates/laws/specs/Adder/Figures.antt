@@ -1,17 +1,13 @@
 -- The figures of the written adder: at width n it has 5n gates, delay 2n+1, expanded size 8n and room 4n+13.
-use mathlib.Core.Path.{_≡_, refl, ap, _∙_, sym}
-use mathlib.Core.List.{List, [], _∷_, _++_}
+use mathlib.Core.Path.{_≡_, refl}
+use mathlib.Core.List.{[], _∷_}
 use Prim.Native.Nat.{ℕ, zero, suc, _+_, _*_, _≤_}
 use native.Mathlib.Omega.{arith}
-use lib.ListN.{length, length-append, replicate, length-replicate, replicate-append-replicate}
-use Rattle.meaning.specs.Boxlist.{assoc}
+use lib.ListN.{length}
 use Rattle.meaning.specs.Limits.{driven, netCount, bodySize, expandedSize}
-use Rattle.meaning.specs.Evaluation.{run}
-use Rattle.meaning.specs.Figures.{bodyWeight, gateWeight, gateCount, largestReferred, room, largest, arrivals, inputCount, delayBy, delay}
-use Rattle.meaning.specs.Adder.{upFrom, adderCells, rippleAdder, fullAdder, halfAdder, adder}
+use Rattle.meaning.specs.Figures.{bodyWeight, gateWeight, gateCount, largestReferred, room}
+use Rattle.meaning.specs.Adder.{adderCells, rippleAdder, fullAdder, halfAdder, adder}
 use Rattle.laws.specs.Adder.Nets.{length-upFrom}
-use Rattle.laws.specs.Adder.Ripple.{ripple, fullSum, fullCarry}
-use Rattle.laws.specs.Adder.Outputs.{adder-outputs}
 
 -- Every cell refers to the full adder, so each figure of the cells is the full adder's times the width, or the full adder's own.
 weight-of-cells : (weight later : ℕ → ℕ) (a b s k before n : ℕ) → bodyWeight weight later (adderCells a b s k before n) ≡ n * later 17

@@ -1,27 +1,19 @@
 -- Nets numbered one after the other, as the written adder numbers them: how many they are, and what they hold in an environment.
 use mathlib.Core.Path.{_≡_, refl, ap, ap₂, _∙_}
-use mathlib.Core.Bool.{Bool, true, false, cond}
 use mathlib.Core.List.{List, [], _∷_, _++_}
 use Prim.Native.Nat.{ℕ, zero, suc, _+_, _<_, _≤_}
 use native.Mathlib.Nat.{zero-add, add-zero, add-suc, suc-add, not-suc-le-zero}
 use native.Mathlib.Omega.{arith}
-use lib.Dec.{eqb}
 use lib.ListN.{length, getD, take, drop}
 use lib.Seq.{drop-cons}
 use borrow.Author.Tests.{eq-eqb, ne-eqb}
-use Rattle.meaning.specs.Evaluation.{Env, Binding, look, lookAll, pairs}
+use Rattle.meaning.specs.Evaluation.{Env, look, lookAll, pairs}
 use Rattle.meaning.specs.Adder.{upFrom}
 
 pub length-upFrom : (first count : ℕ) → length (upFrom first count) ≡ count
 unfolding upFrom
 length-upFrom first zero = refl
 length-upFrom first (suc n) = ap suc (length-upFrom (suc first) n)
-
--- A run of nets is one run after another.
-pub upFrom-add : (first m n : ℕ) → upFrom first (m + n) ≡ upFrom first m ++ upFrom (first + m) n
-unfolding upFrom
-upFrom-add first zero n = rw (zero-add n, add-zero first)
-upFrom-add first (suc m) n = rw (suc-add m n, add-suc first m, ← suc-add first m) (ap (λ (ns : List ℕ). first ∷ ns) (upFrom-add (suc first) m n))
 
 module _ {A : Type 0} (none : A) where
   -- A net that a binding gives is read there, any other behind it.

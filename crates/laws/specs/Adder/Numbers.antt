@@ -1,6 +1,6 @@
 -- The numbers of the written adder in the order of its file, as a loop writes them: what stands in front, the inputs, the outputs,
 -- one cell after the other, and the two modules behind, which are the same at each width.
-use mathlib.Core.Path.{_≡_, refl, ap, _∙_}
+use mathlib.Core.Path.{_≡_, refl, ap}
 use mathlib.Core.List.{List, [], _∷_, _++_, append-assoc}
 use Prim.Native.Nat.{ℕ, zero, suc, _+_, _*_}
 use native.Mathlib.Omega.{arith}

@@ -1,6 +1,6 @@
 -- The outputs of the written adder are the chain of full adders over its inputs, for values of any kind and whatever a gate makes of
 -- them: the sum on known bits, the delay and how early a sum is known all follow from this one law.
-use mathlib.Core.Path.{_≡_, refl, ap, ap₂, _∙_, sym}
+use mathlib.Core.Path.{_≡_, refl, ap, ap₂, _∙_}
 use mathlib.Core.List.{List, [], _∷_, _++_}
 use Prim.Native.Nat.{ℕ, zero, suc, _+_, _*_, _<_, _≤_}
 use native.Mathlib.Nat.{zero-add}

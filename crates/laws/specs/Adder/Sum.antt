@@ -1,14 +1,14 @@
 -- On known bits the written adder adds: its outputs are known, one more than the width, and as a number they are the carry in plus
 -- the two numbers.
-use mathlib.Core.Path.{_≡_, refl, ap, _∙_, sym}
+use mathlib.Core.Path.{_≡_, refl, _∙_}
 use mathlib.Core.Bool.{Bool, true, false}
 use mathlib.Core.List.{List, [], _∷_, _++_, map, map-append}
-use Prim.Native.Nat.{ℕ, zero, suc, _+_, _*_}
+use Prim.Native.Nat.{ℕ, suc, _+_, _*_}
 use native.Mathlib.Omega.{arith}
 use lib.ListN.{length, length-map}
 use Rattle.meaning.specs.Values.{Val, known}
 use Rattle.meaning.specs.Gates.{gate, gates, gateValue}
-use Rattle.meaning.specs.Evaluation.{evaluate, run}
+use Rattle.meaning.specs.Evaluation.{evaluate}
 use Rattle.meaning.specs.Adder.{adder, bit, binary}
 use Rattle.laws.specs.Gates.{gate-on-known}
 use Rattle.laws.specs.Adder.Ripple.{ripple, fullSum, fullCarry, length-of-ripple, map-of-ripple}
