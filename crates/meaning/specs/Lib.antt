@@ -6,12 +6,15 @@ pub mod Gates
 pub mod Syntax
 pub mod Layout
 pub mod Reading
+pub mod Members
 pub mod Ceilings
 pub mod Boxlist
 pub mod Limits
 pub mod Verdict
+pub mod Rules
 pub mod Evaluation
 pub mod Heval
 pub mod Adder
 pub mod Figures
 pub mod Flattening
+pub mod Calls
