@@ -1,7 +1,7 @@
--- The check accepts the written adder.
+-- The check accepts the written adder: its nets are numbered apart, each cell uses only what is there before it and drives what is
+-- not, and the outputs are driven.
 use mathlib.Core.Path.{_≡_, refl}
 use mathlib.Core.Bool.{true, false}
-use mathlib.Core.Logic.{_⊎_, inl, inr}
 use mathlib.Core.List.{List, [], _∷_, _++_}
 use Prim.Native.Nat.{ℕ, zero, suc, _+_, _*_, _<_, _≤_}
 use native.Mathlib.Omega.{arith}
@@ -12,7 +12,7 @@ use Rattle.meaning.specs.Boxlist.{member, disjoint, duplicates, subset, assoc, 
 use Rattle.meaning.specs.Limits.{driven, netCount, bodySize, expandedSize}
 use Rattle.meaning.specs.Verdict.{good, occurrenceVerdict, bodyVerdict, moduleVerdict, modulesVerdict, sizesVerdict, fileVerdict}
 use Rattle.meaning.specs.Adder.{upFrom, adderCells, rippleAdder, fullAdder, halfAdder, adder}
-use Rattle.laws.specs.Adder.Tests.{member-cons, member-append, member-of-run, not-of-run, duplicates-after-run, duplicates-of-run, disjoint-run, subset-after-run}
+use Rattle.laws.specs.Adder.Distinct.{member-cons, member-append, member-of-run, not-of-run, duplicates-after-run, duplicates-of-run, disjoint-run, subset-after-run}
 use Rattle.laws.specs.Adder.Figures.{adder-nets, adder-size}
 
 -- The modules behind the first.
@@ -39,12 +39,19 @@ record Ready (a b s k before n : ℕ) (signals : List ℕ) : Type 0 where
 held-behind : (x s k : ℕ) (signals : List ℕ) → member x signals ≡ true → member x (s ∷ k ∷ signals) ≡ true
 held-behind x s k signals held = member-cons x s (k ∷ signals) (λ other. member-cons x k signals (λ another. held))
 
-fresh-behind : (x s k : ℕ) (signals : List ℕ) → (x ≡ s → ⊥) → (x ≡ k → ⊥) → member x signals ≡ false → member x (s ∷ k ∷ signals) ≡ false
+fresh-behind :
+    (x s k : ℕ) (signals : List ℕ)
+    → (x ≡ s → ⊥)
+    → (x ≡ k → ⊥)
+    → member x signals ≡ false
+    → member x (s ∷ k ∷ signals) ≡ false
 unfolding member
 fresh-behind x s k signals other another fresh = rw (ne-eqb x s other, ne-eqb x k another) fresh
 
 -- After the first cell the rest have it too.
-ready-rest : {a b s k before n : ℕ} {signals : List ℕ} → Ready a b s k before (suc n) signals
+ready-rest :
+    {a b s k before n : ℕ} {signals : List ℕ}
+    → Ready a b s k before (suc n) signals
     → Ready (suc a) (suc b) (suc s) (suc k) k n (s ∷ k ∷ signals)
 ready-rest {s = s} {k = k} {signals = signals} r =
     record {
@@ -58,7 +65,9 @@ ready-rest {s = s} {k = k} {signals = signals} r =
       order = omega arith;
     }
 
-cells-accepted : (place a b s k before n : ℕ) (signals : List ℕ) → Ready a b s k before n signals
+cells-accepted :
+    (place a b s k before n : ℕ) (signals : List ℕ)
+    → Ready a b s k before n signals
     → bodyVerdict place (adderCells a b s k before n) signals tail ≡ good
 unfolding bodyVerdict occurrenceVerdict adderCells duplicates disjoint subset arityOkp assoc member
 cells-accepted place a b s k before zero signals r = refl
@@ -73,19 +82,18 @@ cells-accepted place a b s k before (suc n) signals r =
     )
     (cells-accepted place (suc a) (suc b) (suc s) (suc k) k n (s ∷ k ∷ signals) (ready-rest r))
 
--- The cells drive their sums and carries.
-Drives : (s k n x : ℕ) → Type 0
-Drives s k n x = ((s ≤ x) × (x < s + n)) ⊎ ((k ≤ x) × (x < k + n))
+-- The nets that some cells drive: their sums and their carries.
+data Drives (s k n x : ℕ) : Type 0 where
+  sum : s ≤ x → x < s + n → Drives s k n x
+  carry : k ≤ x → x < k + n → Drives s k n x
 
 drives-rest : (s k n x : ℕ) → Drives s k (suc n) x → (x ≡ s → ⊥) → (x ≡ k → ⊥) → Drives (suc s) (suc k) n x
-unfolding Drives
-drives-rest s k n x (inl h) other another = inl (omega arith)
-drives-rest s k n x (inr h) other another = inr (omega arith)
+drives-rest s k n x (sum low high) other another = sum (omega arith) (omega arith)
+drives-rest s k n x (carry low high) other another = carry (omega arith) (omega arith)
 
 drives-none : (s k x : ℕ) → Drives s k 0 x → ⊥
-unfolding Drives
-drives-none s k x (inl h) = omega arith
-drives-none s k x (inr h) = omega arith
+drives-none s k x (sum low high) = omega arith
+drives-none s k x (carry low high) = omega arith
 
 cells-drive : (a b s k before n x : ℕ) → Drives s k n x → member x (driven (adderCells a b s k before n)) ≡ true
 unfolding driven adderCells
@@ -116,15 +124,23 @@ module _ (n : ℕ) (some : 1 ≤ n) where
 
   inputs-apart : disjoint (upFrom 0 (2 * n + 1)) outputs ≡ true
   unfolding member
-  inputs-apart = disjoint-run 0 (2 * n + 1) outputs (λ y low high.
-      rw (member-append y (upFrom (2 * n + 1) n) ((4 * n) ∷ []), not-of-run y (2 * n + 1) n (λ x least most. omega arith), ne-eqb y (4 * n) (omega arith)))
+  inputs-apart =
+      disjoint-run 0 (2 * n + 1) outputs (λ y low high.
+      rw (
+        member-append y (upFrom (2 * n + 1) n) ((4 * n) ∷ []),
+        not-of-run y (2 * n + 1) n (λ x least most. omega arith),
+        ne-eqb y (4 * n) (omega arith),
+      ))
 
   outputs-driven : subset outputs (driven (adderCells 1 (n + 1) (2 * n + 1) (3 * n + 1) 0 n)) ≡ true
-  unfolding subset Drives
+  unfolding subset
   outputs-driven =
       let nets = driven (adderCells 1 (n + 1) (2 * n + 1) (3 * n + 1) 0 n) in
       let drives = cells-drive 1 (n + 1) (2 * n + 1) (3 * n + 1) 0 n in
-      rw (subset-after-run (2 * n + 1) n ((4 * n) ∷ []) nets (λ y low high. drives y (inl (low, high))), drives (4 * n) (inr (omega arith)))
+      rw (
+        subset-after-run (2 * n + 1) n ((4 * n) ∷ []) nets (λ y low high. drives y (sum low high)),
+        drives (4 * n) (carry (omega arith) (omega arith)),
+      )
 
   module _ (most : n ≤ 64) where
     first-accepted : moduleVerdict 0 (rippleAdder n) tail ≡ good

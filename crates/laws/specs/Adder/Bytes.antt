@@ -7,10 +7,10 @@ use native.Mathlib.Decide.{decLt}
 use native.Mathlib.Omega.{arith}
 use lib.ListN.{length, length-append}
 use Rattle.meaning.specs.Layout.{each, numberBytes, fileNumbers, encode}
-use Rattle.meaning.specs.Adder.{upFrom, adder}
+use Rattle.meaning.specs.Adder.{upFrom, adderCells, adder}
 use Rattle.laws.specs.Lists.{each-append}
 use Rattle.laws.specs.Written.{bytes-of-low, bytes-of-high}
-use Rattle.laws.specs.Adder.Numbers.{cellsNumbers, numbers-of-cell, numbers-of-no-cell, tailNumbers, numbers-of-adder}
+use Rattle.laws.specs.Adder.Numbers.{cellsNumbers, numbers-of-cell, tailNumbers, numbers-of-adder}
 
 -- The bytes of numbers.
 unfoldable byteCount : List ℕ → ℕ
@@ -61,22 +61,17 @@ count-of-cell a b s k before n =
     (simp byteCount-cons
     (omega (arith, low-count 2 (omega arith), low-count 17 (omega arith), low-count 3 (omega arith))))
 
--- The arguments on a's nets have one byte each, those on b's nets one more from 128 on, the sums and carries at most two.
-count-of-cells : (a b s k before n : ℕ) → a + n ≤ 127
-    → byteCount (cellsNumbers a b s k before (suc n)) ≤ length (numberBytes before) + 9 + 11 * n + min (suc n) (b + suc n - 128)
-unfolding byteCount each
-count-of-cells a b s k before zero low =
-    let cell = count-of-cell a b s k before zero in
-    let none = ap byteCount (numbers-of-no-cell (suc a) (suc b) (suc s) (suc k) k) in
-    let sum = most-count s in
-    let carry = most-count k in
-    let argument = low-count a (omega arith) in
-    ⊎-elim (λ w. omega arith) (λ w. omega arith) (count-of-number b)
+-- The arguments on a's nets have one byte each, those on b's nets one more from 128 on, the others at most two.
+count-of-cells :
+    (a b s k before n : ℕ) → a + n ≤ 128 → byteCount (cellsNumbers a b s k before n) ≤ 11 * n + min n (b + n - 128)
+unfolding byteCount cellsNumbers each adderCells
+count-of-cells a b s k before zero low = omega arith
 count-of-cells a b s k before (suc n) low =
-    let cell = count-of-cell a b s k before (suc n) in
+    let cell = count-of-cell a b s k before n in
     let rest = count-of-cells (suc a) (suc b) (suc s) (suc k) k n (omega arith) in
     let sum = most-count s in
     let carry = most-count k in
+    let carry-before = most-count before in
     let argument = low-count a (omega arith) in
     ⊎-elim (λ w. omega arith) (λ w. omega arith) (count-of-number b)
 
@@ -112,12 +107,26 @@ count-of-adder n =
     )
     (omega arith)
 
+-- The first cell's arguments have one byte each.
+count-of-all-cells :
+    (n : ℕ) → 1 ≤ n → n ≤ 64 → byteCount (cellsNumbers 1 (n + 1) (2 * n + 1) (3 * n + 1) 0 n) ≤ 11 * n
+count-of-all-cells zero some most = omega arith
+count-of-all-cells (suc m) some most =
+    let n = suc m in
+    omega (
+      arith,
+      count-of-cell 1 (n + 1) (2 * n + 1) (3 * n + 1) 0 m,
+      most-count (2 * n + 1),
+      most-count (3 * n + 1),
+      low-count 1 (omega arith),
+      low-count (n + 1) (omega arith),
+      low-count 0 (omega arith),
+      count-of-cells 2 (suc (n + 1)) (suc (2 * n + 1)) (suc (3 * n + 1)) (3 * n + 1) m (omega arith),
+    )
+
 pub length-of-adder : (n : ℕ) → 1 ≤ n → n ≤ 64 → length (encode (adder n)) ≤ 15 * n + 59
 unfolding encode byteCount
-length-of-adder zero some most = omega arith
-length-of-adder (suc m) some most =
-    let n = suc m in
-    let cells = count-of-cells 1 (n + 1) (2 * n + 1) (3 * n + 1) 0 m (omega arith) in
+length-of-adder n some most =
     omega (
       arith,
       count-of-adder n,
@@ -127,5 +136,8 @@ length-of-adder (suc m) some most =
       count-of-run (2 * n + 1) n,
       most-count (4 * n),
       low-count n (omega arith),
-      low-count 0 (omega arith),
+      count-of-all-cells n some most,
     )
+
+pub most-bytes-of-adder : (n : ℕ) → 1 ≤ n → n ≤ 64 → length (encode (adder n)) ≤ 1019
+most-bytes-of-adder n some most = omega (arith, length-of-adder n some most)

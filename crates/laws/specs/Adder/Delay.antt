@@ -22,8 +22,10 @@ adder-inputs n =
     let count : length (upFrom 0 (2 * n + 1)) ≡ suc (n + n) = length-upFrom 0 (2 * n + 1) ∙ omega arith in
     rw (count, replicate-append-replicate)
 
-pub adder-delayBy : (delay : ℕ → ℕ) (n : ℕ)
-    → delayBy delay (adder n) 18 ≡ largest (ripple (fullSum (arrival delay)) (fullCarry (arrival delay)) 0 (replicate n 0) (replicate n 0))
+pub adder-delayBy :
+    (delay : ℕ → ℕ) (n : ℕ)
+    → delayBy delay (adder n) 18
+    ≡ largest (ripple (fullSum (arrival delay)) (fullCarry (arrival delay)) 0 (replicate n 0) (replicate n 0))
 unfolding delayBy arrivals
 adder-delayBy delay n =
     rw (adder-inputs n)
@@ -42,7 +44,8 @@ carry-arrival : (t : ℕ) → 1 ≤ t → fullCarry unit 0 0 t ≡ t + 2
 unfolding largest
 carry-arrival t later = omega arith
 
-latest-arrival : (n t : ℕ) → 1 ≤ t → largest (ripple (fullSum unit) (fullCarry unit) t (replicate n 0) (replicate n 0)) ≡ t + 2 * n
+latest-arrival :
+    (n t : ℕ) → 1 ≤ t → largest (ripple (fullSum unit) (fullCarry unit) t (replicate n 0) (replicate n 0)) ≡ t + 2 * n
 unfolding largest ripple
 latest-arrival zero t later = omega arith
 latest-arrival (suc n) t later =

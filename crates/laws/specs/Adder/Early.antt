@@ -3,7 +3,7 @@
 use mathlib.Core.Path.{_≡_, ap, _∙_}
 use mathlib.Core.Bool.{Bool, false}
 use mathlib.Core.List.{List, _∷_, _++_, map, map-append}
-use Prim.Native.Nat.{ℕ, _+_}
+use Prim.Native.Nat.{ℕ, suc, _+_}
 use native.Mathlib.Omega.{arith}
 use lib.ListN.{length, take, length-map}
 use Rattle.meaning.specs.Values.{Val, known}
@@ -12,8 +12,9 @@ use Rattle.meaning.specs.Evaluation.{run, evaluate}
 use Rattle.meaning.specs.Adder.{adder, bit, binary}
 use Rattle.laws.specs.Adder.Ripple.{fullSum, fullCarry, lowest-of-ripple}
 use Rattle.laws.specs.Adder.Outputs.{oneOutput, adder-outputs}
-use Rattle.laws.specs.Adder.Sum.{sumBits, adder-on-known, binary-of-sumBits}
+use Rattle.laws.specs.Adder.Sum.{sumBits, length-of-sumBits, binary-of-sumBits, adder-on-known}
 
+-- For values of any kind.
 pub lowest-outputs : {A : Type 0} (gateResult : ℕ → List A → A) (none : A) (n k : ℕ) (c : A) (vs ws vs′ ws′ : List A)
     → length vs ≡ n → length ws ≡ n → length vs′ ≡ n → length ws′ ≡ n
     → take k vs ≡ take k vs′ → take k ws ≡ take k ws′
@@ -34,10 +35,11 @@ lowest-outputs gateResult none n k c vs ws vs′ ws′ fits-v fits-w fits-v′ f
 -- Outputs whose lowest k are known, and are the lowest k bits of the sum of two numbers with a carry.
 pub record LowestOfSum (k : ℕ) (c : Bool) (xs ys : List Bool) (outputs : List Val) : Type 0 where
   pub bits : List Bool
+  pub count : length bits ≡ suc (length xs)
   pub sum : binary bits ≡ bit c + binary xs + binary ys
   pub lowest : take k outputs ≡ take k (map known bits)
 
--- Of the values on a's and b's inputs the lowest k are the bits of two numbers; the others are anything.
+-- Of the values on the inputs of each number the lowest k are its bits; the others are anything.
 pub adder-known-early : (n k : ℕ) (c : Bool) (xs ys : List Bool) (vs ws : List Val)
     → length xs ≡ n → length ys ≡ n → length vs ≡ n → length ws ≡ n
     → take k vs ≡ take k (map known xs) → take k ws ≡ take k (map known ys)
@@ -46,6 +48,7 @@ unfolding evaluate
 adder-known-early n k c xs ys vs ws fits-x fits-y fits-v fits-w known-v known-w =
     record {
       bits = sumBits c xs ys;
+      count = length-of-sumBits c xs ys (omega arith);
       sum = binary-of-sumBits c xs ys (omega arith);
       lowest =
           lowest-outputs gateValue (known false) n k (known c) vs ws (map known xs) (map known ys) fits-v fits-w

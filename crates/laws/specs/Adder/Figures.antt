@@ -1,4 +1,4 @@
--- The figures of the written adder: at width n it has 5n gates, delay 2n+1, expanded size 8n and room 4n+13.
+-- Figures of the written adder that count its cells: at width n it has 5n gates, expanded size 8n and room 4n+13.
 use mathlib.Core.Path.{_≡_, refl}
 use mathlib.Core.List.{[], _∷_}
 use Prim.Native.Nat.{ℕ, zero, suc, _+_, _*_, _≤_}
@@ -10,7 +10,8 @@ use Rattle.meaning.specs.Adder.{adderCells, rippleAdder, fullAdder, halfAdder, 
 use Rattle.laws.specs.Adder.Nets.{length-upFrom}
 
 -- Every cell refers to the full adder, so each figure of the cells is the full adder's times the width, or the full adder's own.
-weight-of-cells : (weight later : ℕ → ℕ) (a b s k before n : ℕ) → bodyWeight weight later (adderCells a b s k before n) ≡ n * later 17
+weight-of-cells :
+    (weight later : ℕ → ℕ) (a b s k before n : ℕ) → bodyWeight weight later (adderCells a b s k before n) ≡ n * later 17
 unfolding bodyWeight adderCells
 weight-of-cells weight later a b s k before zero = omega arith
 weight-of-cells weight later a b s k before (suc n) =
@@ -39,7 +40,8 @@ pub adder-nets : (n : ℕ) → netCount (rippleAdder n) ≡ 4 * n + 1
 unfolding netCount rippleAdder
 adder-nets n = omega (arith, length-upFrom 0 (2 * n + 1), driven-by-cells 1 (n + 1) (2 * n + 1) (3 * n + 1) 0 n)
 
-pub referred-by-cells : (later : ℕ → ℕ) (a b s k before n : ℕ) → 1 ≤ n → largestReferred later (adderCells a b s k before n) ≡ later 17
+pub referred-by-cells :
+    (later : ℕ → ℕ) (a b s k before n : ℕ) → 1 ≤ n → largestReferred later (adderCells a b s k before n) ≡ later 17
 unfolding largestReferred adderCells
 referred-by-cells later a b s k before zero some = omega arith
 referred-by-cells later a b s k before (suc zero) some = omega arith

@@ -24,20 +24,24 @@ away : (net argument : ℕ) → (net ≡ argument → ⊥) → place net argumen
 away net argument h = rw (ne-eqb net argument h)
 
 module _ (later : ℕ → List ℕ) (full : later 17 ≡ 2 ∷ 2 ∷ 2 ∷ []) (net : ℕ) where
-  load-of-cell : (a b s k before n : ℕ)
+  load-of-cell :
+      (a b s k before n : ℕ)
       → netLoad later (adderCells a b s k before (suc n)) net
       ≡ place net a
       + (place net b + (place net before + 0))
       + netLoad later (adderCells (suc a) (suc b) (suc s) (suc k) k n) net
   unfolding netLoad placesLoad adderCells
   load-of-cell a b s k before n =
-      ap (λ (loads : List ℕ). placesLoad net (a ∷ b ∷ before ∷ []) loads + netLoad later (adderCells (suc a) (suc b) (suc s) (suc k) k n) net) full
+      let rest = netLoad later (adderCells (suc a) (suc b) (suc s) (suc k) k n) net in
+      ap (λ (loads : List ℕ). placesLoad net (a ∷ b ∷ before ∷ []) loads + rest) full
 
   -- A net that is no argument of the cells has load 0.
-  unloaded : (a b s k before n : ℕ)
+  unloaded :
+      (a b s k before n : ℕ)
       → ((y : ℕ) → a ≤ y → y < a + n → net ≡ y → ⊥)
       → ((y : ℕ) → b ≤ y → y < b + n → net ≡ y → ⊥)
-      → net < before → net < k
+      → net < before
+      → net < k
       → netLoad later (adderCells a b s k before n) net ≡ 0
   unfolding netLoad adderCells
   unloaded a b s k before zero no-a no-b low high = refl
@@ -48,15 +52,19 @@ module _ (later : ℕ → List ℕ) (full : later 17 ≡ 2 ∷ 2 ∷ 2 ∷ []) (
         ne-eqb net b (no-b b (omega arith) (omega arith)),
         ne-eqb net before (omega arith),
         unloaded (suc a) (suc b) (suc s) (suc k) k n
-        (λ y least most. no-a y (omega arith) (omega arith))
-        (λ y least most. no-b y (omega arith) (omega arith))
-        high
-        (omega arith),
+            (λ y least most. no-a y (omega arith) (omega arith))
+            (λ y least most. no-b y (omega arith) (omega arith))
+            high
+            (omega arith),
       )
 
   -- Any net has load 2 at most, where a's nets lie below b's, those below the carries, and the carry before is none of a's and b's.
-  load-of-cells : (a b s k before n : ℕ) → a + n ≤ b → b + n ≤ k
-      → ((y : ℕ) → a ≤ y → y < b + n → before ≡ y → ⊥) → before < k
+  load-of-cells :
+      (a b s k before n : ℕ)
+      → a + n ≤ b
+      → b + n ≤ k
+      → ((y : ℕ) → a ≤ y → y < b + n → before ≡ y → ⊥)
+      → before < k
       → netLoad later (adderCells a b s k before n) net ≤ 2
   unfolding netLoad adderCells
   load-of-cells a b s k before zero order order′ apart below = omega arith
@@ -94,10 +102,10 @@ module _ (later : ℕ → List ℕ) (full : later 17 ≡ 2 ∷ 2 ∷ 2 ∷ []) (
             away net b no-b,
             here net before e,
             unloaded (suc a) (suc b) (suc s) (suc k) k n
-            (λ y low high same. apart y (omega arith) (omega arith) (omega arith))
-            (λ y low high same. apart y (omega arith) (omega arith) (omega arith))
-            (omega arith)
-            (omega arith),
+                (λ y low high same. apart y (omega arith) (omega arith) (omega arith))
+                (λ y low high same. apart y (omega arith) (omega arith) (omega arith))
+                (omega arith)
+                (omega arith),
           )
       go (no no-a) (no no-b) (no no-before) most =
           omega (arith, load-of-cell a b s k before n, away net a no-a, away net b no-b, away net before no-before)
@@ -121,14 +129,14 @@ unfolding largestLoad adder rippleAdder
 adder-load n some =
     let loads = netLoad (inputLoads (fullAdder ∷ halfAdder ∷ [])) (adderCells 1 (n + 1) (2 * n + 1) (3 * n + 1) 0 n) in
     let own =
-        largest-of-map loads 2
-        (λ net.
-        load-of-cells (inputLoads (fullAdder ∷ halfAdder ∷ [])) full-loads net 1 (n + 1) (2 * n + 1) (3 * n + 1) 0 n
-        (omega arith)
-        (omega arith)
-        (λ y low high. omega arith)
-        (omega arith))
-        (upFrom 0 (2 * n + 1) ++ driven (adderCells 1 (n + 1) (2 * n + 1) (3 * n + 1) 0 n))
+    largest-of-map loads 2
+    (λ net.
+    load-of-cells (inputLoads (fullAdder ∷ halfAdder ∷ [])) full-loads net 1 (n + 1) (2 * n + 1) (3 * n + 1) 0 n
+    (omega arith)
+    (omega arith)
+    (λ y low high. omega arith)
+    (omega arith))
+    (upFrom 0 (2 * n + 1) ++ driven (adderCells 1 (n + 1) (2 * n + 1) (3 * n + 1) 0 n))
     in
     omega (
       arith,

@@ -1,8 +1,8 @@
 -- Nets numbered one after the other, as the written adder numbers them: how many they are, and what they hold in an environment.
 use mathlib.Core.Path.{_≡_, refl, ap, ap₂, _∙_}
-use mathlib.Core.List.{List, [], _∷_, _++_}
+use mathlib.Core.List.{List, [], _∷_}
 use Prim.Native.Nat.{ℕ, zero, suc, _+_, _<_, _≤_}
-use native.Mathlib.Nat.{zero-add, add-zero, add-suc, suc-add, not-suc-le-zero}
+use native.Mathlib.Nat.{add-zero, add-suc, suc-add, not-suc-le-zero}
 use native.Mathlib.Omega.{arith}
 use lib.ListN.{length, getD, take, drop}
 use lib.Seq.{drop-cons}
@@ -21,12 +21,17 @@ module _ {A : Type 0} (none : A) where
   unfolding look
   look-here net v env = rw (eq-eqb net net refl)
 
-  pub look-past : (net other : ℕ) (v : A) (env : Env A) → (net ≡ other → ⊥) → look none net (record { net = other; value = v } ∷ env) ≡ look none net env
+  pub look-past :
+      (net other : ℕ) (v : A) (env : Env A)
+      → (net ≡ other → ⊥)
+      → look none net (record { net = other; value = v } ∷ env) ≡ look none net env
   unfolding look
   look-past net other v env h = rw (ne-eqb net other h)
 
-  -- Nets below a bound that read alike in two environments.
-  pub lookAll-below : (bound first count : ℕ) (env env′ : Env A) → first + count ≤ bound
+  -- A run of nets below a bound reads alike in two environments where each net below it does.
+  pub lookAll-below :
+      (bound first count : ℕ) (env env′ : Env A)
+      → first + count ≤ bound
       → ((net : ℕ) → net < bound → look none net env′ ≡ look none net env)
       → lookAll none (upFrom first count) env′ ≡ lookAll none (upFrom first count) env
   unfolding lookAll upFrom
@@ -35,7 +40,10 @@ module _ {A : Type 0} (none : A) where
       ap₂ _∷_ (same first (omega arith)) (lookAll-below bound (suc first) n env env′ (omega arith) same)
 
   -- The value of the i-th of a run of nets that are given values in order.
-  pub look-pairs : (first i count : ℕ) (vs : List A) → i < count → look none (first + i) (pairs none (upFrom first count) vs) ≡ getD vs i none
+  pub look-pairs :
+      (first i count : ℕ) (vs : List A)
+      → i < count
+      → look none (first + i) (pairs none (upFrom first count) vs) ≡ getD vs i none
   unfolding pairs upFrom
   look-pairs first i zero vs h = absurd (not-suc-le-zero h)
   look-pairs first zero (suc n) [] h = rw (add-zero first) (look-here first none (pairs none (upFrom (suc first) n) []))
@@ -48,9 +56,15 @@ module _ {A : Type 0} (none : A) where
       ∙ rw (add-suc first i, ← suc-add first i) (look-pairs (suc first) i n vs (omega arith))
 
   -- The values of a run within such a run.
-  pub lookAll-pairs : (first i n count : ℕ) (vs : List A) → i + n ≤ count → i + n ≤ length vs
+  pub lookAll-pairs :
+      (first i n count : ℕ) (vs : List A)
+      → i + n ≤ count
+      → i + n ≤ length vs
       → lookAll none (upFrom (first + i) n) (pairs none (upFrom first count) vs) ≡ take n (drop i vs)
   unfolding lookAll upFrom
   lookAll-pairs first i zero count vs fits held = refl
   lookAll-pairs first i (suc n) count vs fits held =
-      rw (drop-cons vs i none (omega arith), ← add-suc first i) (ap₂ _∷_ (look-pairs first i count vs (omega arith)) (lookAll-pairs first (suc i) n count vs (omega arith) (omega arith)))
+      rw (drop-cons vs i none (omega arith), ← add-suc first i)
+      (ap₂ _∷_
+      (look-pairs first i count vs (omega arith))
+      (lookAll-pairs first (suc i) n count vs (omega arith) (omega arith)))

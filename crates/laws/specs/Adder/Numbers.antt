@@ -49,6 +49,7 @@ numbers-of-tail : each moduleNumbers (fullAdder ∷ halfAdder ∷ []) ≡ tailNu
 unfolding each moduleNumbers occurrenceNumbers
 numbers-of-tail = refl
 
+-- The numbers of module 18.
 numbers-of-first : (n : ℕ) → moduleNumbers (rippleAdder n)
     ≡ 18
     ∷ (2 * n + 1)
@@ -64,6 +65,7 @@ numbers-of-first n =
       append-assoc (upFrom (2 * n + 1) n),
     )
 
+-- The whole file.
 pub numbers-of-adder : (n : ℕ) → fileNumbers (adder n)
     ≡ 3
     ∷ 18

@@ -13,11 +13,12 @@ use Rattle.meaning.specs.Adder.{upFrom, adderCells, rippleAdder, fullAdder, hal
 use Rattle.laws.specs.Adder.Ripple.{ripple, fullSum, fullCarry}
 use Rattle.laws.specs.Adder.Nets.{look-here, look-past, lookAll-below, look-pairs, lookAll-pairs}
 
--- The net of the last carry of so many cells.
+-- The net of the last carry of so many cells: the one before them where there are none.
 unfoldable pub lastCarry : (carry before count : ℕ) → ℕ
 lastCarry carry before zero = before
 lastCarry carry before (suc n) = lastCarry (suc carry) carry n
 
+-- For a list of later modules whose module 17 gives a sum and a carry, whatever they are.
 module _ {A : Type 0} (none : A) (gateMeaning later : Meaning A) (sum carry : A → A → A → A)
     (full : (x y z : A) → later 17 (x ∷ y ∷ z ∷ []) ≡ sum x y z ∷ carry x y z ∷ []) where
   -- The environment after the first of some cells.
@@ -27,7 +28,9 @@ module _ {A : Type 0} (none : A) (gateMeaning later : Meaning A) (sum carry : A 
       ∷ record { net = k; value = carry (look none a env) (look none b env) (look none before env) }
       ∷ env
 
-  walk-cell : (a b s k before n : ℕ) (env : Env A) → walk none gateMeaning later (adderCells a b s k before (suc n)) env
+  walk-cell :
+      (a b s k before n : ℕ) (env : Env A)
+      → walk none gateMeaning later (adderCells a b s k before (suc n)) env
       ≡ walk none gateMeaning later (adderCells (suc a) (suc b) (suc s) (suc k) k n) (afterCell a b s k before env)
   unfolding walk adderCells lookAll pairs
   walk-cell a b s k before n env =
@@ -35,11 +38,20 @@ module _ {A : Type 0} (none : A) (gateMeaning later : Meaning A) (sum carry : A 
       (λ (vs : List A). walk none gateMeaning later (adderCells (suc a) (suc b) (suc s) (suc k) k n) (pairs none (s ∷ k ∷ []) vs ++ env))
       (full (look none a env) (look none b env) (look none before env))
 
-  cell-keeps : (a b s k before : ℕ) (env : Env A) → s < k → (net : ℕ) → net < s → look none net (afterCell a b s k before env) ≡ look none net env
+  cell-keeps :
+      (a b s k before : ℕ) (env : Env A)
+      → s < k
+      → (net : ℕ)
+      → net < s
+      → look none net (afterCell a b s k before env) ≡ look none net env
   cell-keeps a b s k before env order net below = look-past none net s _ _ (omega arith) ∙ look-past none net k _ _ (omega arith)
 
   -- Nets below those that the cells drive keep their values.
-  pub cells-keep : (a b s k before n : ℕ) (env : Env A) → s + n ≤ k → (net : ℕ) → net < s
+  pub cells-keep :
+      (a b s k before n : ℕ) (env : Env A)
+      → s + n ≤ k
+      → (net : ℕ)
+      → net < s
       → look none net (walk none gateMeaning later (adderCells a b s k before n) env) ≡ look none net env
   unfolding walk adderCells
   cells-keep a b s k before zero env order net below = refl
@@ -49,7 +61,11 @@ module _ {A : Type 0} (none : A) (gateMeaning later : Meaning A) (sum carry : A 
       ∙ cell-keeps a b s k before env (omega arith) net below
 
   -- The nets of the sums and of the last carry hold the chain over what a's nets, b's nets and the carry before held.
-  pub cells-outputs : (a b s k before n : ℕ) (env : Env A) → a + n ≤ s → b + n ≤ s → s + n ≤ k
+  pub cells-outputs :
+      (a b s k before n : ℕ) (env : Env A)
+      → a + n ≤ s
+      → b + n ≤ s
+      → s + n ≤ k
       → lookAll none (upFrom s n ++ (lastCarry k before n ∷ [])) (walk none gateMeaning later (adderCells a b s k before n) env)
       ≡ ripple sum carry (look none before env) (lookAll none (upFrom a n) env) (lookAll none (upFrom b n) env)
   unfolding walk adderCells lookAll upFrom lastCarry ripple
@@ -63,8 +79,11 @@ module _ {A : Type 0} (none : A) (gateMeaning later : Meaning A) (sum carry : A 
       rw (walk-cell a b s k before n env)
       (ap₂ _∷_
       (cells-keep (suc a) (suc b) (suc s) (suc k) k n env′ (omega arith) s (omega arith) ∙ look-here none s _ _)
-      (rw
-      (carried, lookAll-below none s (suc a) n env env′ (omega arith) keeps, lookAll-below none s (suc b) n env env′ (omega arith) keeps)
+      (rw (
+        carried,
+        lookAll-below none s (suc a) n env env′ (omega arith) keeps,
+        lookAll-below none s (suc b) n env env′ (omega arith) keeps,
+      )
       at (cells-outputs (suc a) (suc b) (suc s) (suc k) k n env′ (omega arith) (omega arith) (omega arith))))
 
 lastCarry-suc : (carry before n : ℕ) → lastCarry carry before (suc n) ≡ carry + n
@@ -83,7 +102,10 @@ module _ {A : Type 0} (gateResult : ℕ → List A → A) where
   abbrev pub oneOutput : Meaning A
   oneOutput kind vs = gateResult kind vs ∷ []
 
-  pub full-adder-outputs : (none x y z : A) → run none oneOutput (fullAdder ∷ halfAdder ∷ []) 17 (x ∷ y ∷ z ∷ []) ≡ fullSum gateResult x y z ∷ fullCarry gateResult x y z ∷ []
+  pub full-adder-outputs :
+      (none x y z : A)
+      → run none oneOutput (fullAdder ∷ halfAdder ∷ []) 17 (x ∷ y ∷ z ∷ [])
+      ≡ fullSum gateResult x y z ∷ fullCarry gateResult x y z ∷ []
   unfolding run runModule walk look lookAll pairs
   full-adder-outputs none x y z = refl
 
@@ -109,7 +131,8 @@ module _ {A : Type 0} (gateResult : ℕ → List A → A) where
         ∙ take-all n ys (omega arith))
 
     -- The outputs of the written adder are the chain over them.
-    pub adder-outputs : run none oneOutput (adder n) 18 (c ∷ (xs ++ ys)) ≡ ripple (fullSum gateResult) (fullCarry gateResult) c xs ys
+    pub adder-outputs :
+        run none oneOutput (adder n) 18 (c ∷ (xs ++ ys)) ≡ ripple (fullSum gateResult) (fullCarry gateResult) c xs ys
     unfolding run runModule adder rippleAdder
     adder-outputs =
         rw (lastCarry-adder n, carry-in, a-inputs, b-inputs)

@@ -1,6 +1,6 @@
 -- The chain of full adders, for values of any kind: what the written adder computes, without its nets.
 use mathlib.Core.Path.{_≡_, refl, ap}
-use mathlib.Core.List.{List, [], _∷_, map}
+use mathlib.Core.List.{List, [], _∷_}
 use Prim.Native.Nat.{ℕ, zero, suc}
 use native.Mathlib.Omega.{arith}
 use lib.ListN.{length, take}
@@ -34,13 +34,3 @@ module _ {A : Type 0} (sum carry : A → A → A → A) where
   lowest-of-ripple (suc k) c [] ys = refl
   lowest-of-ripple (suc k) c (x ∷ xs) [] = refl
   lowest-of-ripple (suc k) c (x ∷ xs) (y ∷ ys) = ap (λ (vs : List A). sum x y c ∷ vs) (lowest-of-ripple k (carry x y c) xs ys)
-
--- A map that commutes with sum and carry commutes with the chain.
-pub map-of-ripple : {A B : Type 0} (f : A → B) (sum carry : A → A → A → A) (sum′ carry′ : B → B → B → B)
-    → ((x y z : A) → sum′ (f x) (f y) (f z) ≡ f (sum x y z)) → ((x y z : A) → carry′ (f x) (f y) (f z) ≡ f (carry x y z))
-    → (c : A) (xs ys : List A) → ripple sum′ carry′ (f c) (map f xs) (map f ys) ≡ map f (ripple sum carry c xs ys)
-unfolding ripple
-map-of-ripple f sum carry sum′ carry′ sums carries c [] ys = refl
-map-of-ripple f sum carry sum′ carry′ sums carries c (x ∷ xs) [] = refl
-map-of-ripple f sum carry sum′ carry′ sums carries c (x ∷ xs) (y ∷ ys) =
-    rw (sums x y c, carries x y c) (ap (λ vs. f (sum x y c) ∷ vs) (map-of-ripple f sum carry sum′ carry′ sums carries (carry x y c) xs ys))

@@ -9,7 +9,7 @@ use Rattle.meaning.specs.Layout.{each, listNumbers, occurrenceNumbers, moduleNu
 use Rattle.meaning.specs.Ceilings.{Small, NetsWithin, OccurrenceWithin, ModuleWithin, ModulesWithin}
 use Rattle.meaning.specs.Adder.{adder}
 use Rattle.laws.specs.Lists.{all-map}
-use Rattle.laws.specs.Adder.Written.{adder-within}
+use Rattle.laws.specs.Adder.File.{adder-within}
 
 all-append : {A : Type 0} {P : A → Type 0} {xs ys : List A} → All P xs → All P ys → All P (xs ++ ys)
 all-append none q = q

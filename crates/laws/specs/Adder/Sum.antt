@@ -1,19 +1,21 @@
 -- On known bits the written adder adds: its outputs are known, one more than the width, and as a number they are the carry in plus
 -- the two numbers.
-use mathlib.Core.Path.{_≡_, refl, _∙_}
+use mathlib.Core.Path.{_≡_, refl, ap, _∙_}
 use mathlib.Core.Bool.{Bool, true, false}
-use mathlib.Core.List.{List, [], _∷_, _++_, map, map-append}
+use mathlib.Core.List.{List, [], _∷_, _++_, map}
 use Prim.Native.Nat.{ℕ, suc, _+_, _*_}
 use native.Mathlib.Omega.{arith}
-use lib.ListN.{length, length-map}
+use lib.ListN.{length}
 use Rattle.meaning.specs.Values.{Val, known}
-use Rattle.meaning.specs.Gates.{gate, gates, gateValue}
+use Rattle.meaning.specs.Gates.{gate, gates}
 use Rattle.meaning.specs.Evaluation.{evaluate}
 use Rattle.meaning.specs.Adder.{adder, bit, binary}
-use Rattle.laws.specs.Gates.{gate-on-known}
-use Rattle.laws.specs.Adder.Ripple.{ripple, fullSum, fullCarry, length-of-ripple, map-of-ripple}
+use Rattle.meaning.specs.Heval.{happly}
+use Rattle.laws.specs.Known.{evaluate-on-known}
+use Rattle.laws.specs.Adder.Ripple.{ripple, fullSum, fullCarry, length-of-ripple}
 use Rattle.laws.specs.Adder.Outputs.{adder-outputs}
 
+-- A gate on bits.
 abbrev gateBit : ℕ → List Bool → Bool
 gateBit number bits = gate number .function bits
 
@@ -21,6 +23,7 @@ gateBit number bits = gate number .function bits
 unfoldable pub sumBits : Bool → (xs ys : List Bool) → List Bool
 sumBits = ripple (fullSum gateBit) (fullCarry gateBit)
 
+-- Sum and twice the carry are as much as the three bits.
 full-adder-adds : (x y z : Bool) → bit (fullSum gateBit x y z) + 2 * bit (fullCarry gateBit x y z) ≡ bit x + bit y + bit z
 unfolding gate gates
 full-adder-adds true true true = refl
@@ -32,7 +35,8 @@ full-adder-adds false true false = refl
 full-adder-adds false false true = refl
 full-adder-adds false false false = refl
 
-pub binary-of-sumBits : (c : Bool) (xs ys : List Bool) → length xs ≡ length ys → binary (sumBits c xs ys) ≡ bit c + binary xs + binary ys
+pub binary-of-sumBits :
+    (c : Bool) (xs ys : List Bool) → length xs ≡ length ys → binary (sumBits c xs ys) ≡ bit c + binary xs + binary ys
 unfolding sumBits ripple binary
 binary-of-sumBits c [] [] same = omega arith
 binary-of-sumBits c [] (y ∷ ys) same = omega arith
@@ -40,26 +44,19 @@ binary-of-sumBits c (x ∷ xs) [] same = omega arith
 binary-of-sumBits c (x ∷ xs) (y ∷ ys) same =
     omega (arith, full-adder-adds x y c, binary-of-sumBits (fullCarry gateBit x y c) xs ys (omega arith))
 
-pub length-of-sumBits : (c : Bool) (xs ys : List Bool) → length xs ≡ length ys → length (sumBits c xs ys) ≡ suc (length xs)
+pub length-of-sumBits :
+    (c : Bool) (xs ys : List Bool) → length xs ≡ length ys → length (sumBits c xs ys) ≡ suc (length xs)
 unfolding sumBits
 length-of-sumBits = length-of-ripple (fullSum gateBit) (fullCarry gateBit)
 
--- On known values the chain of the gates is the chain on bits.
-known-sum : (x y z : Bool) → fullSum gateValue (known x) (known y) (known z) ≡ known (fullSum gateBit x y z)
-known-sum x y z = rw (gate-on-known 9 (x ∷ y ∷ [])) (gate-on-known 9 (gateBit 9 (x ∷ y ∷ []) ∷ z ∷ []))
-
-known-carry : (x y z : Bool) → fullCarry gateValue (known x) (known y) (known z) ≡ known (fullCarry gateBit x y z)
-known-carry x y z =
-    rw (gate-on-known 9 (x ∷ y ∷ []), gate-on-known 10 (x ∷ y ∷ []), gate-on-known 10 (gateBit 9 (x ∷ y ∷ []) ∷ z ∷ []))
-    (gate-on-known 5 (gateBit 10 (x ∷ y ∷ []) ∷ gateBit 10 (gateBit 9 (x ∷ y ∷ []) ∷ z ∷ []) ∷ []))
-
-pub adder-on-known : (n : ℕ) (c : Bool) (xs ys : List Bool) → length xs ≡ n → length ys ≡ n
+pub adder-on-known :
+    (n : ℕ) (c : Bool) (xs ys : List Bool)
+    → length xs ≡ n
+    → length ys ≡ n
     → evaluate (adder n) 18 (known c ∷ map known (xs ++ ys)) ≡ map known (sumBits c xs ys)
-unfolding evaluate sumBits
+unfolding happly sumBits
 adder-on-known n c xs ys xs-fits ys-fits =
-    rw (map-append known xs ys)
-    (adder-outputs gateValue (known false) n (known c) (map known xs) (map known ys) (length-map xs known ∙ xs-fits) (length-map ys known ∙ ys-fits)
-    ∙ map-of-ripple known (fullSum gateBit) (fullCarry gateBit) (fullSum gateValue) (fullCarry gateValue) known-sum known-carry c xs ys)
+    evaluate-on-known (adder n) 18 (c ∷ (xs ++ ys)) ∙ ap (map known) (adder-outputs gateBit false n c xs ys xs-fits ys-fits)
 
 -- Values that are known bits, one more than there are bits of either number, and are the binary sum with carry.
 pub record BinarySum (c : Bool) (xs ys : List Bool) (outputs : List Val) : Type 0 where
@@ -69,7 +66,10 @@ pub record BinarySum (c : Bool) (xs ys : List Bool) (outputs : List Val) : Type 
   pub sum : binary bits ≡ bit c + binary xs + binary ys
 
 -- On known bits the evaluation of module 18 is the binary sum with carry.
-pub adder-adds : (n : ℕ) (c : Bool) (xs ys : List Bool) → length xs ≡ n → length ys ≡ n
+pub adder-adds :
+    (n : ℕ) (c : Bool) (xs ys : List Bool)
+    → length xs ≡ n
+    → length ys ≡ n
     → BinarySum c xs ys (evaluate (adder n) 18 (known c ∷ map known (xs ++ ys)))
 adder-adds n c xs ys xs-fits ys-fits =
     record {

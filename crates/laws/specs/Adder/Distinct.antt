@@ -30,7 +30,8 @@ member-of-run x first zero low high = absurd (omega arith)
 member-of-run x first (suc n) low high =
     member-cons x first (upFrom (suc first) n) (λ other. member-of-run x (suc first) n (omega arith) (omega arith))
 
-pub not-of-run : (x first n : ℕ) → ((y : ℕ) → first ≤ y → y < first + n → x ≡ y → ⊥) → member x (upFrom first n) ≡ false
+pub not-of-run :
+    (x first n : ℕ) → ((y : ℕ) → first ≤ y → y < first + n → x ≡ y → ⊥) → member x (upFrom first n) ≡ false
 unfolding member upFrom
 not-of-run x first zero other = refl
 not-of-run x first (suc n) other =
@@ -38,7 +39,9 @@ not-of-run x first (suc n) other =
     (not-of-run x (suc first) n (λ y low high. other y (omega arith) (omega arith)))
 
 -- Nothing is listed twice in a run, with a list after it that has none of the run.
-pub duplicates-after-run : (first n : ℕ) (xs : List ℕ) → ((y : ℕ) → first ≤ y → y < first + n → member y xs ≡ false)
+pub duplicates-after-run :
+    (first n : ℕ) (xs : List ℕ)
+    → ((y : ℕ) → first ≤ y → y < first + n → member y xs ≡ false)
     → duplicates (upFrom first n ++ xs) ≡ duplicates xs
 unfolding duplicates upFrom
 duplicates-after-run first zero xs apart = refl
@@ -54,13 +57,20 @@ pub duplicates-of-run : (first n : ℕ) → duplicates (upFrom first n) ≡ fals
 unfolding duplicates member
 duplicates-of-run first n = rw append-nil at (duplicates-after-run first n [] (λ y low high. refl))
 
-pub disjoint-run : (first n : ℕ) (ys : List ℕ) → ((y : ℕ) → first ≤ y → y < first + n → member y ys ≡ false) → disjoint (upFrom first n) ys ≡ true
+-- A run is disjoint from a list that has none of it.
+pub disjoint-run :
+    (first n : ℕ) (ys : List ℕ)
+    → ((y : ℕ) → first ≤ y → y < first + n → member y ys ≡ false)
+    → disjoint (upFrom first n) ys ≡ true
 unfolding disjoint upFrom
 disjoint-run first zero ys apart = refl
 disjoint-run first (suc n) ys apart =
     rw (apart first (omega arith) (omega arith)) (disjoint-run (suc first) n ys (λ y low high. apart y (omega arith) (omega arith)))
 
-pub subset-after-run : (first n : ℕ) (xs ys : List ℕ) → ((y : ℕ) → first ≤ y → y < first + n → member y ys ≡ true)
+-- A run that a list has, with a list after it, is a subset where that list is.
+pub subset-after-run :
+    (first n : ℕ) (xs ys : List ℕ)
+    → ((y : ℕ) → first ≤ y → y < first + n → member y ys ≡ true)
     → subset (upFrom first n ++ xs) ys ≡ subset xs ys
 unfolding subset upFrom
 subset-after-run first zero xs ys held = refl

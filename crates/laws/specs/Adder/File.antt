@@ -64,8 +64,14 @@ unfolding upFrom
 small-run first zero nets low rest = rest
 small-run first (suc n) nets low rest = more {x = first} (omega arith) (small-run (suc first) n nets (omega arith) rest)
 
-cells-within : (a b s k before n : ℕ) → a + n ≤ suc mostNumber → b + n ≤ suc mostNumber → s + n ≤ suc mostNumber → k + n ≤ suc mostNumber
-    → Small before → All OccurrenceWithin (adderCells a b s k before n)
+cells-within :
+    (a b s k before n : ℕ)
+    → a + n ≤ suc mostNumber
+    → b + n ≤ suc mostNumber
+    → s + n ≤ suc mostNumber
+    → k + n ≤ suc mostNumber
+    → Small before
+    → All OccurrenceWithin (adderCells a b s k before n)
 unfolding adderCells
 cells-within a b s k before zero a-low b-low s-low k-low before-low = none
 cells-within a b s k before (suc n) a-low b-low s-low k-low before-low =
@@ -93,7 +99,13 @@ first-within n most =
             numbers = small-run (2 * n + 1) n ((4 * n) ∷ []) (omega arith) (more {x = 4 * n} (omega arith) none);
           };
       count = omega (arith, length-of-cells 1 (n + 1) (2 * n + 1) (3 * n + 1) 0 n);
-      occurrences = cells-within 1 (n + 1) (2 * n + 1) (3 * n + 1) 0 n (omega arith) (omega arith) (omega arith) (omega arith) (lit≤ tt);
+      occurrences =
+          cells-within 1 (n + 1) (2 * n + 1) (3 * n + 1) 0 n
+          (omega arith)
+          (omega arith)
+          (omega arith)
+          (omega arith)
+          (lit≤ tt);
     }
 
 pub adder-within : (n : ℕ) → 1 ≤ n → n ≤ 64 → Within (adder n)
