@@ -15,7 +15,7 @@ use Rattle.meaning.specs.Members.{_∈_}
 use Rattle.meaning.specs.Boxlist.{Found, box, F, assoc, isBox, submoduleOkp, arityOkp}
 use Rattle.meaning.specs.Rules.{numbers, Unresolved, Mismatch, withGate, withModule}
 use Rattle.laws.specs.WellFormed.{Reference, toGate, toModule}
-use Rattle.laws.specs.Tests.{Tells, tells-true, tells-false, if-false, is-false, tells, tells-and, tells-or, eqb-tells, leb-tells}
+use Rattle.laws.specs.Tests.{Tells, tells-true, tells-false, if-false, is-false, tells, tells-and, tells-or, eqb-tells, ltb-tells}
 
 pub found-tells : (x : ℕ) (ms : List Module) → Tells (x ∈ numbers ms) (¬ (x ∈ numbers ms)) (isBox (assoc x ms))
 unfolding assoc
@@ -38,14 +38,14 @@ found-tells x (m ∷ ms) = go (eqb-tells x (m .number)) (found-tells x ms)
 pub resolved-tells :
     (o : Occurrence) (later : List Module)
     → Tells (¬ (Unresolved o later)) (Unresolved o later) (isGate (o .refers) || isBox (assoc (o .refers) later))
-resolved-tells o later = tells either neither (tells-or (leb-tells (suc (o .refers)) 16) (found-tells (o .refers) later))
+resolved-tells o later = tells either neither (tells-or (ltb-tells (o .refers) 16) (found-tells (o .refers) later))
   where
-    either : (suc (o .refers) ≤ 16) ⊎ (o .refers ∈ numbers later) → ¬ (Unresolved o later)
+    either : (o .refers < 16) ⊎ (o .refers ∈ numbers later) → ¬ (Unresolved o later)
     either (inl l) u = omega arith
     either (inr i) u = u .noModule i
 
-    neither : (16 < suc (o .refers)) × (¬ (o .refers ∈ numbers later)) → Unresolved o later
-    neither h = record { noGate = omega arith; noModule = h .1 }
+    neither : (16 ≤ o .refers) × (¬ (o .refers ∈ numbers later)) → Unresolved o later
+    neither h = record { noGate = h .0; noModule = h .1 }
 
 -- The arity checks of BODY-OKP tell a fitting reference from one that breaks rule 13 or 14.
 pub reference-tells :
@@ -92,10 +92,14 @@ reference-matches (toGate g a b) (withModule m l e h) = omega (arith, ltb-true)
 reference-matches (toModule m g e a b) (withGate l h) = omega (arith, ltb-false)
 reference-matches (toModule m g e a b) (withModule m′ l e′ h) = h (cc, cc)
 
+pub reference-fits : {o : Occurrence} {later : List Module} → Reference later o → ¬ (Unresolved o later ⊎ Mismatch o later)
+reference-fits r (inl u) = reference-resolved r u
+reference-fits r (inr h) = reference-matches r h
+
 -- A number that no module has is not found.
+pub not-box : (f : Found) → isBox f ≡ false → f ≡ F
+not-box (box m) e = absurd (true≢false e)
+not-box F e = refl
+
 pub not-found : (x : ℕ) (ms : List Module) → ¬ (x ∈ numbers ms) → assoc x ms ≡ F
-not-found x ms out = go (assoc x ms) (is-false (found-tells x ms) out)
-  where
-    go : (f : Found) → isBox f ≡ false → f ≡ F
-    go (box m) e = absurd (true≢false e)
-    go F e = refl
+not-found x ms out = not-box (assoc x ms) (is-false (found-tells x ms) out)

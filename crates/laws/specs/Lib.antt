@@ -7,8 +7,11 @@ pub mod Tests
 pub mod Outcomes
 pub mod WellFormed
 pub mod Finding
+pub mod Okp
 pub mod Accepted
+pub mod Acceptable
 pub mod Refusals
+pub mod Range
 pub mod Evaluation
 pub mod Heval
 pub mod Adder

@@ -14,7 +14,7 @@ use Rattle.meaning.specs.Boxlist.{duplicates, disjoint, assoc, isBox, arityOkp}
 use Rattle.meaning.specs.Limits.{driven, netCount, bodySize, expandedSize, mostModuleNets, mostSize}
 use Rattle.meaning.specs.Verdict.{Verdict, good, refused, occurrenceVerdict, bodyVerdict, moduleVerdict, modulesVerdict, sizesVerdict, fileVerdict}
 use Rattle.meaning.specs.Rules.{Rule, rule, numbers, Unresolved, Mismatch, occurrenceRules, moduleRules, modulesRules, sizeRules, fileRules, Outcome, allKept, broken, kept}
-use Rattle.laws.specs.Tests.{Tells, tells, tells-not, tells-and, tells-or, leb-tells}
+use Rattle.laws.specs.Tests.{Tells, tells, tells-not, tells-and, tells-or, leb-tells, ltb-tells, not-below}
 use Rattle.laws.specs.Members.{duplicates-tells, disjoint-tells, subset-tells}
 use Rattle.laws.specs.Finding.{found-tells, resolved-tells, reference-tells, reference-matches}
 use Rattle.laws.specs.Outcomes.{keep-outcome, andThen-outcome, outcome-unique}
@@ -29,7 +29,7 @@ drives-tells xs ys = tells neither (λ h. h) (tells-and (tells-not (duplicates-t
     neither h (inr c) = h .1 c
 
 within-tells : (a most : ℕ) → Tells (¬ (most < a)) (most < a) (leb a most)
-within-tells a most = tells (λ h. omega arith) (λ h. h) (leb-tells a most)
+within-tells a most = tells not-below (λ h. h) (leb-tells a most)
 
 matches-tells :
     (o : Occurrence) (later : List Module)
@@ -58,7 +58,7 @@ body-outcome p (o ∷ os) signals later =
 module-outcome : (p : ℕ) (m : Module) (later : List Module) → Outcome (moduleRules p m later) (moduleVerdict p m later)
 unfolding moduleRules moduleVerdict
 module-outcome p m later =
-    keep-outcome (tells-not (tells (λ l. l) (λ g l. omega arith) (leb-tells (suc (m .number)) 16))) λ _.
+    keep-outcome (tells-not (tells (λ l. l) not-below (ltb-tells (m .number) 16))) λ _.
     keep-outcome (tells-not (found-tells (m .number) later)) λ _.
     keep-outcome (tells-not (duplicates-tells (m .inputs))) λ _.
     keep-outcome (tells-not (duplicates-tells (m .outputs))) λ _.

@@ -4,8 +4,9 @@ use Prim.Native.Nat.{ℕ, _≤_, _<_}
 use mathlib.Core.Logic.{_⊎_, inl, inr, _≢_}
 use mathlib.Core.Path.{_≡_, refl, sym}
 use mathlib.Core.Bool.{Bool, true, false, not, _&&_, _||_, true≢false, false≢true}
+use native.Mathlib.Omega.{arith}
 use lib.Dec.{eqb, leb, ltb}
-use borrow.Author.Tests.{eqb-true, eqb-false, leb-true, leb-false}
+use borrow.Author.Tests.{eqb-true, eqb-false, leb-true, leb-false, ltb-true, ltb-false}
 
 pub data Tells (P Q : Type 0) : Bool → Type 0 where
   tells-true : P → Tells P Q true
@@ -59,8 +60,14 @@ module _ {P Q : Type 0} where
   by-value true f g = tells-true (f refl)
   by-value false f g = tells-false (g refl)
 
+pub not-below : {a b : ℕ} → a ≤ b → ¬ (b < a)
+not-below h l = omega arith
+
 pub eqb-tells : (a b : ℕ) → Tells (a ≡ b) (a ≢ b) (eqb a b)
 eqb-tells a b = by-value (eqb a b) (eqb-true a b) (eqb-false a b)
 
 pub leb-tells : (a b : ℕ) → Tells (a ≤ b) (b < a) (leb a b)
 leb-tells a b = by-value (leb a b) (leb-true a b) (leb-false a b)
+
+pub ltb-tells : (a b : ℕ) → Tells (a < b) (b ≤ a) (ltb a b)
+ltb-tells a b = by-value (ltb a b) (ltb-true a b) (ltb-false a b)
