@@ -2,7 +2,7 @@
 -- of existence and arity of BODY-OKP say what a `Reference` says.
 use Prim.Native.Nat.{ℕ, suc, _≤_, _<_}
 use mathlib.Core.Logic.{_⊎_, inl, inr}
-use mathlib.Core.Path.{_≡_, refl, sym, _∙_, ap}
+use mathlib.Core.Path.{_≡_, refl, sym, _∙_, ap, subst}
 use mathlib.Core.Bool.{Bool, true, false, cond, _&&_, _||_, true≢false}
 use borrow.Author.Tests.{ltb-true, ltb-false}
 use mathlib.Core.List.{List, [], _∷_, List·Memᴰ·head as here, List·Memᴰ·tail as there, List·Memᴰ·not-nil as in-none}
@@ -14,7 +14,7 @@ use Rattle.meaning.specs.Gates.{isGate, gate}
 use Rattle.meaning.specs.Members.{_∈_}
 use Rattle.meaning.specs.Boxlist.{Found, box, F, assoc, isBox, submoduleOkp, arityOkp}
 use Rattle.meaning.specs.Rules.{numbers, Unresolved, Mismatch, withGate, withModule}
-use Rattle.laws.specs.WellFormed.{Reference, toGate, toModule}
+use Rattle.laws.specs.WellFormed.{Reference, toGate, toModule, ModuleOk, Accepted, none, some}
 use Rattle.laws.specs.Tests.{Tells, tells-true, tells-false, if-false, is-false, tells, tells-and, tells-or, eqb-tells, ltb-tells}
 
 pub found-tells : (x : ℕ) (ms : List Module) → Tells (x ∈ numbers ms) (¬ (x ∈ numbers ms)) (isBox (assoc x ms))
@@ -103,3 +103,19 @@ not-box F e = refl
 
 pub not-found : (x : ℕ) (ms : List Module) → ¬ (x ∈ numbers ms) → assoc x ms ≡ F
 not-found x ms out = not-box (assoc x ms) (is-false (found-tells x ms) out)
+
+-- A property that a module has wherever the modules it can refer to have it, every module has that a number finds.
+pub found-every :
+    {ms : List Module} {P : Module → Type 0}
+    → ((m : Module) (later : List Module) → ModuleOk m later → ((x : ℕ) (k : Module) → assoc x later ≡ box k → P k) → P m)
+    → Accepted ms
+    → (x : ℕ) (k : Module)
+    → assoc x ms ≡ box k
+    → P k
+unfolding assoc
+found-every f none x k e = let z : _≡_ {A = ℕ} 0 1 = cc in absurd (omega arith)
+found-every {P = P} f (some {m} {later} ok rest) x k e = go (eqb x (m .number)) refl (found-every f rest)
+  where
+    go : (b : Bool) → eqb x (m .number) ≡ b → ((x : ℕ) (k : Module) → assoc x later ≡ box k → P k) → P k
+    go true t below = let same : m ≡ k = cc (rw t at e) in subst P same (f m later ok below)
+    go false t below = below x k (rw t at e)

@@ -10,6 +10,9 @@ pub mod Finding
 pub mod Okp
 pub mod Accepted
 pub mod Acceptable
+pub mod Nets
+pub mod Bounds
+pub mod Idle
 pub mod Refusals
 pub mod Range
 pub mod Evaluation

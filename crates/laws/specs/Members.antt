@@ -22,12 +22,12 @@ member-tells x (y ∷ ys) = tells either neither (tells-or (eqb-tells x y) (memb
     neither h (here e) = h .0 e
     neither h (there i) = h .1 i
 
+pub twice-none : ¬ (Twice [])
+twice-none t = elim t [ ]
+
 pub duplicates-tells : (xs : List ℕ) → Tells (Twice xs) (¬ (Twice xs)) (duplicates xs)
 unfolding duplicates
-duplicates-tells [] = tells-false none
-  where
-    none : ¬ (Twice [])
-    none t = elim t [ ]
+duplicates-tells [] = tells-false twice-none
 duplicates-tells (x ∷ xs) = tells either neither (tells-or (member-tells x xs) (duplicates-tells xs))
   where
     either : (x ∈ xs) ⊎ Twice xs → Twice (x ∷ xs)

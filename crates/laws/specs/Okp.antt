@@ -4,21 +4,17 @@
 use Prim.Native.Nat.{ℕ, _≤_}
 use mathlib.Core.Logic.{_⊎_, inl, inr}
 use mathlib.Core.Path.{_≡_, refl}
-use mathlib.Core.Bool.{Bool, true, false, _&&_, false≢true}
+use mathlib.Core.Bool.{true}
 use mathlib.Core.List.{List, [], _∷_, _++_, List·Memᴰ·not-nil as in-none, Memᴰ·append-left as in-left, Memᴰ·append-right as in-right, List·Memᴰ·append-cases as in-either}
 use borrow.Author.Tests.{not-true}
 use Rattle.meaning.specs.Syntax.{Occurrence, Module}
 use Rattle.meaning.specs.Members.{_∈_}
 use Rattle.meaning.specs.Boxlist.{disjoint, subset, bodyOkp, boxlistOkp}
 use Rattle.meaning.specs.Limits.{driven, netCount, bodySize, expandedSize, mostModuleNets, mostSize}
-use Rattle.laws.specs.Tests.{if-true, is-true}
+use Rattle.laws.specs.Tests.{if-true, is-true, and-both}
 use Rattle.laws.specs.Members.{subset-tells, subset-in, disjoint-out}
 use Rattle.laws.specs.Finding.{reference-tells, reference-fits, not-box}
 use Rattle.laws.specs.WellFormed.{Body, done, step, ModuleOk, Accepted, none, some}
-
-and-both : (a b : Bool) → (a && b) ≡ true → (a ≡ true) × (b ≡ true)
-and-both true b e = (refl, e)
-and-both false b e = absurd (false≢true e)
 
 -- A net that an output may be where BODY-OKP starts on a list of occurrences: a signal already, or driven by them.
 abbrev pub Reached : (signals : List ℕ) → List Occurrence → ℕ → Type 0

@@ -54,6 +54,11 @@ tells-or (tells-true p) t = tells-true (inl p)
 tells-or (tells-false q) (tells-true p′) = tells-true (inr p′)
 tells-or (tells-false q) (tells-false q′) = tells-false (q, q′)
 
+-- Two tests that are true together are true each.
+pub and-both : (a b : Bool) → (a && b) ≡ true → (a ≡ true) × (b ≡ true)
+and-both true b e = (refl, e)
+and-both false b e = absurd (false≢true e)
+
 -- The tests on numbers.
 module _ {P Q : Type 0} where
   pub by-value : (b : Bool) → (b ≡ true → P) → (b ≡ false → Q) → Tells P Q b
