@@ -1,32 +1,33 @@
 -- Accepted, exactly: the verdict on a file's bytes is good if and only if they read to a list of modules for which BOXLIST-OKP of
--- document 000 holds and which keeps our three limits.
+-- document 000 holds and which keeps our three limits. Expanded sizes are those of the modules' numbers in the whole list; since no
+-- number stands twice, each is the size of the module's occurrences in front of the later modules, as `Accepted` has it.
 use Prim.Native.Nat.{ℕ, _≤_}
 use mathlib.Core.Logic.{_↔_}
 use mathlib.Core.Path.{_≡_, refl, sym, ap, subst, _∙_}
-use mathlib.Core.Bool.{Bool, cond}
-use mathlib.Core.List.{List, [], _∷_, List·Memᴰ·head as here, List·Memᴰ·tail as there, List·Memᴰ·not-nil as in-none, Memᴰ·cast as same-in}
+use mathlib.Core.Bool.{Bool, true, false, cond}
+use mathlib.Core.List.{List, [], _∷_}
 use native.Mathlib.Omega.{arith}
+use lib.Dec.{eqb}
 use borrow.Author.Tests.{eq-eqb, ne-eqb}
-use Rattle.meaning.specs.Syntax.{Occurrence, Module}
+use Rattle.meaning.specs.Syntax.{Module}
 use Rattle.meaning.specs.Members.{_∈_}
-use Rattle.meaning.specs.Boxlist.{isBox, assoc, boxlistOkp}
-use Rattle.meaning.specs.Limits.{netCount, bodySize, expandedSize, mostModuleNets, mostSize}
+use Rattle.meaning.specs.Boxlist.{isBox}
+use Rattle.meaning.specs.Limits.{bodySize, expandedSize, mostSize}
 use Rattle.meaning.specs.Reading.{File, holds, fails, read}
-use Rattle.meaning.specs.Verdict.{Verdict, good, refused, fileVerdict, verdictOf, verdict}
+use Rattle.meaning.specs.Verdict.{good, refused, fileVerdict, verdictOf, verdict}
 use Rattle.meaning.specs.Rules.{numbers}
 use Rattle.meaning.specs.Acceptable.{Acceptable}
-use Rattle.laws.specs.Tests.{Tells, tells-true, tells-false, if-false, eqb-tells}
+use Rattle.laws.specs.Tests.{if-false}
+use Rattle.laws.specs.Members.{here, there, in-none, same-in}
 use Rattle.laws.specs.Finding.{found-tells}
 use Rattle.laws.specs.WellFormed.{ModuleOk, Accepted, none, some}
 use Rattle.laws.specs.Accepted.{good-accepted, accepted-good}
 use Rattle.laws.specs.Okp.{okp-module, accepted-okp}
 
-refused-not-good : {n p : ℕ} → refused n p ≡ good → ⊥
-refused-not-good e = let z : _≡_ {A = ℕ} 0 1 = cc in omega arith
-
 -- A module's expanded size in a list: the first module's is that of its occurrences in front of the later modules, and the first
 -- module has no part in that of another number.
-size-first : (m : Module) (later : List Module) → expandedSize (m ∷ later) (m .number) ≡ bodySize (expandedSize later) (m .occurrences)
+size-first :
+    (m : Module) (later : List Module) → expandedSize (m ∷ later) (m .number) ≡ bodySize (expandedSize later) (m .occurrences)
 unfolding expandedSize
 size-first m later = rw (eq-eqb (m .number) (m .number) refl)
 
@@ -46,9 +47,8 @@ other-number {m} {first} {later} ok i e =
 acceptable-accepted : (ms : List Module) → Acceptable ms → Accepted ms
 acceptable-accepted [] a = none
 acceptable-accepted (m ∷ later) a =
-    let ok =
-    okp-module m later (a .wellFormed) (a .numbers m (here refl)) (a .nets m (here refl))
-    (rw (size-first m later) at (a .sizes m (here refl))) in
+    let size = rw (size-first m later) at (a .sizes m (here refl)) in
+    let ok = okp-module m later (a .wellFormed) (a .numbers m (here refl)) (a .nets m (here refl)) size in
     some (ok .0)
     (acceptable-accepted later
     (record {
@@ -62,15 +62,11 @@ acceptable-accepted (m ∷ later) a =
 pub size-within : {ms : List Module} → Accepted ms → (x : ℕ) → expandedSize ms x ≤ mostSize
 unfolding expandedSize
 size-within none x = omega arith
-size-within (some {m} {later} ok rest) x = go (eqb-tells x (m .number)) (size-within rest x)
+size-within (some {m} ok rest) x = either (eqb x (m .number)) (ok .size) (size-within rest x)
   where
-    go :
-        {b : Bool}
-        → Tells (x ≡ m .number) (¬ (x ≡ m .number)) b
-        → expandedSize later x ≤ mostSize
-        → cond b (bodySize (expandedSize later) (m .occurrences)) (expandedSize later x) ≤ mostSize
-    go (tells-true e) h = ok .size
-    go (tells-false e) h = h
+    either : (b : Bool) {a c : ℕ} → a ≤ mostSize → c ≤ mostSize → cond b a c ≤ mostSize
+    either true h k = h
+    either false h k = k
 
 -- What holds of each module in front of the later ones holds of every module of the list.
 every :
@@ -92,6 +88,9 @@ accepted-acceptable a =
       nets = every (λ m later ok. ok .nets) a;
       sizes = λ m i. size-within a (m .number);
     }
+
+refused-not-good : {n p : ℕ} → refused n p ≡ good → ⊥
+refused-not-good e = let z : _≡_ {A = ℕ} 0 1 = cc in omega arith
 
 pub acceptable-exactly : (ms : List Module) → fileVerdict ms ≡ good ↔ Acceptable ms
 acceptable-exactly ms = ((λ e. accepted-acceptable (good-accepted ms e)), λ a. accepted-good (acceptable-accepted ms a))

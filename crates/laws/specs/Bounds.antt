@@ -1,20 +1,19 @@
--- Bounds on an accepted list of modules that code needs: the nets of a module, the figures that expanded size bounds, the room, and
--- that a module without inputs drives nothing.
-use Prim.Native.Nat.{ℕ, zero, suc, _+_, _*_, _≤_, max}
-use mathlib.Core.Path.{_≡_, refl, sym, ap, _∙_}
+-- Bounds on an accepted list of modules that code needs: the nets of a module that is found, the gates, which expanded size bounds,
+-- and the room.
+use Prim.Native.Nat.{ℕ, suc, _+_, _*_, _≤_, max}
+use mathlib.Core.Path.{_≡_}
 use mathlib.Core.Bool.{Bool, true, false, cond}
-use mathlib.Core.List.{List, [], _∷_, _++_}
+use mathlib.Core.List.{List, [], _∷_}
 use native.Mathlib.Nat.{le-refl}
 use native.Mathlib.Omega.{arith}
 use lib.Dec.{eqb}
 use lib.ListN.{length}
-use borrow.Author.Tests.{ltb-true}
 use Rattle.meaning.specs.Syntax.{Occurrence, Module}
-use Rattle.meaning.specs.Gates.{Gate, isGate, gate, gates}
-use Rattle.meaning.specs.Boxlist.{Found, box, F, assoc, subset}
-use Rattle.meaning.specs.Limits.{driven, netCount, bodySize, expandedSize, mostModuleNets, mostSize}
+use Rattle.meaning.specs.Gates.{isGate}
+use Rattle.meaning.specs.Boxlist.{box, assoc}
+use Rattle.meaning.specs.Limits.{netCount, bodySize, expandedSize, mostModuleNets, mostSize}
 use Rattle.meaning.specs.Figures.{bodyWeight, gateWeight, gateCount, kindCount, largestReferred, room}
-use Rattle.laws.specs.WellFormed.{Reference, toGate, toModule, Body, done, step, ModuleOk, Accepted, none, some}
+use Rattle.laws.specs.WellFormed.{Accepted, none, some}
 use Rattle.laws.specs.Finding.{found-every}
 use Rattle.laws.specs.Acceptable.{size-within}
 
@@ -45,8 +44,7 @@ module _ (weight : ℕ → ℕ) (light : (kind : ℕ) → weight kind ≤ 1) whe
   weight-size [] x = omega arith
   weight-size (m ∷ later) x = go (eqb x (m .number)) (weight-size later x) (body-weight _ _ (weight-size later) (m .occurrences))
     where
-      go :
-          (b : Bool) {w v w′ v′ : ℕ} → w ≤ v → w′ ≤ v′ → cond b w′ w ≤ cond b v′ v
+      go : (b : Bool) {w v w′ v′ : ℕ} → w ≤ v → w′ ≤ v′ → cond b w′ w ≤ cond b v′ v
       go true h h′ = h′
       go false h h′ = h
 
@@ -56,14 +54,17 @@ gates-within {ms} a x = omega (arith, weight-size (λ kind. 1) (λ kind. le-refl
 
 pub kinds-within : {ms : List Module} (kind : ℕ) → Accepted ms → (x : ℕ) → kindCount kind ms x ≤ mostSize
 unfolding kindCount
-kinds-within {ms} kind a x = omega (arith, weight-size (λ other. cond (eqb other kind) 1 0) (λ other. one (eqb other kind)) ms x, size-within a x)
+kinds-within {ms} kind a x =
+    let counted = weight-size (λ other. cond (eqb other kind) 1 0) (λ other. one (eqb other kind)) ms x in
+    omega (arith, size-within a x)
   where
     one : (b : Bool) → cond b 1 0 ≤ 1
     one true = omega arith
     one false = omega arith
 
--- Room is at most the limit on a module's nets for each module.
-largest-within : (inner : ℕ → ℕ) (most : ℕ) → ((x : ℕ) → inner x ≤ most) → (os : List Occurrence) → largestReferred inner os ≤ most
+-- Room is at most as many times the limit on a module's nets as there are modules.
+largest-within :
+    (inner : ℕ → ℕ) (most : ℕ) → ((x : ℕ) → inner x ≤ most) → (os : List Occurrence) → largestReferred inner os ≤ most
 unfolding largestReferred
 largest-within inner most h [] = omega arith
 largest-within inner most h (o ∷ os) = go (isGate (o .refers)) (largest-within inner most h os)

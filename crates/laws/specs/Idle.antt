@@ -1,9 +1,9 @@
--- A module without inputs drives nothing, so it has no outputs: a gate takes at least one argument, which nothing could drive, and a
--- module that it refers to has no inputs either.
+-- A module without inputs drives nothing, so it has no outputs: a gate takes at least one argument, which nothing could drive, and
+-- a module that it refers to has no inputs either.
 use Prim.Native.Nat.{ℕ, zero, suc, _≤_, _<_}
-use mathlib.Core.Path.{_≡_, refl, sym, ap, _∙_}
-use mathlib.Core.Bool.{Bool, true, false, _&&_, false≢true}
-use mathlib.Core.List.{List, [], _∷_, _++_}
+use mathlib.Core.Path.{_≡_, refl, ap}
+use mathlib.Core.Bool.{Bool, true, _&&_, false≢true}
+use mathlib.Core.List.{List, [], _∷_}
 use native.Mathlib.Omega.{arith}
 use lib.Dec.{leb}
 use lib.ListN.{length, getD}
@@ -27,7 +27,7 @@ takes-some [] i d e h = absurd (omega arith)
 takes-some (g ∷ gs) zero d e h = leb-true 1 (g .arity) (and-both (leb 1 (g .arity)) (takesSome gs) e .0)
 takes-some (g ∷ gs) (suc i) d e h = takes-some gs i d (and-both (leb 1 (g .arity)) (takesSome gs) e .1) (omega arith)
 
-pub gate-takes : (x : ℕ) → isGate x ≡ true → 1 ≤ gate x .arity
+gate-takes : (x : ℕ) → isGate x ≡ true → 1 ≤ gate x .arity
 unfolding gate gates takesSome
 gate-takes x g = takes-some gates x _ refl (ltb-true x 16 g)
 
@@ -40,14 +40,17 @@ length-none : (xs : List ℕ) → length xs ≡ 0 → xs ≡ []
 length-none [] e = refl
 length-none (x ∷ xs) e = absurd (omega arith)
 
+-- A module that does nothing.
 pub record Idle (m : Module) : Type 0 where
   pub drivesNothing : driven (m .occurrences) ≡ []
   pub noOutputs : m .outputs ≡ []
 
--- Where this holds of the modules referred to, occurrences without signals drive nothing.
+-- Where this is so of the modules referred to, occurrences without signals drive nothing.
 module _ (later : List Module) (idle : (x : ℕ) (k : Module) → assoc x later ≡ box k → k .inputs ≡ [] → Idle k) where
   reference-idle : (o : Occurrence) → Reference later o → o .takes ≡ [] → o .drives ≡ []
-  reference-idle o (toGate g a d) e = let z : length (o .takes) ≡ 0 = ap length e in absurd (omega (arith, gate-takes (o .refers) g))
+  reference-idle o (toGate g a d) e =
+      let z : length (o .takes) ≡ 0 = ap length e in
+      absurd (omega (arith, gate-takes (o .refers) g))
   reference-idle o (toModule m g f a d) e =
       let z : length (o .takes) ≡ 0 = ap length e in
       let y : length (m .outputs) ≡ 0 = ap length (idle (o .refers) m f (length-none (m .inputs) (omega arith)) .noOutputs) in
@@ -61,7 +64,8 @@ module _ (later : List Module) (idle : (x : ℕ) (k : Module) → assoc x later 
       rw drives (body-idle rest (rw (drives, e)))
 
 pub no-inputs-idle : {ms : List Module} → Accepted ms → (x : ℕ) (m : Module) → assoc x ms ≡ box m → m .inputs ≡ [] → Idle m
-no-inputs-idle = found-every {P = λ m. m .inputs ≡ [] → Idle m} (λ m later ok idle e. each m later ok (body-idle later idle (ok .body) e))
+no-inputs-idle =
+    found-every {P = λ m. m .inputs ≡ [] → Idle m} (λ m later ok idle e. each m later ok (body-idle later idle (ok .body) e))
   where
     each : (m : Module) (later : List Module) → ModuleOk m later → driven (m .occurrences) ≡ [] → Idle m
     each m later ok e = record { drivesNothing = e; noOutputs = subset-none (m .outputs) (rw e at (ok .outputsDriven)) }

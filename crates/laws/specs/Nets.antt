@@ -1,12 +1,13 @@
--- The nets of an accepted module, inputs and driven nets, are all different: each is driven once (document 000: there are no busses).
+-- The nets of an accepted module, inputs and driven nets, are all different: there are no busses, as document 000 has it.
 use Prim.Native.Nat.{ℕ}
 use mathlib.Core.Logic.{_⊎_, inl, inr}
-use mathlib.Core.List.{List, [], _∷_, _++_, List·Memᴰ·head as here, List·Memᴰ·tail as there, List·Memᴰ·not-nil as in-none, Memᴰ·append-left as in-left, Memᴰ·append-right as in-right, List·Memᴰ·append-cases as in-either}
+use mathlib.Core.List.{List, [], _∷_, _++_}
 use mathlib.Core.Path.{refl}
 use Rattle.meaning.specs.Syntax.{Occurrence, Module}
 use Rattle.meaning.specs.Members.{_∈_, Twice, again, further, Common}
 use Rattle.meaning.specs.Limits.{driven}
 use Rattle.laws.specs.Tests.{if-true, if-false}
+use Rattle.laws.specs.Members.{here, there, in-none, in-left, in-right, in-either}
 use Rattle.laws.specs.Members.{twice-none, duplicates-tells, disjoint-tells}
 use Rattle.laws.specs.WellFormed.{Body, done, step, ModuleOk}
 
@@ -23,6 +24,7 @@ twice-append (x ∷ xs) ys first second apart (further t) =
     (λ c. apart (record { net = c .net; inFirst = there (c .inFirst); inSecond = c .inSecond }))
     t
 
+-- What occurrences drive is driven once, and was no signal before.
 record Fresh (signals : List ℕ) (os : List Occurrence) : Type 0 where
   once : ¬ (Twice (driven os))
   apart : ¬ (Common signals (driven os))
@@ -48,4 +50,5 @@ body-fresh {later} {signals} (step {o = o} {os = os} ok rest) = here-fresh (body
 pub nets-once : {m : Module} {later : List Module} → ModuleOk m later → ¬ (Twice (m .inputs ++ driven (m .occurrences)))
 nets-once {m} ok =
     let fresh = body-fresh (ok .body) in
-    twice-append (m .inputs) (driven (m .occurrences)) (if-false (duplicates-tells (m .inputs)) (ok .inputsDistinct)) (fresh .once) (fresh .apart)
+    let inputs = if-false (duplicates-tells (m .inputs)) (ok .inputsDistinct) in
+    twice-append (m .inputs) (driven (m .occurrences)) inputs (fresh .once) (fresh .apart)

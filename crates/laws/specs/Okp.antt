@@ -1,23 +1,23 @@
--- BODY-OKP and BOXLIST-OKP of document 000 say what `Body` and the fields of `ModuleOk` say. They differ in one place: BODY-OKP asks
--- that an output be a signal at the end, an input or a driven net, and document 01 that it be driven. A module with no net that is
--- both input and output keeps the one exactly where it keeps the other.
+-- BODY-OKP and BOXLIST-OKP of document 000 say what `Body` and the fields of `ModuleOk` say. They differ in one place: BODY-OKP
+-- asks that an output be a signal at the end, an input or a driven net, and document 01 that it be driven. A module with no net
+-- that is both input and output keeps the one exactly where it keeps the other.
 use Prim.Native.Nat.{ℕ, _≤_}
 use mathlib.Core.Logic.{_⊎_, inl, inr}
 use mathlib.Core.Path.{_≡_, refl}
 use mathlib.Core.Bool.{true}
-use mathlib.Core.List.{List, [], _∷_, _++_, List·Memᴰ·not-nil as in-none, Memᴰ·append-left as in-left, Memᴰ·append-right as in-right, List·Memᴰ·append-cases as in-either}
+use mathlib.Core.List.{List, [], _∷_, _++_}
 use borrow.Author.Tests.{not-true}
 use Rattle.meaning.specs.Syntax.{Occurrence, Module}
 use Rattle.meaning.specs.Members.{_∈_}
 use Rattle.meaning.specs.Boxlist.{disjoint, subset, bodyOkp, boxlistOkp}
 use Rattle.meaning.specs.Limits.{driven, netCount, bodySize, expandedSize, mostModuleNets, mostSize}
 use Rattle.laws.specs.Tests.{if-true, is-true, and-both}
-use Rattle.laws.specs.Members.{subset-tells, subset-in, disjoint-out}
+use Rattle.laws.specs.Members.{in-none, in-left, in-right, in-either, subset-tells, subset-in, disjoint-out}
 use Rattle.laws.specs.Finding.{reference-tells, reference-fits, not-box}
 use Rattle.laws.specs.WellFormed.{Body, done, step, ModuleOk, Accepted, none, some}
 
 -- A net that an output may be where BODY-OKP starts on a list of occurrences: a signal already, or driven by them.
-abbrev pub Reached : (signals : List ℕ) → List Occurrence → ℕ → Type 0
+abbrev Reached : (signals : List ℕ) → List Occurrence → ℕ → Type 0
 Reached signals os x = (x ∈ signals) ⊎ (x ∈ driven os)
 
 reached-none : {signals : List ℕ} {x : ℕ} → Reached signals [] x → x ∈ signals
@@ -45,7 +45,7 @@ module _ (o : Occurrence) (os : List Occurrence) (signals : List ℕ) (x : ℕ) 
       split (inl k) = inl (in-left signals k)
       split (inr k) = inr k
 
-pub okp-body :
+okp-body :
     (os : List Occurrence) (signals outputs : List ℕ) (later : List Module)
     → bodyOkp os signals outputs later ≡ true
     → Body later signals os × ((x : ℕ) → x ∈ outputs → Reached signals os x)
@@ -62,13 +62,14 @@ okp-body (o ∷ os) signals outputs later e =
       λ x i. reached-before o os signals x (rest .1 x i),
     )
 
-pub body-okp :
+body-okp :
     {later : List Module} {signals : List ℕ} {os : List Occurrence} (outputs : List ℕ)
     → Body later signals os
     → ((x : ℕ) → x ∈ outputs → Reached signals os x)
     → bodyOkp os signals outputs later ≡ true
 unfolding bodyOkp
-body-okp {later} {signals} outputs done reached = is-true (subset-tells outputs signals) (λ l. l .missing (reached-none (reached (l .net) (l .listed))))
+body-okp {later} {signals} outputs done reached =
+    is-true (subset-tells outputs signals) (λ l. l .missing (reached-none (reached (l .net) (l .listed))))
 body-okp {later} {signals} outputs (step {o = o} {os = os} ok rest) reached =
     rw (
       ok .distinct,
@@ -85,12 +86,14 @@ outputs-driven :
     → ((x : ℕ) → x ∈ m .outputs → Reached (m .inputs) (m .occurrences) x)
     → subset (m .outputs) (driven (m .occurrences)) ≡ true
 outputs-driven m apart reached =
-    is-true (subset-tells (m .outputs) (driven (m .occurrences))) (λ l. at (l .net) (l .listed) (l .missing) (reached (l .net) (l .listed)))
+    is-true (subset-tells (m .outputs) (driven (m .occurrences)))
+    (λ l. at (l .net) (l .listed) (l .missing) (reached (l .net) (l .listed)))
   where
     at : (x : ℕ) → x ∈ m .outputs → ¬ (x ∈ driven (m .occurrences)) → Reached (m .inputs) (m .occurrences) x → ⊥
     at x output undriven (inl i) = disjoint-out (m .inputs) (m .outputs) apart i output
     at x output undriven (inr i) = undriven i
 
+-- BOXLIST-OKP and our limits give a module that is accepted, and BOXLIST-OKP of the rest.
 pub okp-module :
     (m : Module) (later : List Module)
     → boxlistOkp (m ∷ later) ≡ true

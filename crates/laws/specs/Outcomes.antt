@@ -1,8 +1,8 @@
 -- Outcomes of rules in their order: an outcome is determined, and the combinators `keep` and `andThen` of a verdict are the next
 -- rule and the next list of rules.
 use Prim.Native.Nat.{ℕ}
-use mathlib.Core.Path.{_≡_, refl, sym}
-use mathlib.Core.Bool.{Bool, true, false}
+use mathlib.Core.Path.{_≡_, refl}
+use mathlib.Core.Bool.{Bool}
 use mathlib.Core.List.{List, [], _∷_, _++_}
 use Rattle.meaning.specs.Verdict.{Verdict, good, refused, keep, andThen}
 use Rattle.meaning.specs.Rules.{Rule, rule, Outcome, allKept, broken, kept}
