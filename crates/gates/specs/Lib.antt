@@ -2,4 +2,5 @@
 pub mod Kind
 pub mod Seen
 pub mod Folding
+pub mod Rules
 pub mod Gates
