@@ -2,4 +2,3 @@
 pub mod Numbers
 pub mod Later
 pub mod Targets
-pub mod NumberKinds

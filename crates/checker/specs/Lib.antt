@@ -3,3 +3,4 @@ pub mod Filed
 pub mod Numbering
 pub mod References
 pub mod Scene
+pub mod Occurrences

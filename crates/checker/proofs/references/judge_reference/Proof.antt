@@ -1,14 +1,14 @@
 -- A gate has its own counts; any other number goes to the modules.
 use borrow.Author.Needs.{needs}
-use borrow.Author.Tests.{eq-eqb, ne-eqb}
+use borrow.Author.Tests.{eq-eqb, ne-eqb, lt-ltb, le-ltb}
 use Prim.Native.Nat.{ℕ}
 use mathlib.Core.Path.{_≡_, sym, ap, ap₂, _∙_}
 use mathlib.Core.Bool.{Bool, true, false, _&&_, and-false}
 use mathlib.Core.List.{List}
 use lib.Dec.{eqb}
 use lib.ListN.{length}
-use Rattle.meaning.specs.Gates.{isGate, gate}
-use Rattle.checker.proofs.NumberKinds.{gate-kind, module-kind}
+use Rattle.meaning.specs.Gates.{gate}
+use Rattle.gates.specs.Gates.{gate-of-kind, module-of-kind}
 use Rattle.checker.proofs.Targets.{to-gate}
 use Rattle.checker.proofs.references.judge_reference.Statement.{statement}
 use Rattle.checker.proofs.references.judge_reference.Tie as tie
@@ -23,16 +23,16 @@ returns : tie.Need-returns
 returns c ms takes drives filed numbered unrepeated taken driven =
     let a = c .before .before .before .before .before .before .before .before .args in
     let v = c .before .before .arity .given in
-    let g = gate-kind (a .number) (v .0 .0) (v .0 .1 .0) (sym (c .before .before .before .before .kind-of .ensures) ∙ v .1) in
-    sym (to-gate ms (a .k) (a .number) takes drives (g .0) false
-    (ap (λ (b : Bool). b && eqb 1 (length drives)) (ne-eqb (gate (a .number) .arity) (length takes) (λ e. c .if1 .taken (taken ∙ sym e ∙ g .1)))))
+    let g = gate-of-kind (a .number) (sym (c .before .before .before .before .kind-of .ensures) ∙ v .1) in
+    sym (to-gate ms (a .k) (a .number) takes drives (lt-ltb (a .number) 16 (g .below)) false
+    (ap (λ (b : Bool). b && eqb 1 (length drives)) (ne-eqb (gate (a .number) .arity) (length takes) (λ e. c .if1 .taken (taken ∙ sym e ∙ sym (g .arity-is))))))
 
 returns-2 : tie.Need-returns-2
 returns-2 c ms takes drives filed numbered unrepeated taken driven =
     let a = c .before .before .before .before .before .before .before .before .before .args in
     let v = c .before .before .before .arity .given in
-    let g = gate-kind (a .number) (v .0 .0) (v .0 .1 .0) (sym (c .before .before .before .before .before .kind-of .ensures) ∙ v .1) in
-    sym (to-gate ms (a .k) (a .number) takes drives (g .0) false
+    let g = gate-of-kind (a .number) (sym (c .before .before .before .before .before .kind-of .ensures) ∙ v .1) in
+    sym (to-gate ms (a .k) (a .number) takes drives (lt-ltb (a .number) 16 (g .below)) false
     (ap (λ (b : Bool). eqb (gate (a .number) .arity) (length takes) && b) (ne-eqb 1 (length drives) (λ e. c .if2 .taken (driven ∙ sym e)))
     ∙ and-false (eqb (gate (a .number) .arity) (length takes))))
 
@@ -42,16 +42,16 @@ enum-told c = search needs
 judge-module-requires : tie.Need-judge-module-requires
 judge-module-requires c κs =
     let s = c .before .before .before .before .before .before in
-    (s .pre, module-kind (s .args .number) (sym (c .before .before .kind-of .ensures) ∙ c .enum-told .given .1))
+    (s .pre, le-ltb (s .args .number) 16 (module-of-kind (s .args .number) (sym (c .before .before .kind-of .ensures) ∙ c .enum-told .given .1)))
 
 returns-3 : tie.Need-returns-3
 returns-3 c ms takes drives filed numbered unrepeated taken driven =
     let a = c .before .before .before .before .before .before .before .before .before .args in
     let v = c .before .before .before .arity .given in
-    let g = gate-kind (a .number) (v .0 .0) (v .0 .1 .0) (sym (c .before .before .before .before .before .kind-of .ensures) ∙ v .1) in
-    sym (to-gate ms (a .k) (a .number) takes drives (g .0) true
+    let g = gate-of-kind (a .number) (sym (c .before .before .before .before .before .kind-of .ensures) ∙ v .1) in
+    sym (to-gate ms (a .k) (a .number) takes drives (lt-ltb (a .number) 16 (g .below)) true
     (ap₂ _&&_
-    (eq-eqb (gate (a .number) .arity) (length takes) (g .1 ∙ sym (c .before .if1 .left) ∙ taken))
+    (eq-eqb (gate (a .number) .arity) (length takes) (sym (g .arity-is) ∙ sym (c .before .if1 .left) ∙ taken))
     (eq-eqb 1 (length drives) (sym (c .if2 .left) ∙ driven))))
 
 returns-4 : tie.Need-returns-4
