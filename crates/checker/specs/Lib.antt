@@ -4,3 +4,4 @@ pub mod Numbering
 pub mod References
 pub mod Scene
 pub mod Occurrences
+pub mod Bodies
