@@ -1,6 +1,6 @@
 -- Reading a resolved file: a module's nets are a frame, a list of values, one for each slot in the order in which slots are given
 -- values. What an occurrence drives is added at the frame's end, so nothing is looked up by name.
-use Prim.Native.Nat.{ℕ, _+_, _<_, _≤_}
+use Prim.Native.Nat.{ℕ, suc, _+_, _<_, _≤_}
 use mathlib.Core.Path.{_≡_}
 use mathlib.Core.Bool.{true, false, cond}
 use mathlib.Core.List.{List, [], _∷_, _++_}
@@ -52,4 +52,4 @@ pub record FrameOk (position : ℕ) (m : Module) (later : List Module) : Type 0 
 
 pub data FramesOk : (position : ℕ) → List Module → Type 0 where
   none : {position : ℕ} → FramesOk position []
-  some : {position : ℕ} {m : Module} {later : List Module} → FrameOk position m later → FramesOk (1 + position) later → FramesOk position (m ∷ later)
+  some : {position : ℕ} {m : Module} {later : List Module} → FrameOk position m later → FramesOk (suc position) later → FramesOk position (m ∷ later)

@@ -5,3 +5,8 @@ pub mod Resolved
 pub mod Laid
 pub mod Frames
 pub mod Pieces
+pub mod Searching
+pub mod Positions
+pub mod Referring
+pub mod Keeping
+pub mod Shapes
