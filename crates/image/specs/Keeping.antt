@@ -4,6 +4,7 @@ use Prim.Native.Nat.{ℕ, suc, _+_}
 use mathlib.Core.Path.{_≡_, refl, sym, ap, ap₂, subst, _∙_}
 use mathlib.Core.Bool.{Bool, true, false, cond}
 use mathlib.Core.List.{List, [], _∷_}
+use native.Mathlib.Nat.{zero-add}
 use native.Mathlib.Omega.{arith}
 use borrow.Author.Tests.{eq-eqb, ne-eqb}
 use lib.Dec.{eqb}
@@ -35,18 +36,22 @@ pub record Turn
 module _
     {C C′ : Type 0} (R : Module → C → C′ → Type 0)
     {f : List Module → ℕ → C} {own : Module → List Module → C} (search : Search f own)
-    {f′ : List Module → ℕ → C′} {own′ : Module → List Module → C′} (search′ : Search f′ own′) where
+    {f′ : List Module → ℕ → C′} {own′ : Module → List Module → C′} (search′ : Search f′ own′)
+    (turn :
+        (refer : ℕ → ℕ) (position : ℕ) (m : Module) (later : List Module)
+        → Turn R f f′ refer position m later
+        → R m (own m later) (own′ (resolveModule refer position m) (resolveFrom refer (suc position) later))) where
   pub kept-throughout :
-      {refer : ℕ → ℕ}
-      → ((position : ℕ) (m : Module) (later : List Module) → Turn R f f′ refer position m later
-      → R m (own m later) (own′ (resolveModule refer position m) (resolveFrom refer (suc position) later)))
-      → {ms : List Module} (position : ℕ) → Accepted ms → Refers refer position ms → Kept R f f′ refer position ms
+      {refer : ℕ → ℕ} {position : ℕ} {ms : List Module}
+      → Accepted ms
+      → Refers refer position ms
+      → Kept R f f′ refer position ms
   unfolding assoc resolveFrom
-  kept-throughout turn position none refers = record { kept = λ number m e. absurd (let z : _≡_ {A = ℕ} 0 1 = cc in omega arith) }
-  kept-throughout {refer} turn position (some {m} {later} ok rest) refers =
+  kept-throughout none refers = record { kept = λ number m e. absurd (let z : _≡_ {A = ℕ} 0 1 = cc in omega arith) }
+  kept-throughout {refer} {position} (some {m} {later} ok rest) refers =
       let behind = refers-behind ok refers in
-      let before = kept-throughout turn (suc position) rest behind in
-      let of-first = turn position m later (record { ok = ok; rest = rest; refers = behind; before = before }) in
+      let before = kept-throughout rest behind in
+      let of-first = turn refer position m later (record { ok = ok; rest = rest; refers = behind; before = before }) in
       record { kept = λ number n e. go before behind of-first number n (eqb number (m .number)) refl e }
     where
       r : Module
@@ -82,3 +87,16 @@ module _
             search′ .past .passes r rs (refer number) (ne-eqb (refer number) (r .number) (λ same. omega (arith, numbered))),
           )
           (before .kept number n e)
+
+  pub kept-in-file :
+      {ms : List Module}
+      → Accepted ms
+      → (number : ℕ) (m : Module)
+      → assoc number ms ≡ box m
+      → R m (f ms number) (f′ (resolve ms) (16 + positionOf number ms))
+  unfolding resolve
+  kept-in-file {ms} accepted number m e =
+      let refers = refers-whole accepted in
+      let place : referTo ms number ≡ 16 + positionOf number ms = refers .modules number m e ∙ ap (λ (p : ℕ). 16 + p) (zero-add (positionOf number ms)) in
+      subst (λ (n : ℕ). R m (f ms number) (f′ (resolveFrom (referTo ms) 0 ms) n)) place
+      (kept-throughout accepted refers .kept number m e)

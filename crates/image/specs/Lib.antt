@@ -10,3 +10,6 @@ pub mod Positions
 pub mod Referring
 pub mod Keeping
 pub mod Shapes
+pub mod Ordered
+pub mod Holding
+pub mod FramesMean

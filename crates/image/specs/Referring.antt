@@ -74,12 +74,18 @@ refer-first {position = position} {m = m} refers number h =
     rw h at place ∙ first
 
 -- A reference goes to a gate after resolution exactly where it did before.
+pub refer-no-gate :
+    {refer : ℕ → ℕ} {position : ℕ} {later : List Module}
+    → Refers refer position later
+    → (number : ℕ) (m : Module)
+    → assoc number later ≡ box m
+    → isGate (refer number) ≡ false
+refer-no-gate {refer} refers number m e = let place = refers .modules number m e in le-ltb (refer number) 16 (omega arith)
+
 pub kind-kept :
     {refer : ℕ → ℕ} {position : ℕ} {later : List Module} {o : Occurrence}
     → Refers refer position later
     → Reference later o
     → isGate (refer (o .refers)) ≡ isGate (o .refers)
 kind-kept {o = o} refers (toGate h arity one) = ap isGate (refers .gates (o .refers) h)
-kind-kept {refer} {o = o} refers (toModule m h e takes drives) =
-    let place = refers .modules (o .refers) m e in
-    le-ltb (refer (o .refers)) 16 (omega arith) ∙ sym h
+kind-kept {o = o} refers (toModule m h e takes drives) = refer-no-gate refers (o .refers) m e ∙ sym h
