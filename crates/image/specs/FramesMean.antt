@@ -13,13 +13,12 @@ use Rattle.meaning.specs.Evaluation.{Env, lookAll, pairs, Meaning, apply, walk,
 use Rattle.laws.specs.WellFormed.{Reference, toGate, toModule, ModuleOk, Accepted}
 use Rattle.laws.specs.OutputCount.{length-of-lookAll, length-of-runModule}
 use Rattle.nets.specs.Slots.{slotOf}
-use Rattle.nets.specs.SlotLaws.{slot-append}
 use Rattle.image.specs.Resolved.{positionOf, netsOf, resolveOccurrence, resolveModule, resolveFrom, resolve}
 use Rattle.image.specs.Frames.{readSlots, walkFrame, runFrame, runFrames}
 use Rattle.image.specs.Searching.{run-search, runFrames-search}
 use Rattle.image.specs.Referring.{Refers, refer-no-gate}
 use Rattle.image.specs.Keeping.{Kept, Turn, kept-in-file}
-use Rattle.image.specs.Ordered.{Ordered, done, step, ordered, outputs-known}
+use Rattle.image.specs.Ordered.{Ordered, done, step, ordered, slot-known, outputs-known}
 use Rattle.image.specs.Holding.{Holds, holds-more, holds-inputs, read-known}
 
 -- Two ways to run a module: they do the same, and give as many values as it has outputs.
@@ -65,12 +64,9 @@ walk-holds {A} unset {gateMeaning} {l} {l′} {refer} applied all {nets} {env = 
     vs : List A
     vs = apply gateMeaning l (o .refers) args
 
-    slots : (x : ℕ) → member x nets ≡ true → slotOf x all ≡ slotOf x nets
-    slots x among = ap (slotOf x) e ∙ slot-append x nets (driven (o ∷ os)) among
-
     values : apply gateMeaning l′ (refer (o .refers)) (readSlots unset frame (map (λ x. slotOf x all) (o .takes))) ≡ vs
     values =
-        ap (apply gateMeaning l′ (refer (o .refers))) (read-known unset holds slots (o .takes) (ok .bound))
+        ap (apply gateMeaning l′ (refer (o .refers))) (read-known unset holds (slot-known all nets (driven (o ∷ os)) e) (o .takes) (ok .bound))
         ∙ applied .same o (ok .reference) args (length-of-lookAll unset (o .takes) env)
 
 module _

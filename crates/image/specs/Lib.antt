@@ -13,3 +13,5 @@ pub mod Shapes
 pub mod Ordered
 pub mod Holding
 pub mod FramesMean
+pub mod ResolvedLayout
+pub mod ResolvedOk

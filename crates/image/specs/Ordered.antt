@@ -10,6 +10,7 @@ use Rattle.meaning.specs.Limits.{driven}
 use Rattle.laws.specs.WellFormed.{OccurrenceOk, Body, ModuleOk}
 use Rattle.nets.specs.Slots.{slotOf}
 use Rattle.nets.specs.Members.{and-left, and-right, member-append, disjoint-same, subset-same}
+use Rattle.nets.specs.SlotLaws.{slot-append}
 use Rattle.image.specs.Resolved.{netsOf}
 
 pub data Ordered (later : List Module) : (nets : List ℕ) → List Occurrence → Type 0 where
@@ -43,6 +44,11 @@ in-order nets same (Body.step {signals} {o} ok rest) =
 
 pub ordered : {m : Module} {later : List Module} → ModuleOk m later → Ordered later (m .inputs) (m .occurrences)
 ordered {m} ok = in-order (m .inputs) (λ x. refl) (ok .body)
+
+-- A net keeps its slot when nets are added.
+pub slot-known :
+    (all nets further : List ℕ) → all ≡ nets ++ further → (x : ℕ) → member x nets ≡ true → slotOf x all ≡ slotOf x nets
+slot-known all nets further e x among = ap (slotOf x) e ∙ slot-append x nets further among
 
 subset-append-right : (l ns ms : List ℕ) → subset l ms ≡ true → subset l (ns ++ ms) ≡ true
 unfolding subset

@@ -10,6 +10,10 @@ use Rattle.meaning.specs.Layout.{each, occurrenceNumbers, moduleNumbers}
 use Rattle.image.specs.Pieces.{length-of-occurrence, length-of-module}
 use Rattle.image.specs.Resolved.{netsOf, slotIn, resolveOccurrence, resolveModule}
 
+pub length-of-nets : (m : Module) → length (netsOf m) ≡ netCount m
+unfolding netsOf netCount
+length-of-nets m = length-append (m .inputs) (driven (m .occurrences))
+
 -- Occurrences resolved: the nets that they drive, and the length of their numbers.
 module _ (slot refer : ℕ → ℕ) where
   pub driven-resolved : (os : List Occurrence) → driven (map (resolveOccurrence slot refer) os) ≡ map slot (driven os)
@@ -17,18 +21,19 @@ module _ (slot refer : ℕ → ℕ) where
   driven-resolved [] = refl
   driven-resolved (o ∷ os) = ap (λ (nets : List ℕ). map slot (o .drives) ++ nets) (driven-resolved os) ∙ sym (map-append slot (o .drives) (driven os))
 
-  length-of-body :
+  pub length-of-resolved-occurrence :
+      (o : Occurrence) → length (occurrenceNumbers (resolveOccurrence slot refer o)) ≡ length (occurrenceNumbers o)
+  length-of-resolved-occurrence o = simp (length-of-occurrence, length-map)
+
+  pub length-of-resolved-body :
       (os : List Occurrence)
       → length (each occurrenceNumbers (map (resolveOccurrence slot refer) os)) ≡ length (each occurrenceNumbers os)
   unfolding each
-  length-of-body [] = refl
-  length-of-body (o ∷ os) =
+  length-of-resolved-body [] = refl
+  length-of-resolved-body (o ∷ os) =
       length-append (occurrenceNumbers (resolveOccurrence slot refer o)) _
-      ∙ ap₂ _+_ first (length-of-body os)
+      ∙ ap₂ _+_ (length-of-resolved-occurrence o) (length-of-resolved-body os)
       ∙ sym (length-append (occurrenceNumbers o) (each occurrenceNumbers os))
-    where
-      first : length (occurrenceNumbers (resolveOccurrence slot refer o)) ≡ length (occurrenceNumbers o)
-      first = simp (length-of-occurrence, length-map)
 
 module _ (refer : ℕ → ℕ) (position : ℕ) (m : Module) where
   pub number-of-resolved : resolveModule refer position m .number ≡ 16 + position
@@ -54,6 +59,6 @@ module _ (refer : ℕ → ℕ) (position : ℕ) (m : Module) where
   unfolding resolveModule netCount
   netCount-of-resolved = simp (driven-resolved, length-map)
 
-  pub length-of-resolved : length (moduleNumbers (resolveModule refer position m)) ≡ length (moduleNumbers m)
+  pub length-of-resolved-module : length (moduleNumbers (resolveModule refer position m)) ≡ length (moduleNumbers m)
   unfolding resolveModule
-  length-of-resolved = simp (length-of-module, length-map, length-of-body)
+  length-of-resolved-module = simp (length-of-module, length-map, length-of-resolved-body)
