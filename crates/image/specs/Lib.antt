@@ -15,3 +15,6 @@ pub mod Holding
 pub mod FramesMean
 pub mod ResolvedLayout
 pub mod ResolvedOk
+pub mod OwnSlots
+pub mod Stepping
+pub mod FrameLengths

@@ -10,6 +10,7 @@ use Rattle.meaning.specs.Syntax.{Occurrence, Module}
 use Rattle.meaning.specs.Gates.{isGate, gate}
 use Rattle.meaning.specs.Boxlist.{box, assoc, member, subset}
 use Rattle.meaning.specs.Limits.{driven, netCount}
+use Rattle.meaning.specs.Adder.{upFrom}
 use Rattle.laws.specs.WellFormed.{Reference, toGate, toModule, ModuleOk, Accepted}
 use Rattle.nets.specs.Slots.{slotOf}
 use Rattle.nets.specs.Members.{and-left, and-right}
@@ -21,6 +22,7 @@ use Rattle.image.specs.Searching.{assoc-search}
 use Rattle.image.specs.Positions.{found-at, says-at}
 use Rattle.image.specs.Referring.{Refers, refers-whole, refers-behind, refer-no-gate}
 use Rattle.image.specs.Ordered.{Ordered, done, step, ordered, slot-known, outputs-known}
+use Rattle.image.specs.OwnSlots.{own-slots}
 use Rattle.image.specs.ResolvedLayout.{resolveFrom-at, numbered-resolveFrom}
 
 -- A module that is found is found resolved, at its position.
@@ -95,6 +97,7 @@ module-resolved {refer} {position} {m} {later} refers ok =
       framed = rw length-map (framed-resolved (netsOf m) refers refl (ordered ok));
       answered = rw (count, ← length-of-nets m) (filled-slots (netsOf m) (λ x among. refl) (m .outputs) (outputs-known ok));
       nets = rw count (ok .nets);
+      slots = own-slots refer position ok ∙ ap (upFrom 0) (sym count);
     }
 
 pub file-resolved : {refer : ℕ → ℕ} {position : ℕ} {ms : List Module} → Refers refer position ms → Accepted ms → FramesOk position (resolveFrom refer position ms)
