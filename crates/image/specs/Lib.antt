@@ -18,3 +18,5 @@ pub mod ResolvedOk
 pub mod OwnSlots
 pub mod Stepping
 pub mod FrameLengths
+pub mod ResolvedFigures
+pub mod ResolvedLoads

@@ -51,14 +51,19 @@ pub room-search : Search room (λ m later. netCount m + largestReferred (room la
 unfolding room
 room-search = record { here = λ m later number h. rw h; past = room-searches }
 
-pub inputLoads-search : Search inputLoads (λ m later. map (netLoad (inputLoads later) (m .occurrences)) (m .inputs))
+-- The loads of a module's inputs, and its largest load, in front of the later modules.
+abbrev pub loadsOf : Module → List Module → List ℕ
+loadsOf m later = map (netLoad (inputLoads later) (m .occurrences)) (m .inputs)
+
+pub inputLoads-search : Search inputLoads loadsOf
 unfolding inputLoads
 inputLoads-search = record { here = λ m later number h. rw h; past = inputLoads-searches }
 
-pub largestLoad-search :
-    Search largestLoad
-    (λ m later.
+abbrev pub largestLoadOf : Module → List Module → ℕ
+largestLoadOf m later =
     max (largest (map (netLoad (inputLoads later) (m .occurrences)) (netsOf m)))
-    (largestReferred (largestLoad later) (m .occurrences)))
+    (largestReferred (largestLoad later) (m .occurrences))
+
+pub largestLoad-search : Search largestLoad largestLoadOf
 unfolding largestLoad netsOf
 largestLoad-search = record { here = λ m later number h. rw h; past = largestLoad-searches }
