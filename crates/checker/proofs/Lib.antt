@@ -2,3 +2,4 @@
 pub mod Numbers
 pub mod Later
 pub mod Targets
+pub mod Progress

@@ -13,7 +13,8 @@ use Rattle.meaning.specs.Boxlist.{member, disjoint, subset}
 use Rattle.meaning.specs.Evaluation.{Env, look, lookAll, pairs}
 use Rattle.laws.specs.Members.{member-in, out-member, disjoint-out}
 use Rattle.nets.specs.Slots.{slotOf}
-use Rattle.nets.specs.Members.{or-left, or-right, and-left, and-right, member-append}
+use Rattle.nets.specs.Booleans.{or-left, or-right, and-left, and-right}
+use Rattle.nets.specs.Members.{member-append}
 use Rattle.nets.specs.SlotLaws.{slot-below, slot-append}
 use Rattle.image.specs.Frames.{readSlots}
 

@@ -9,7 +9,8 @@ use Rattle.meaning.specs.Boxlist.{member, disjoint, subset}
 use Rattle.meaning.specs.Limits.{driven}
 use Rattle.laws.specs.WellFormed.{OccurrenceOk, Body, ModuleOk}
 use Rattle.nets.specs.Slots.{slotOf}
-use Rattle.nets.specs.Members.{and-left, and-right, member-append, disjoint-same, subset-same}
+use Rattle.nets.specs.Booleans.{and-left, and-right}
+use Rattle.nets.specs.Members.{member-append, disjoint-same, subset-same}
 use Rattle.nets.specs.SlotLaws.{slot-append}
 use Rattle.image.specs.Resolved.{netsOf}
 

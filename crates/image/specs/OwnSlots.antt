@@ -12,7 +12,8 @@ use Rattle.meaning.specs.Adder.{upFrom}
 use Rattle.laws.specs.Tests.{is-true}
 use Rattle.laws.specs.Members.{disjoint-tells, disjoint-out, out-member}
 use Rattle.laws.specs.WellFormed.{ModuleOk}
-use Rattle.nets.specs.Members.{or-left, or-right, member-append}
+use Rattle.nets.specs.Booleans.{or-left, or-right}
+use Rattle.nets.specs.Members.{member-append}
 use Rattle.nets.specs.SlotLaws.{slots-appended}
 use Rattle.image.specs.Resolved.{netsOf, resolveModule}
 use Rattle.image.specs.Shapes.{length-of-nets, nets-of-resolved}

@@ -15,7 +15,8 @@ use Rattle.laws.specs.Tests.{is-true}
 use Rattle.laws.specs.Members.{subset-tells}
 use Rattle.laws.specs.WellFormed.{Accepted}
 use Rattle.nets.specs.Slots.{slotOf}
-use Rattle.nets.specs.Members.{and-left, and-right, subset-append-left}
+use Rattle.nets.specs.Booleans.{and-left, and-right}
+use Rattle.nets.specs.Members.{subset-append-left}
 use Rattle.image.specs.Resolved.{positionOf, netsOf, slotIn, resolveOccurrence, resolveModule, resolveFrom, resolve}
 use Rattle.image.specs.Shapes.{nets-of-resolved}
 use Rattle.image.specs.Searching.{loadsOf, inputLoads-search, largestLoadOf, largestLoad-search}

@@ -13,7 +13,7 @@ use Rattle.meaning.specs.Limits.{driven, netCount}
 use Rattle.meaning.specs.Adder.{upFrom}
 use Rattle.laws.specs.WellFormed.{Reference, toGate, toModule, ModuleOk, Accepted}
 use Rattle.nets.specs.Slots.{slotOf}
-use Rattle.nets.specs.Members.{and-left, and-right}
+use Rattle.nets.specs.Booleans.{and-left, and-right}
 use Rattle.nets.specs.SlotLaws.{slot-below}
 use Rattle.image.specs.Resolved.{positionOf, netsOf, referTo, resolveOccurrence, resolveModule, resolveFrom, resolve}
 use Rattle.image.specs.Frames.{Filled, Framed, FrameOk, FramesOk}
