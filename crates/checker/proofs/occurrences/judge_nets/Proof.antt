@@ -70,8 +70,8 @@ returns-2 : tie.Need-returns-2
 returns-2 c =
     let e = c .before .before .before .before .before .has-repeat .ensures in
     drives-known (e .1)
-        (sym (e .0) ∙ c .before .before .if1 .left)
-        (λ nets k. sym (c .if2 .taken) ∙ c .before .any-known .ensures nets k)
+    (sym (e .0) ∙ c .before .before .if1 .left)
+    (λ nets k. sym (c .if2 .taken) ∙ c .before .any-known .ensures nets k)
 
 all-known-requires : tie.Need-all-known-requires
 all-known-requires c κs = search needs
@@ -83,9 +83,9 @@ returns-3 : tie.Need-returns-3
 returns-3 c =
     let e = c .before .before .before .before .before .before .before .has-repeat .ensures in
     drives-fresh (e .1) true
-        (sym (e .0) ∙ c .before .before .before .before .if1 .left)
-        (λ nets k. sym (c .before .before .if2 .left) ∙ c .before .before .before .any-known .ensures nets k)
-        (λ nets k. sym (c .if3 .taken) ∙ c .before .all-known .ensures nets k)
+    (sym (e .0) ∙ c .before .before .before .before .if1 .left)
+    (λ nets k. sym (c .before .before .if2 .left) ∙ c .before .before .before .any-known .ensures nets k)
+    (λ nets k. sym (c .if3 .taken) ∙ c .before .all-known .ensures nets k)
 
 same-length-4 : tie.Need-same-length-4
 same-length-4 c = search needs
@@ -94,9 +94,9 @@ returns-4 : tie.Need-returns-4
 returns-4 c =
     let e = c .before .before .before .before .before .before .before .has-repeat .ensures in
     drives-fresh (e .1) false
-        (sym (e .0) ∙ c .before .before .before .before .if1 .left)
-        (λ nets k. sym (c .before .before .if2 .left) ∙ c .before .before .before .any-known .ensures nets k)
-        (λ nets k. sym (c .if3 .left) ∙ c .before .all-known .ensures nets k)
+    (sym (e .0) ∙ c .before .before .before .before .if1 .left)
+    (λ nets k. sym (c .before .before .if2 .left) ∙ c .before .before .before .any-known .ensures nets k)
+    (λ nets k. sym (c .if3 .left) ∙ c .before .all-known .ensures nets k)
 
 pub judge-nets-spec : {M : Type 1} → statement M
 judge-nets-spec =
