@@ -3,3 +3,6 @@ pub mod Numbers
 pub mod Later
 pub mod Parts
 pub mod Judgement
+pub mod Laying
+pub mod Resolving
+pub mod Setting

@@ -9,11 +9,6 @@ use Rattle.checker.proofs.Parts.{Parts, driven-inside, parts}
 use Rattle.checker.proofs.Judgement.{searchable, judged-nets, judged-reference}
 use Rattle.checker.proofs.occurrences.judge_occurrence.Statement.{statement}
 use Rattle.checker.proofs.occurrences.judge_occurrence.Tie as tie
-use Rattle.checker.proofs.occurrences.judge_occurrence.Reads as reads
-use Rattle.checker.proofs.occurrences.judge_occurrence.Lts as lts
-use Rattle.checker.proofs.occurrences.judge_nets.Reads as judge-nets-reads
-use Rattle.checker.proofs.references.judge_reference.Reads as judge-reference-reads
-use Rattle.image.proofs.entry.Reads as entry-reads
 
 entry-requires : tie.Need-entry-requires
 entry-requires c κs = let p = c .before .before .before .before .before .pre in omega (arith, driven-inside (p .o) (p .stands) refl)
