@@ -3,3 +3,8 @@ pub mod Numbers
 pub mod Later
 pub mod Targets
 pub mod Progress
+pub mod Parts
+pub mod Judgement
+pub mod Laying
+pub mod Resolving
+pub mod Setting

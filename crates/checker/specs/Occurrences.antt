@@ -1,12 +1,12 @@
 -- What the steps on one occurrence answer.
-use Prim.Native.Nat.{ℕ, _+_, _<_, _≤_}
+use Prim.Native.Nat.{ℕ, _+_}
 use mathlib.Core.Path.{_≡_}
-use mathlib.Core.Bool.{Bool, true, false, not, _&&_, cond}
+use mathlib.Core.Bool.{true, false, not, _&&_, cond}
 use mathlib.Core.List.{List, _++_}
 use lib.ListN.{length}
-use Rattle.meaning.specs.Syntax.{Occurrence, Module}
+use Rattle.meaning.specs.Syntax.{Occurrence}
 use Rattle.meaning.specs.Layout.{occurrenceNumbers}
-use Rattle.meaning.specs.Boxlist.{member, duplicates, disjoint, subset}
+use Rattle.meaning.specs.Boxlist.{duplicates, disjoint, subset}
 use Rattle.meaning.specs.Verdict.{Verdict, good, refused, occurrenceVerdict}
 use Rattle.nets.specs.Slots.{Knows, Below, slotOf}
 use Rattle.image.specs.Stands.{Stands}
@@ -38,12 +38,13 @@ pub record Judged (numbers starts first slots : List ℕ) (base k at : ℕ) (mar
       → Judges r (occurrenceVerdict k o signals (s .later)) k (referTo (s .ms) (o .refers))
   pub marked : Below (at + 2) marks
 
--- An occurrence set down: its nets known, its numbers in the image, and the place behind it.
-pub record Written (numbers slots : List ℕ) (base at refers : ℕ) (image slots′ image′ : List ℕ) (r : ℕ) : Type 0 where
+-- An occurrence set down behind `filled` nets: its nets known, its numbers in the image, and the place behind it.
+pub record Written (numbers slots : List ℕ) (base filled at refers : ℕ) (image slots′ image′ : List ℕ) (r : ℕ) : Type 0 where
   pub written :
       (o : Occurrence) (nets : List ℕ)
       → Stands numbers at (occurrenceNumbers o)
       → Knows slots base nets
+      → filled ≡ length nets
       → duplicates (o .drives) ≡ false
       → disjoint (o .drives) nets ≡ true
       → subset (o .takes) nets ≡ true

@@ -1,6 +1,5 @@
 // Rules 11 to 14 for one occurrence, and its numbers in the image.
 use crate::references::Reference;
-ghost use Prim.Native.Nat.{ℕ, _+_};
 ghost use Rattle.checker.specs.Scene.{Judgeable, Writable, Searchable};
 ghost use Rattle.checker.specs.Occurrences.{NetsJudged, Judged, Written};
 
@@ -68,7 +67,7 @@ pub fn write_occurrence(
     image: &mut [u16],
 ) -> usize
     requires { ⌜ Writable (now numbers) (now slots) base filled at (now image) ⌝ }
-    ensures { λ r. ⌜ Written (now (numbers .entry)) (now (slots .entry)) base at refers (now (image .entry)) (now (slots .exit)) (now (image .exit)) r ⌝ }
+    ensures { λ r. ⌜ Written (now (numbers .entry)) (now (slots .entry)) base filled at refers (now (image .entry)) (now (slots .exit)) (now (image .exit)) r ⌝ }
 {
     let driven = image::entry(numbers, at);
     let a = at + 1;

@@ -12,8 +12,6 @@ use Rattle.nets.specs.Slots.{Knows, Below}
 use Rattle.checker.specs.Occurrences.{netsRule, NetsJudged}
 use Rattle.checker.proofs.occurrences.judge_nets.Statement.{statement}
 use Rattle.checker.proofs.occurrences.judge_nets.Tie as tie
-use Rattle.checker.proofs.occurrences.judge_nets.Reads as reads
-use Rattle.checker.proofs.occurrences.judge_nets.Lts as lts
 
 module _ {drives takes slots : List ℕ} {base : ℕ} {marks : List ℕ} {stamp : ℕ} (marked : Below (stamp + 1) marks) where
   drives-twice : duplicates drives ≡ true → NetsJudged drives takes slots base marks stamp 11

@@ -1,107 +1,124 @@
+-- `checker::occurrences::judge_occurrence` meets its contract: the two parts that it lends are the nets that the occurrence drives and
+-- those that it takes, and the verdict goes by its nets and then by its reference. Assumes nothing.
+use Prim.Native.Nat.{_+_, _≤_}
+use mathlib.Core.Path.{refl}
+use native.Mathlib.Omega.{arith}
 use borrow.Author.Needs.{needs}
+use lib.ListN.{length}
+use Rattle.checker.proofs.Parts.{Parts, driven-inside, parts}
+use Rattle.checker.proofs.Judgement.{searchable, judged-nets, judged-reference}
 use Rattle.checker.proofs.occurrences.judge_occurrence.Statement.{statement}
 use Rattle.checker.proofs.occurrences.judge_occurrence.Tie as tie
-use Rattle.checker.proofs.occurrences.judge_occurrence.Reads as reads
-use Rattle.checker.proofs.occurrences.judge_occurrence.Lts as lts
-use Rattle.checker.proofs.occurrences.judge_nets.Reads as judge-nets-reads
-use Rattle.checker.proofs.references.judge_reference.Reads as judge-reference-reads
-use Rattle.image.proofs.entry.Reads as entry-reads
 
--- src/occurrences.rt:46:9
 entry-requires : tie.Need-entry-requires
-entry-requires c κs = ?
+entry-requires c κs = let p = c .before .before .before .before .before .pre in omega (arith, driven-inside (p .o) (p .stands) refl)
 
--- src/occurrences.rt:47:13
+-- What is known once the first count is read.
+counted :
+    (c : tie.After-entry)
+    → c .before .before .before .before .before .before .args .at + 3 + c .entry .result
+    ≤ length (c .before .before .before .before .before .before .args .numbers .now)
+counted c = let p = c .before .before .before .before .before .before .pre in driven-inside (p .o) (p .stands) (c .entry .ensures)
+
 add-a : tie.Need-add-a
 add-a c = search needs
 
--- src/occurrences.rt:48:13
 add-r : tie.Need-add-r
-add-r c = ?
+add-r c = let h = counted c in omega arith
 
--- src/occurrences.rt:49:39
 add-entry : tie.Need-add-entry
-add-entry c = ?
+add-entry c = let h = counted c in omega arith
 
--- src/occurrences.rt:49:9
 entry-requires-2 : tie.Need-entry-requires-2
-entry-requires-2 c κs = ?
+entry-requires-2 c κs = let h = counted c in omega arith
 
--- src/occurrences.rt:50:13
+-- What is known once both counts are read.
+known :
+    (c : tie.After-entry2)
+    → Parts (c .before .before .before .before .before .before .before .args .numbers .now)
+    (c .before .before .before .before .before .before .before .args .at)
+    (c .before .entry .result)
+    (c .entry2 .result)
+    (c .before .before .before .before .before .before .before .pre .o)
+known c =
+    let p = c .before .before .before .before .before .before .before .pre in
+    parts (p .o) (p .stands) (c .before .entry .ensures) (c .entry2 .ensures)
+
 add-t : tie.Need-add-t
-add-t c = ?
+add-t c = let h = known c in omega arith
 
--- src/occurrences.rt:51:13
 add-e : tie.Need-add-e
-add-e c = ?
+add-e c = let h = known c in omega arith
 
--- src/occurrences.rt:52:27
 mul-judge-nets : tie.Need-mul-judge-nets
 mul-judge-nets c = search needs
 
--- src/occurrences.rt:52:27
 sub-judge-nets : tie.Need-sub-judge-nets
 sub-judge-nets c = search needs
 
--- src/occurrences.rt:52:27
 part-judge-nets-start : tie.Need-part-judge-nets-start
 part-judge-nets-start c = search needs
 
--- src/occurrences.rt:52:27
 part-judge-nets-end : tie.Need-part-judge-nets-end
-part-judge-nets-end c = ?
+part-judge-nets-end c = let h = known c in omega arith
 
--- src/occurrences.rt:52:43
 mul-judge-nets-2 : tie.Need-mul-judge-nets-2
-mul-judge-nets-2 c = ?
+mul-judge-nets-2 c = let h = known (c .before) in omega arith
 
--- src/occurrences.rt:52:43
 sub-judge-nets-2 : tie.Need-sub-judge-nets-2
 sub-judge-nets-2 c = search needs
 
--- src/occurrences.rt:52:43
 part-judge-nets-start-2 : tie.Need-part-judge-nets-start-2
 part-judge-nets-start-2 c = search needs
 
--- src/occurrences.rt:52:43
 part-judge-nets-end-2 : tie.Need-part-judge-nets-end-2
-part-judge-nets-end-2 c = ?
+part-judge-nets-end-2 c = let h = known (c .before) in omega arith
 
--- src/occurrences.rt:52:79
 cast-judge-nets : tie.Need-cast-judge-nets
 cast-judge-nets c = search needs
 
--- src/occurrences.rt:52:9
 judge-nets-requires : tie.Need-judge-nets-requires
-judge-nets-requires c κs = ?
+judge-nets-requires c κs =
+    let d = c .before .before .before in
+    let a = d .before .before .before .before .before .before .before in
+    searchable (a .args .numbers .now) (a .args .at) (d .before .entry .result) (d .entry2 .result) (a .pre .tables) (a .pre .marked)
 
--- src/occurrences.rt:54:9
 same-length : tie.Need-same-length
 same-length c = search needs
 
--- src/occurrences.rt:54:9
 returns : tie.Need-returns
-returns c = ?
+returns c =
+    let j = c .before .before .before in
+    let d = j .before .before .before .before in
+    judged-nets _ _ _ _ (d .before .entry .ensures) (d .entry2 .ensures) (j .judge-nets .ensures) (c .if1 .taken)
 
--- src/occurrences.rt:56:40
 mul-judge-reference : tie.Need-mul-judge-reference
-mul-judge-reference c = ?
+mul-judge-reference c = let h = known (c .before .before .before .before .before .before .before) in omega arith
 
--- src/occurrences.rt:56:40
 shared-slice-read-judge-reference : tie.Need-shared-slice-read-judge-reference
-shared-slice-read-judge-reference c = ?
+shared-slice-read-judge-reference c =
+    let h = known (c .before .before .before .before .before .before .before .before) in omega arith
 
--- src/occurrences.rt:56:5
 judge-reference-requires : tie.Need-judge-reference-requires
-judge-reference-requires c κs = ?
+judge-reference-requires c κs =
+    let p = c .before .before .before .before .before .before .before .before .before .before .before .before .before .before .before .pre in
+    record {
+      ms = p .scene .ms;
+      filed = p .scene .filed;
+      numbered = p .scene .numbered;
+      unrepeated = p .scene .unrepeated;
+      index = p .tables .indexFirst .below _;
+    }
 
--- src/occurrences.rt:33:1
 same-length-2 : tie.Need-same-length-2
 same-length-2 c = search needs
 
--- src/occurrences.rt:33:1
 returns-2 : tie.Need-returns-2
-returns-2 c = ?
+returns-2 c =
+    let j = c .before .before .before .before .before in
+    let d = j .before .before .before .before in
+    judged-reference _ _ _ _ (d .before .entry .ensures) (d .entry2 .ensures) (j .judge-nets .ensures) (c .before .before .if1 .left)
+    (c .judge-reference .ensures)
 
 pub judge-occurrence-spec : {M : Type 1} → statement M
 judge-occurrence-spec =

@@ -1,178 +1,173 @@
+-- `checker::occurrences::write_occurrence` meets its contract: once the nets that the occurrence drives are learnt, both its lists can
+-- be resolved, and the five stores side by side are its numbers in the image. Assumes nothing.
+use Prim.Native.Nat.{_+_, _≤_}
+use mathlib.Core.Path.{_≡_, refl, _∙_}
+use native.Mathlib.Omega.{arith}
 use borrow.Author.Needs.{needs}
+use lib.ListN.{length, length-set}
+use Rattle.checker.proofs.Parts.{Parts, driven-inside, parts}
+use Rattle.checker.proofs.Resolving.{learnable, resolvable-drives, resolvable-takes}
+use Rattle.checker.proofs.Setting.{set-down}
 use Rattle.checker.proofs.occurrences.write_occurrence.Statement.{statement}
 use Rattle.checker.proofs.occurrences.write_occurrence.Tie as tie
-use Rattle.checker.proofs.occurrences.write_occurrence.Reads as reads
-use Rattle.checker.proofs.occurrences.write_occurrence.Lts as lts
-use Rattle.image.proofs.entry.Reads as entry-reads
-use Rattle.nets.proofs.table.learn.Reads as learn-reads
-use Rattle.nets.proofs.table.resolve.Reads as resolve-reads
 
--- src/occurrences.rt:73:9
 entry-requires : tie.Need-entry-requires
-entry-requires c κs = ?
+entry-requires c κs = let p = c .before .before .before .pre in omega (arith, driven-inside (p .o) (p .stands) refl)
 
--- src/occurrences.rt:74:13
-add-a : tie.Need-add-a
-add-a c = search needs
+-- What is known once the first count is read.
+counted :
+    (c : tie.After-entry)
+    → c .before .before .before .before .args .at + 3 + c .entry .result ≤ length (c .before .before .before .before .args .numbers .now)
+counted c = let p = c .before .before .before .before .pre in driven-inside (p .o) (p .stands) (c .entry .ensures)
 
--- src/occurrences.rt:75:13
 add-r : tie.Need-add-r
-add-r c = ?
+add-r c = let h = counted c in omega arith
 
--- src/occurrences.rt:76:39
 add-entry : tie.Need-add-entry
-add-entry c = ?
+add-entry c = let h = counted c in omega arith
 
--- src/occurrences.rt:76:9
 entry-requires-2 : tie.Need-entry-requires-2
-entry-requires-2 c κs = ?
+entry-requires-2 c κs = let h = counted c in omega arith
 
--- src/occurrences.rt:77:13
+-- What is known once both counts are read.
+known :
+    (c : tie.After-entry2)
+    → Parts (c .before .before .before .before .before .args .numbers .now)
+    (c .before .before .before .before .before .args .at)
+    (c .before .entry .result)
+    (c .entry2 .result)
+    (c .before .before .before .before .before .pre .o)
+known c =
+    let p = c .before .before .before .before .before .pre in
+    parts (p .o) (p .stands) (c .before .entry .ensures) (c .entry2 .ensures)
+
 add-t : tie.Need-add-t
-add-t c = ?
+add-t c = let h = known c in omega arith
 
--- src/occurrences.rt:78:13
 add-e : tie.Need-add-e
-add-e c = ?
+add-e c = let h = known c in omega arith
 
--- src/occurrences.rt:79:24
 mul-learn : tie.Need-mul-learn
-mul-learn c = search needs
+mul-learn c = let h = known c in omega arith
 
--- src/occurrences.rt:79:24
-sub-learn : tie.Need-sub-learn
-sub-learn c = search needs
-
--- src/occurrences.rt:79:24
-part-learn-start : tie.Need-part-learn-start
-part-learn-start c = search needs
-
--- src/occurrences.rt:79:24
 part-learn-end : tie.Need-part-learn-end
-part-learn-end c = ?
+part-learn-end c = let h = known c in omega arith
 
--- src/occurrences.rt:79:53
 cast-learn : tie.Need-cast-learn
-cast-learn c = search needs
+cast-learn c = let h = known (c .before .before) in omega arith
 
--- src/occurrences.rt:79:5
 learn-requires : tie.Need-learn-requires
-learn-requires c κs = ?
+learn-requires c κs =
+    let s = c .before .before .before .before .before .before .before in
+    learnable _ _ (s .pre) (known (c .before .before))
 
--- src/occurrences.rt:80:17
+-- Back to where both counts are read, from the stores before the first list of nets.
+abbrev from-first : tie.After-shared-slice-known2 → tie.After-entry2
+from-first c = c .before .before .before .before .before .before
+
 mul-image : tie.Need-mul-image
-mul-image c = search needs
+mul-image c = let h = known (c .before .before .before .before .before) in omega arith
 
--- src/occurrences.rt:80:17
 shared-slice-read-image : tie.Need-shared-slice-read-image
-shared-slice-read-image c = ?
+shared-slice-read-image c = let h = known (from-first c) in omega arith
 
--- src/occurrences.rt:80:5
 mul-image-2 : tie.Need-mul-image-2
-mul-image-2 c = search needs
+mul-image-2 c = let h = known (from-first c) in omega arith
 
--- src/occurrences.rt:80:5
 slice-write-image : tie.Need-slice-write-image
-slice-write-image c = ?
+slice-write-image c = let h = known (from-first c) in omega arith
 
--- src/occurrences.rt:81:26
 mul-resolve : tie.Need-mul-resolve
-mul-resolve c = search needs
+mul-resolve c = let h = known (from-first c) in omega arith
 
--- src/occurrences.rt:81:26
-sub-resolve : tie.Need-sub-resolve
-sub-resolve c = search needs
-
--- src/occurrences.rt:81:26
-part-resolve-start : tie.Need-part-resolve-start
-part-resolve-start c = search needs
-
--- src/occurrences.rt:81:26
 part-resolve-end : tie.Need-part-resolve-end
-part-resolve-end c = ?
+part-resolve-end c = let h = known (from-first c) in omega arith
 
--- src/occurrences.rt:81:5
 resolve-requires : tie.Need-resolve-requires
-resolve-requires c κs = ?
+resolve-requires c κs =
+    let l = c .before .before .before .before .before .before in
+    let d = l .before .before .before in
+    resolvable-drives _ _ (d .before .before .before .before .before .pre) (known d) (l .learn .ensures) (l .learn .kept .1 .0) (simp length-set)
 
--- src/occurrences.rt:82:5
+-- And from those behind it.
+abbrev from-second : tie.After-slice-known4 → tie.After-entry2
+from-second c = from-first (c .before .before .before .before .before .before)
+
+-- The image keeps its length over the first list.
+sized :
+    (c : tie.After-resolve)
+    → length (c .resolve .last .1 .1 .1 .0)
+    ≡ length (c .before .before .before .before .before .before .before .before .before .before .before .before .before .before .before .args .image .now)
+sized c = c .resolve .kept .1 .1 .1 .0 ∙ simp length-set
+
 mul-image-3 : tie.Need-mul-image-3
-mul-image-3 c = ?
+mul-image-3 c = let h = known (from-second c) in omega arith
 
--- src/occurrences.rt:82:5
 slice-write-image-2 : tie.Need-slice-write-image-2
-slice-write-image-2 c = ?
+slice-write-image-2 c = let h = known (from-second c) in omega (arith, sized (c .before .before))
 
--- src/occurrences.rt:83:28
 add-image : tie.Need-add-image
-add-image c = ?
+add-image c = let h = known (from-second c) in omega arith
 
--- src/occurrences.rt:83:20
 mul-image-4 : tie.Need-mul-image-4
-mul-image-4 c = ?
+mul-image-4 c = let h = known (from-second c) in omega arith
 
--- src/occurrences.rt:83:20
 shared-slice-read-image-2 : tie.Need-shared-slice-read-image-2
-shared-slice-read-image-2 c = ?
+shared-slice-read-image-2 c = let h = known (from-second (c .before)) in omega arith
 
--- src/occurrences.rt:83:11
 add-image-2 : tie.Need-add-image-2
-add-image-2 c = ?
+add-image-2 c = let h = known (from-second (c .before)) in omega arith
 
--- src/occurrences.rt:83:5
 mul-image-5 : tie.Need-mul-image-5
-mul-image-5 c = ?
+mul-image-5 c = let h = known (from-second (c .before)) in omega arith
 
--- src/occurrences.rt:83:5
 slice-write-image-3 : tie.Need-slice-write-image-3
-slice-write-image-3 c = ?
+slice-write-image-3 c =
+    let h = known (from-second (c .before)) in
+    simp length-set (omega (arith, sized (c .before .before .before)))
 
--- src/occurrences.rt:84:26
 mul-resolve-2 : tie.Need-mul-resolve-2
-mul-resolve-2 c = ?
+mul-resolve-2 c = let h = known (from-second (c .before)) in omega arith
 
--- src/occurrences.rt:84:26
-sub-resolve-2 : tie.Need-sub-resolve-2
-sub-resolve-2 c = search needs
-
--- src/occurrences.rt:84:26
-part-resolve-start-2 : tie.Need-part-resolve-start-2
-part-resolve-start-2 c = search needs
-
--- src/occurrences.rt:84:26
 part-resolve-end-2 : tie.Need-part-resolve-end-2
-part-resolve-end-2 c = ?
+part-resolve-end-2 c = let h = known (from-second (c .before)) in omega arith
 
--- src/occurrences.rt:84:5
 resolve-requires-2 : tie.Need-resolve-requires-2
-resolve-requires-2 c κs = ?
+resolve-requires-2 c κs =
+    let r = c .before .before .before .before .before .before in
+    let l = r .before .before .before .before .before .before .before in
+    let d = l .before .before .before in
+    resolvable-takes _ _ (d .before .before .before .before .before .pre) (known d) (l .learn .ensures) (l .learn .kept .1 .0)
+    (simp length-set (sized r))
 
--- src/occurrences.rt:61:1
-same-length : tie.Need-same-length
-same-length c = search needs
-
--- src/occurrences.rt:61:1
 same-length-2 : tie.Need-same-length-2
-same-length-2 c = ?
+same-length-2 c =
+    c .before .before .resolve2 .kept .1 .1 .1 .0
+    ∙ simp length-set (sized (c .before .before .before .before .before .before .before .before .before))
 
--- src/occurrences.rt:61:1
 returns : tie.Need-returns
-returns c = ?
+returns c =
+    let r = c .before .before .before .before .before .before .before .before .before in
+    let l = r .before .before .before .before .before .before .before in
+    let d = l .before .before .before in
+    let s = d .before .before .before .before .before in
+    set-down (d .before .entry .ensures) (d .entry2 .ensures) (s .pre .room) (l .learn .ensures) (r .resolve .ensures)
+    (c .before .before .resolve2 .ensures)
 
 pub write-occurrence-spec : {M : Type 1} → statement M
 write-occurrence-spec =
     tie.close
     (tie.spec
     entry-requires
-    add-a
+    (λ c. search needs)
     add-r
     add-entry
     entry-requires-2
     add-t
     add-e
     mul-learn
-    sub-learn
-    part-learn-start
+    (λ c. search needs)
+    (λ c. search needs)
     part-learn-end
     cast-learn
     learn-requires
@@ -181,8 +176,8 @@ write-occurrence-spec =
     mul-image-2
     slice-write-image
     mul-resolve
-    sub-resolve
-    part-resolve-start
+    (λ c. search needs)
+    (λ c. search needs)
     part-resolve-end
     resolve-requires
     mul-image-3
@@ -194,10 +189,10 @@ write-occurrence-spec =
     mul-image-5
     slice-write-image-3
     mul-resolve-2
-    sub-resolve-2
-    part-resolve-start-2
+    (λ c. search needs)
+    (λ c. search needs)
     part-resolve-end-2
     resolve-requires-2
-    same-length
+    (λ c. search needs)
     same-length-2
     returns)
