@@ -38,9 +38,9 @@ module _
     {f : List Module → ℕ → C} {own : Module → List Module → C} (search : Search f own)
     {f′ : List Module → ℕ → C′} {own′ : Module → List Module → C′} (search′ : Search f′ own′)
     (turn :
-        (refer : ℕ → ℕ) (position : ℕ) (m : Module) (later : List Module)
-        → Turn R f f′ refer position m later
-        → R m (own m later) (own′ (resolveModule refer position m) (resolveFrom refer (suc position) later))) where
+    (refer : ℕ → ℕ) (position : ℕ) (m : Module) (later : List Module)
+    → Turn R f f′ refer position m later
+    → R m (own m later) (own′ (resolveModule refer position m) (resolveFrom refer (suc position) later))) where
   pub kept-throughout :
       {refer : ℕ → ℕ} {position : ℕ} {ms : List Module}
       → Accepted ms
