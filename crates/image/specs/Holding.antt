@@ -11,8 +11,7 @@ use lib.ListN.{length, getD, length-append, List·getD-append}
 use lib.Seq.{getD-append-add}
 use Rattle.meaning.specs.Boxlist.{member, disjoint, subset}
 use Rattle.meaning.specs.Evaluation.{Env, look, lookAll, pairs}
-use Rattle.laws.specs.Tests.{if-true, is-false}
-use Rattle.laws.specs.Members.{member-tells, disjoint-out}
+use Rattle.laws.specs.Members.{member-in, out-member, disjoint-out}
 use Rattle.nets.specs.Slots.{slotOf}
 use Rattle.nets.specs.Members.{or-left, or-right, and-left, and-right, member-append}
 use Rattle.nets.specs.SlotLaws.{slot-below, slot-append}
@@ -74,7 +73,7 @@ module _ {A : Type 0} (unset : A) where
           (x : ℕ) (b : Bool) → member x drives ≡ b → member x (nets ++ drives) ≡ true
           → look unset x (pairs unset drives vs ++ env) ≡ getD (frame ++ vs) (slotOf x (nets ++ drives)) unset
       go x true driven among =
-          let out = is-false (member-tells x nets) (disjoint-out drives nets fresh (if-true (member-tells x drives) driven)) in
+          let out = out-member x nets (disjoint-out drives nets fresh (member-in x drives driven)) in
           rw (look-given x drives vs env count driven, slot-behind x nets drives out, ← holds .long)
           (sym (getD-append-add frame vs (slotOf x drives) unset))
       go x false driven among =

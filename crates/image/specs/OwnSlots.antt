@@ -9,8 +9,8 @@ use Rattle.meaning.specs.Syntax.{Occurrence, Module}
 use Rattle.meaning.specs.Boxlist.{member, disjoint, duplicates}
 use Rattle.meaning.specs.Limits.{driven, netCount}
 use Rattle.meaning.specs.Adder.{upFrom}
-use Rattle.laws.specs.Tests.{is-true, is-false}
-use Rattle.laws.specs.Members.{member-tells, disjoint-tells, disjoint-out}
+use Rattle.laws.specs.Tests.{is-true}
+use Rattle.laws.specs.Members.{disjoint-tells, disjoint-out, out-member}
 use Rattle.laws.specs.WellFormed.{ModuleOk}
 use Rattle.nets.specs.Members.{or-left, or-right, member-append}
 use Rattle.nets.specs.SlotLaws.{slots-appended}
@@ -26,7 +26,7 @@ duplicates-append (x ∷ xs) ys dx dy apart =
     rw (
       member-append x xs ys,
       or-left (member x xs) (duplicates xs) dx,
-      is-false (member-tells x ys) (λ i. disjoint-out ys (x ∷ xs) apart i (here refl)),
+      out-member x ys (λ i. disjoint-out ys (x ∷ xs) apart i (here refl)),
     )
     (duplicates-append xs ys (or-right (member x xs) (duplicates xs) dx) dy
     (is-true (disjoint-tells ys xs) (λ c. disjoint-out ys (x ∷ xs) apart (c .inFirst) (there (c .inSecond)))))
