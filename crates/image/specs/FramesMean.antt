@@ -1,4 +1,4 @@
--- Running a resolved file on frames means what the file means: each module of an accepted file gives the same values, if it is given as
+-- Running a resolved file on frames means what the file means: each module of a file that fits gives the same values, if it is given as
 -- many as it has inputs and each gate gives one.
 use Prim.Native.Nat.{ℕ, suc, _+_}
 use mathlib.Core.Path.{_≡_, refl, sym, ap, subst, _∙_}
@@ -10,11 +10,12 @@ use Rattle.meaning.specs.Gates.{isGate}
 use Rattle.meaning.specs.Boxlist.{box, assoc, member}
 use Rattle.meaning.specs.Limits.{driven}
 use Rattle.meaning.specs.Evaluation.{Env, lookAll, pairs, Meaning, apply, walk, runModule, run}
-use Rattle.laws.specs.WellFormed.{Reference, toGate, toModule, ModuleOk, Accepted}
+use Rattle.laws.specs.WellFormed.{Reference, toGate, toModule}
 use Rattle.laws.specs.OutputCount.{length-of-lookAll, length-of-runModule}
 use Rattle.nets.specs.Slots.{slotOf}
 use Rattle.image.specs.Resolved.{positionOf, netsOf, resolveOccurrence, resolveModule, resolveFrom, resolve}
 use Rattle.image.specs.Frames.{readSlots, walkFrame, runFrame, runFrames}
+use Rattle.image.specs.Fitting.{Fits}
 use Rattle.image.specs.Searching.{run-search, runFrames-search}
 use Rattle.image.specs.Referring.{Refers, refer-no-gate}
 use Rattle.image.specs.Keeping.{Kept, Turn, kept-in-file}
@@ -116,11 +117,11 @@ module _
 
   pub frames-mean :
       {ms : List Module}
-      → Accepted ms
+      → Fits ms
       → (number : ℕ) (m : Module)
       → assoc number ms ≡ box m
       → (vs : List A)
       → length vs ≡ length (m .inputs)
       → runFrames unset gateMeaning (resolve ms) (16 + positionOf number ms) vs ≡ run unset gateMeaning ms number vs
-  frames-mean accepted number m e =
-      kept-in-file Alike (run-search unset gateMeaning) (runFrames-search unset gateMeaning) module-alike accepted number m e .same
+  frames-mean fits number m e =
+      kept-in-file Alike (run-search unset gateMeaning) (runFrames-search unset gateMeaning) module-alike fits number m e .same

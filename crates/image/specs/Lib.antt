@@ -5,6 +5,7 @@ pub mod Resolved
 pub mod Laid
 pub mod Frames
 pub mod Pieces
+pub mod Fitting
 pub mod Searching
 pub mod Positions
 pub mod Referring

@@ -10,33 +10,38 @@ use lib.Dec.{eqb}
 use Rattle.meaning.specs.Syntax.{Occurrence, Module}
 use Rattle.meaning.specs.Gates.{isGate}
 use Rattle.meaning.specs.Boxlist.{box, F, assoc}
-use Rattle.laws.specs.WellFormed.{Reference, toGate, toModule, ModuleOk, Accepted}
-use Rattle.laws.specs.Standing.{stands, number-of, keeps-rules}
+use Rattle.laws.specs.WellFormed.{Reference, toGate, toModule}
+use Rattle.laws.specs.Standing.{Stands, here, there, stands, number-of}
 use Rattle.image.specs.Resolved.{positionOf, referTo}
+use Rattle.image.specs.Fitting.{ModuleFits, Fits, some}
 
 pub record Refers (refer : ℕ → ℕ) (position : ℕ) (ms : List Module) : Type 0 where
   pub gates : (number : ℕ) → isGate number ≡ true → refer number ≡ number
   pub modules : (number : ℕ) (m : Module) → assoc number ms ≡ box m → refer number ≡ 16 + (position + positionOf number ms)
 
--- No module of an accepted file has a gate's number.
-pub found-no-gate : {ms : List Module} → Accepted ms → (number : ℕ) {m : Module} → assoc number ms ≡ box m → isGate number ≡ false
-found-no-gate {ms} ok number {m} e =
-    let there = stands number ms e in
-    rw (number-of there) (le-ltb (m .number) 16 (keeps-rules ok there .1 .above))
+above-gates : {ms : List Module} {number : ℕ} {m : Module} → Fits ms → Stands number m ms → 16 ≤ m .number
+above-gates (some ok rest) (here h) = ok .above
+above-gates (some ok rest) (there h s) = above-gates rest s
 
-pub refers-whole : {ms : List Module} → Accepted ms → Refers (referTo ms) 0 ms
+-- No module of a file that fits has a gate's number.
+found-no-gate : {ms : List Module} → Fits ms → (number : ℕ) {m : Module} → assoc number ms ≡ box m → isGate number ≡ false
+found-no-gate {ms} fits number {m} e =
+    let there = stands number ms e in
+    rw (number-of there) (le-ltb (m .number) 16 (above-gates fits there))
+
+pub refers-whole : {ms : List Module} → Fits ms → Refers (referTo ms) 0 ms
 unfolding referTo
-refers-whole {ms} ok =
+refers-whole {ms} fits =
     record {
       gates = λ number h. rw h;
       modules = λ number m e.
           let place : 16 + positionOf number ms ≡ 16 + (0 + positionOf number ms) = omega arith in
-          rw (found-no-gate ok number e) place;
+          rw (found-no-gate fits number e) place;
     }
 
 -- A number that later modules have is not the first one's.
-pub not-first :
-    {m : Module} {later : List Module} → ModuleOk m later
+not-first :
+    {m : Module} {later : List Module} → ModuleFits m later
     → (number : ℕ) {n : Module} → assoc number later ≡ box n → eqb number (m .number) ≡ false
 not-first {m} {later} ok number {n} e = go (eqb number (m .number)) refl
   where
@@ -46,7 +51,7 @@ not-first {m} {later} ok number {n} e = go (eqb number (m .number)) refl
 
 pub refers-behind :
     {refer : ℕ → ℕ} {position : ℕ} {m : Module} {later : List Module}
-    → ModuleOk m later
+    → ModuleFits m later
     → Refers refer position (m ∷ later)
     → Refers refer (suc position) later
 unfolding assoc positionOf

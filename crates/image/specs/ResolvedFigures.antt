@@ -9,8 +9,9 @@ use Rattle.meaning.specs.Gates.{isGate}
 use Rattle.meaning.specs.Boxlist.{box, assoc}
 use Rattle.meaning.specs.Limits.{bodySize, expandedSize}
 use Rattle.meaning.specs.Figures.{bodyWeight, gateWeight, largestReferred, room}
-use Rattle.laws.specs.WellFormed.{Reference, toGate, toModule, Body, done, step, Accepted}
+use Rattle.laws.specs.WellFormed.{Reference, toGate, toModule, Body, done, step}
 use Rattle.image.specs.Resolved.{positionOf, slotIn, resolveOccurrence, resolveModule, resolveFrom, resolve}
+use Rattle.image.specs.Fitting.{Fits}
 use Rattle.image.specs.Shapes.{netCount-of-resolved}
 use Rattle.image.specs.Searching.{expandedSize-search, gateWeight-search, room-search}
 use Rattle.image.specs.Referring.{Refers, refer-no-gate}
@@ -71,14 +72,14 @@ module _ {refer : ℕ → ℕ} {later : List Module} {l l′ : ℕ → ℕ} (ref
   largestReferred-kept (step {o} ok rest) =
       ap₂ max (references .same (λ kind. 0) o (ok .reference)) (largestReferred-kept rest)
 
-module _ {ms : List Module} (accepted : Accepted ms) (number : ℕ) (m : Module) (found : assoc number ms ≡ box m) where
+module _ {ms : List Module} (fits : Fits ms) (number : ℕ) (m : Module) (found : assoc number ms ≡ box m) where
   pub expandedSize-resolved : expandedSize (resolve ms) (16 + positionOf number ms) ≡ expandedSize ms number
   unfolding resolveModule
   expandedSize-resolved =
       kept-in-file Equal expandedSize-search expandedSize-search
       (λ refer position m later turn.
       bodySize-kept (references-same (turn .refers) (turn .before)) (slotIn m) (turn .ok .body))
-      accepted number m found
+      fits number m found
 
   pub gateWeight-resolved :
       (weight : ℕ → ℕ) → gateWeight weight (resolve ms) (16 + positionOf number ms) ≡ gateWeight weight ms number
@@ -87,7 +88,7 @@ module _ {ms : List Module} (accepted : Accepted ms) (number : ℕ) (m : Module)
       kept-in-file Equal (gateWeight-search weight) (gateWeight-search weight)
       (λ refer position m later turn.
       bodyWeight-kept (references-same (turn .refers) (turn .before)) (slotIn m) weight (turn .ok .body))
-      accepted number m found
+      fits number m found
 
   pub room-resolved : room (resolve ms) (16 + positionOf number ms) ≡ room ms number
   unfolding resolveModule
@@ -96,4 +97,4 @@ module _ {ms : List Module} (accepted : Accepted ms) (number : ℕ) (m : Module)
       (λ refer position m later turn.
       ap₂ _+_ (netCount-of-resolved refer position m)
       (largestReferred-kept (references-same (turn .refers) (turn .before)) (slotIn m) (turn .ok .body)))
-      accepted number m found
+      fits number m found

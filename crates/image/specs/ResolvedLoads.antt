@@ -13,10 +13,10 @@ use Rattle.meaning.specs.Limits.{driven}
 use Rattle.meaning.specs.Figures.{largest, largestReferred, placesLoad, netLoad, inputLoads, largestLoad}
 use Rattle.laws.specs.Tests.{is-true}
 use Rattle.laws.specs.Members.{subset-tells}
-use Rattle.laws.specs.WellFormed.{Accepted}
 use Rattle.nets.specs.Slots.{slotOf}
 use Rattle.nets.specs.Members.{and-left, and-right, subset-append-left}
 use Rattle.image.specs.Resolved.{positionOf, netsOf, slotIn, resolveOccurrence, resolveModule, resolveFrom, resolve}
+use Rattle.image.specs.Fitting.{Fits}
 use Rattle.image.specs.Shapes.{nets-of-resolved}
 use Rattle.image.specs.Searching.{loadsOf, inputLoads-search, largestLoadOf, largestLoad-search}
 use Rattle.image.specs.Keeping.{Kept, Turn, kept-throughout, kept-in-file}
@@ -124,9 +124,9 @@ largestLoad-kept refer position m later turn =
     ∙ netLoads-kept (netsOf m) (references-same (turn .refers) inputs) refl (ordered (turn .ok)) (netsOf m) (subset-self (netsOf m))))
     (largestReferred-kept (references-same (turn .refers) (turn .before)) (slotIn m) (turn .ok .body))
 
-module _ {ms : List Module} (accepted : Accepted ms) (number : ℕ) (m : Module) (found : assoc number ms ≡ box m) where
+module _ {ms : List Module} (fits : Fits ms) (number : ℕ) (m : Module) (found : assoc number ms ≡ box m) where
   pub inputLoads-resolved : inputLoads (resolve ms) (16 + positionOf number ms) ≡ inputLoads ms number
-  inputLoads-resolved = kept-in-file Equal inputLoads-search inputLoads-search inputLoads-kept accepted number m found
+  inputLoads-resolved = kept-in-file Equal inputLoads-search inputLoads-search inputLoads-kept fits number m found
 
   pub largestLoad-resolved : largestLoad (resolve ms) (16 + positionOf number ms) ≡ largestLoad ms number
-  largestLoad-resolved = kept-in-file Equal largestLoad-search largestLoad-search largestLoad-kept accepted number m found
+  largestLoad-resolved = kept-in-file Equal largestLoad-search largestLoad-search largestLoad-kept fits number m found
