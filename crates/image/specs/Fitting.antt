@@ -14,7 +14,7 @@ use Rattle.meaning.specs.Verdict.{Verdict, good, refused, keep, andThen, occurr
 use Rattle.laws.specs.Tests.{if-true, if-false, is-true, is-false, tells-not, tells-and}
 use Rattle.laws.specs.Members.{duplicates-tells, disjoint-tells}
 use Rattle.laws.specs.Finding.{found-tells, not-found, reference-tells}
-use Rattle.laws.specs.WellFormed.{OccurrenceOk, Body, done, step, ModuleOk, Accepted}
+use Rattle.laws.specs.WellFormed.{OccurrenceOk, Body, done, step, Accepted}
 
 -- A module in front of the later ones.
 pub record ModuleFits (m : Module) (later : List Module) : Type 0 where
@@ -25,6 +25,7 @@ pub record ModuleFits (m : Module) (later : List Module) : Type 0 where
   pub outputsDriven : subset (m .outputs) (driven (m .occurrences)) ≡ true
   pub nets : netCount m ≤ mostModuleNets
 
+-- A file, as its list of modules.
 pub data Fits : List Module → Type 0 where
   none : Fits []
   some : {m : Module} {later : List Module} → ModuleFits m later → Fits later → Fits (m ∷ later)

@@ -1,16 +1,14 @@
 -- One induction for all that resolution keeps. Of each module of a file that fits, what a search says of it and what a search in the
 -- resolved file says at its position are related, if that follows for one module from the same for the modules after it.
 use Prim.Native.Nat.{ℕ, suc, _+_}
-use mathlib.Core.Path.{_≡_, refl, sym, ap, ap₂, subst, _∙_}
+use mathlib.Core.Path.{_≡_, refl, sym, ap, subst, _∙_}
 use mathlib.Core.Bool.{Bool, true, false, cond}
-use mathlib.Core.List.{List, [], _∷_}
-use native.Mathlib.Nat.{zero-add}
+use mathlib.Core.List.{List, _∷_}
 use native.Mathlib.Omega.{arith}
 use borrow.Author.Tests.{eq-eqb, ne-eqb}
 use lib.Dec.{eqb}
-use Rattle.meaning.specs.Syntax.{Occurrence, Module}
-use Rattle.meaning.specs.Gates.{isGate}
-use Rattle.meaning.specs.Boxlist.{box, F, assoc}
+use Rattle.meaning.specs.Syntax.{Module}
+use Rattle.meaning.specs.Boxlist.{box, assoc}
 use Rattle.image.specs.Resolved.{positionOf, referTo, resolveModule, resolveFrom, resolve}
 use Rattle.image.specs.Fitting.{ModuleFits, Fits, none, some}
 use Rattle.image.specs.Shapes.{number-of-resolved}
@@ -97,6 +95,6 @@ module _
   unfolding resolve
   kept-in-file {ms} fits number m e =
       let refers = refers-whole fits in
-      let place : referTo ms number ≡ 16 + positionOf number ms = refers .modules number m e ∙ ap (λ (p : ℕ). 16 + p) (zero-add (positionOf number ms)) in
+      let place : referTo ms number ≡ 16 + positionOf number ms = omega (arith, refers .modules number m e) in
       subst (λ (n : ℕ). R m (f ms number) (f′ (resolveFrom (referTo ms) 0 ms) n)) place
       (kept-throughout fits refers .kept number m e)

@@ -21,3 +21,4 @@ pub mod Stepping
 pub mod FrameLengths
 pub mod ResolvedFigures
 pub mod ResolvedLoads
+pub mod OwnNumbers

@@ -2,10 +2,10 @@
 -- comes at the end. `Body` lists the same nets newest first.
 use Prim.Native.Nat.{ℕ}
 use mathlib.Core.Path.{_≡_, refl, sym, ap, _∙_}
-use mathlib.Core.Bool.{Bool, true, false, _||_, or-comm, or-true}
-use mathlib.Core.List.{List, [], _∷_, _++_, append-assoc, append-nil}
+use mathlib.Core.Bool.{true, or-comm, or-true}
+use mathlib.Core.List.{List, [], _∷_, _++_}
 use Rattle.meaning.specs.Syntax.{Occurrence, Module}
-use Rattle.meaning.specs.Boxlist.{member, disjoint, subset}
+use Rattle.meaning.specs.Boxlist.{member, subset}
 use Rattle.meaning.specs.Limits.{driven}
 use Rattle.laws.specs.WellFormed.{OccurrenceOk, Body}
 use Rattle.nets.specs.Slots.{slotOf}

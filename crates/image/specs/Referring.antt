@@ -3,13 +3,13 @@
 use Prim.Native.Nat.{ℕ, suc, _+_, _≤_}
 use mathlib.Core.Path.{_≡_, refl, sym, ap, _∙_}
 use mathlib.Core.Bool.{Bool, true, false}
-use mathlib.Core.List.{List, [], _∷_}
+use mathlib.Core.List.{List, _∷_}
 use native.Mathlib.Omega.{arith}
-use borrow.Author.Tests.{eqb-true, le-ltb, lt-ltb}
+use borrow.Author.Tests.{eqb-true, le-ltb}
 use lib.Dec.{eqb}
 use Rattle.meaning.specs.Syntax.{Occurrence, Module}
 use Rattle.meaning.specs.Gates.{isGate}
-use Rattle.meaning.specs.Boxlist.{box, F, assoc}
+use Rattle.meaning.specs.Boxlist.{box, assoc}
 use Rattle.laws.specs.WellFormed.{Reference, toGate, toModule}
 use Rattle.laws.specs.Standing.{Stands, here, there, stands, number-of}
 use Rattle.image.specs.Resolved.{positionOf, referTo}
@@ -40,7 +40,7 @@ refers-whole {ms} fits =
     }
 
 -- A number that later modules have is not the first one's.
-not-first :
+pub not-first :
     {m : Module} {later : List Module} → ModuleFits m later
     → (number : ℕ) {n : Module} → assoc number later ≡ box n → eqb number (m .number) ≡ false
 not-first {m} {later} ok number {n} e = go (eqb number (m .number)) refl
@@ -78,7 +78,7 @@ refer-first {position = position} {m = m} refers number h =
     let first : 16 + (position + 0) ≡ 16 + position = omega arith in
     rw h at place ∙ first
 
--- A reference goes to a gate after resolution exactly where it did before.
+-- A reference to a module goes to no gate after resolution either.
 pub refer-no-gate :
     {refer : ℕ → ℕ} {position : ℕ} {later : List Module}
     → Refers refer position later
@@ -86,11 +86,3 @@ pub refer-no-gate :
     → assoc number later ≡ box m
     → isGate (refer number) ≡ false
 refer-no-gate {refer} refers number m e = let place = refers .modules number m e in le-ltb (refer number) 16 (omega arith)
-
-pub kind-kept :
-    {refer : ℕ → ℕ} {position : ℕ} {later : List Module} {o : Occurrence}
-    → Refers refer position later
-    → Reference later o
-    → isGate (refer (o .refers)) ≡ isGate (o .refers)
-kind-kept {o = o} refers (toGate h arity one) = ap isGate (refers .gates (o .refers) h)
-kind-kept {o = o} refers (toModule m h e takes drives) = refer-no-gate refers (o .refers) m e ∙ sym h
