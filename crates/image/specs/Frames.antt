@@ -2,7 +2,7 @@
 -- values. What an occurrence drives is added at the frame's end, so nothing is looked up by name.
 use Prim.Native.Nat.{ℕ, suc, _+_, _<_, _≤_}
 use mathlib.Core.Path.{_≡_}
-use mathlib.Core.Bool.{true, false, cond}
+use mathlib.Core.Bool.{cond}
 use mathlib.Core.List.{List, [], _∷_, _++_}
 use lib.Dec.{eqb}
 use lib.ListN.{length, getD}
@@ -55,4 +55,8 @@ pub record FrameOk (position : ℕ) (m : Module) (later : List Module) : Type 0 
 
 pub data FramesOk : (position : ℕ) → List Module → Type 0 where
   none : {position : ℕ} → FramesOk position []
-  some : {position : ℕ} {m : Module} {later : List Module} → FrameOk position m later → FramesOk (suc position) later → FramesOk position (m ∷ later)
+  some :
+      {position : ℕ} {m : Module} {later : List Module}
+      → FrameOk position m later
+      → FramesOk (suc position) later
+      → FramesOk position (m ∷ later)

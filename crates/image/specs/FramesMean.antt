@@ -1,21 +1,24 @@
--- Running a resolved file on frames means what the file means: each module of an accepted file gives the same values, if it is given as
+-- Running a resolved file on frames means what the file means: each module of a file that fits gives the same values, if it is given as
 -- many as it has inputs and each gate gives one.
-use Prim.Native.Nat.{ℕ, suc, _+_}
+use Prim.Native.Nat.{ℕ, suc, _+_, zero-le}
 use mathlib.Core.Path.{_≡_, refl, sym, ap, subst, _∙_}
-use mathlib.Core.Bool.{Bool, true, false}
-use mathlib.Core.List.{List, [], _∷_, _++_, map, append-assoc, append-nil}
-use lib.ListN.{length}
+use mathlib.Core.Bool.{true}
+use mathlib.Core.List.{List, _∷_, _++_, map, append-assoc, append-nil}
+use lib.ListN.{length, drop}
 use Rattle.meaning.specs.Syntax.{Occurrence, Module}
 use Rattle.meaning.specs.Gates.{isGate}
-use Rattle.meaning.specs.Boxlist.{box, assoc, member}
+use Rattle.meaning.specs.Boxlist.{box, assoc}
 use Rattle.meaning.specs.Limits.{driven}
 use Rattle.meaning.specs.Evaluation.{Env, lookAll, pairs, Meaning, apply, walk, runModule, run}
-use Rattle.laws.specs.WellFormed.{Reference, toGate, toModule, ModuleOk, Accepted}
+use Rattle.laws.specs.WellFormed.{Reference, toGate, toModule}
 use Rattle.laws.specs.OutputCount.{length-of-lookAll, length-of-runModule}
 use Rattle.nets.specs.Slots.{slotOf}
 use Rattle.image.specs.Resolved.{positionOf, netsOf, resolveOccurrence, resolveModule, resolveFrom, resolve}
 use Rattle.image.specs.Frames.{readSlots, walkFrame, runFrame, runFrames}
+use Rattle.image.specs.Fitting.{Fits}
 use Rattle.image.specs.Searching.{run-search, runFrames-search}
+use Rattle.image.specs.Positions.{says-from}
+use Rattle.image.specs.ResolvedLayout.{numbered-resolve}
 use Rattle.image.specs.Referring.{Refers, refer-no-gate}
 use Rattle.image.specs.Keeping.{Kept, Turn, kept-in-file}
 use Rattle.image.specs.Ordered.{Ordered, done, step, ordered, slot-known, outputs-known}
@@ -116,11 +119,28 @@ module _
 
   pub frames-mean :
       {ms : List Module}
-      → Accepted ms
+      → Fits ms
       → (number : ℕ) (m : Module)
       → assoc number ms ≡ box m
       → (vs : List A)
       → length vs ≡ length (m .inputs)
       → runFrames unset gateMeaning (resolve ms) (16 + positionOf number ms) vs ≡ run unset gateMeaning ms number vs
-  frames-mean accepted number m e =
-      kept-in-file Alike (run-search unset gateMeaning) (runFrames-search unset gateMeaning) module-alike accepted number m e .same
+  frames-mean fits number m e =
+      kept-in-file Alike (run-search unset gateMeaning) (runFrames-search unset gateMeaning) module-alike fits number m e .same
+
+  -- The same for the outputs read from the frame at the end of the walk through the module's resolved occurrences.
+  pub outputs-mean :
+      {ms : List Module}
+      → Fits ms
+      → (number : ℕ) (m : Module)
+      → assoc number ms ≡ box m
+      → {r : Module} {later : List Module}
+      → drop (positionOf number ms) (resolve ms) ≡ r ∷ later
+      → (vs : List A)
+      → length vs ≡ length (m .inputs)
+      → readSlots unset (walkFrame unset gateMeaning (runFrames unset gateMeaning later) (r .occurrences) vs) (r .outputs)
+      ≡ run unset gateMeaning ms number vs
+  unfolding runFrame
+  outputs-mean {ms} fits number m e there vs count =
+      let said = says-from (runFrames-search unset gateMeaning) 0 (positionOf number ms) (numbered-resolve ms) zero-le there in
+      sym (ap (λ (f : List A → List A). f vs) said) ∙ frames-mean fits number m e vs count

@@ -1,8 +1,8 @@
 -- An environment and a frame of the same nets: the frame has at each net's slot the value that the environment gives it. They stay so
 -- when further nets are given values.
-use Prim.Native.Nat.{ℕ, zero, suc, _+_, _<_}
+use Prim.Native.Nat.{ℕ, suc, _+_}
 use mathlib.Core.Path.{_≡_, refl, sym, ap, ap₂, _∙_}
-use mathlib.Core.Bool.{Bool, true, false, _||_, _&&_, cond, true≢false, or-false}
+use mathlib.Core.Bool.{Bool, true, false, _||_, cond, true≢false, or-false}
 use mathlib.Core.List.{List, [], _∷_, _++_, map, append-nil}
 use native.Mathlib.Omega.{arith}
 use native.Mathlib.Nat.{zero-add, suc-add}
@@ -78,7 +78,8 @@ module _ {A : Type 0} (unset : A) where
           rw (look-given x drives vs env count driven, slot-behind x nets drives out, ← holds .long)
           (sym (getD-append-add frame vs (slotOf x drives) unset))
       go x false driven among =
-          let before : member x nets ≡ true = sym (or-false (member x nets)) ∙ ap (λ (b : Bool). member x nets || b) (sym driven) ∙ sym (member-append x nets drives) ∙ among in
+          let either : (member x nets || member x drives) ≡ true = sym (member-append x nets drives) ∙ among in
+          let before : member x nets ≡ true = rw (driven, or-false (member x nets)) at either in
           let below = slot-below x nets before in
           look-past x drives vs env count driven
           ∙ holds .value x before

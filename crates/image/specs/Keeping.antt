@@ -1,18 +1,16 @@
--- One induction for all that resolution keeps. Of each module of an accepted file, what a search says of it and what a search in the
+-- One induction for all that resolution keeps. Of each module of a file that fits, what a search says of it and what a search in the
 -- resolved file says at its position are related, if that follows for one module from the same for the modules after it.
 use Prim.Native.Nat.{ℕ, suc, _+_}
-use mathlib.Core.Path.{_≡_, refl, sym, ap, ap₂, subst, _∙_}
+use mathlib.Core.Path.{_≡_, refl, sym, ap, subst, _∙_}
 use mathlib.Core.Bool.{Bool, true, false, cond}
-use mathlib.Core.List.{List, [], _∷_}
-use native.Mathlib.Nat.{zero-add}
+use mathlib.Core.List.{List, _∷_}
 use native.Mathlib.Omega.{arith}
 use borrow.Author.Tests.{eq-eqb, ne-eqb}
 use lib.Dec.{eqb}
-use Rattle.meaning.specs.Syntax.{Occurrence, Module}
-use Rattle.meaning.specs.Gates.{isGate}
-use Rattle.meaning.specs.Boxlist.{box, F, assoc}
-use Rattle.laws.specs.WellFormed.{Reference, toGate, toModule, ModuleOk, Accepted, none, some}
+use Rattle.meaning.specs.Syntax.{Module}
+use Rattle.meaning.specs.Boxlist.{box, assoc}
 use Rattle.image.specs.Resolved.{positionOf, referTo, resolveModule, resolveFrom, resolve}
+use Rattle.image.specs.Fitting.{ModuleFits, Fits, none, some}
 use Rattle.image.specs.Shapes.{number-of-resolved}
 use Rattle.image.specs.Searching.{Search}
 use Rattle.image.specs.Referring.{Refers, refers-whole, refers-behind, refer-first}
@@ -28,8 +26,8 @@ pub record Kept
 pub record Turn
     {C C′ : Type 0} (R : Module → C → C′ → Type 0) (f : List Module → ℕ → C) (f′ : List Module → ℕ → C′)
     (refer : ℕ → ℕ) (position : ℕ) (m : Module) (later : List Module) : Type 0 where
-  pub ok : ModuleOk m later
-  pub rest : Accepted later
+  pub ok : ModuleFits m later
+  pub rest : Fits later
   pub refers : Refers refer (suc position) later
   pub before : Kept R f f′ refer (suc position) later
 
@@ -43,7 +41,7 @@ module _
     → R m (own m later) (own′ (resolveModule refer position m) (resolveFrom refer (suc position) later))) where
   pub kept-throughout :
       {refer : ℕ → ℕ} {position : ℕ} {ms : List Module}
-      → Accepted ms
+      → Fits ms
       → Refers refer position ms
       → Kept R f f′ refer position ms
   unfolding assoc resolveFrom
@@ -90,13 +88,13 @@ module _
 
   pub kept-in-file :
       {ms : List Module}
-      → Accepted ms
+      → Fits ms
       → (number : ℕ) (m : Module)
       → assoc number ms ≡ box m
       → R m (f ms number) (f′ (resolve ms) (16 + positionOf number ms))
   unfolding resolve
-  kept-in-file {ms} accepted number m e =
-      let refers = refers-whole accepted in
-      let place : referTo ms number ≡ 16 + positionOf number ms = refers .modules number m e ∙ ap (λ (p : ℕ). 16 + p) (zero-add (positionOf number ms)) in
+  kept-in-file {ms} fits number m e =
+      let refers = refers-whole fits in
+      let place : referTo ms number ≡ 16 + positionOf number ms = omega (arith, refers .modules number m e) in
       subst (λ (n : ℕ). R m (f ms number) (f′ (resolveFrom (referTo ms) 0 ms) n)) place
-      (kept-throughout accepted refers .kept number m e)
+      (kept-throughout fits refers .kept number m e)

@@ -5,6 +5,7 @@ pub mod Resolved
 pub mod Laid
 pub mod Frames
 pub mod Pieces
+pub mod Fitting
 pub mod Searching
 pub mod Positions
 pub mod Referring
@@ -20,3 +21,4 @@ pub mod Stepping
 pub mod FrameLengths
 pub mod ResolvedFigures
 pub mod ResolvedLoads
+pub mod OwnNumbers

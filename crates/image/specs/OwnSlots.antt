@@ -1,22 +1,22 @@
 -- In a resolved module each net is its own slot: inputs and driven nets, in their order, are the numbers from 0 on. It is so because no
--- net of an accepted module is an input twice, driven twice or both.
+-- net of a module that fits is an input twice, driven twice or both.
 use Prim.Native.Nat.{ℕ}
 use mathlib.Core.Path.{_≡_, refl, sym, ap, _∙_}
-use mathlib.Core.Bool.{true, false, _||_}
-use mathlib.Core.List.{List, [], _∷_, _++_, append-assoc, append-nil, List·Memᴰ·head as here, List·Memᴰ·tail as there, List·Memᴰ·not-nil as in-none}
-use lib.ListN.{length}
+use mathlib.Core.Bool.{true, false}
+use mathlib.Core.List.{List, [], _∷_, _++_, append-assoc, append-nil}
+use mathlib.Core.List.{List·Memᴰ·head as here, List·Memᴰ·tail as there, List·Memᴰ·not-nil as in-none}
 use Rattle.meaning.specs.Syntax.{Occurrence, Module}
 use Rattle.meaning.specs.Boxlist.{member, disjoint, duplicates}
 use Rattle.meaning.specs.Limits.{driven, netCount}
 use Rattle.meaning.specs.Adder.{upFrom}
 use Rattle.laws.specs.Tests.{is-true}
 use Rattle.laws.specs.Members.{disjoint-tells, disjoint-out, out-member}
-use Rattle.laws.specs.WellFormed.{ModuleOk}
 use Rattle.nets.specs.Booleans.{or-left, or-right}
 use Rattle.nets.specs.Members.{member-append}
 use Rattle.nets.specs.SlotLaws.{slots-appended}
 use Rattle.image.specs.Resolved.{netsOf, resolveModule}
 use Rattle.image.specs.Shapes.{length-of-nets, nets-of-resolved}
+use Rattle.image.specs.Fitting.{ModuleFits}
 use Rattle.image.specs.Ordered.{Ordered, done, step, ordered}
 
 duplicates-append :
@@ -45,7 +45,7 @@ distinct-throughout (step {nets} {o} {os} ok rest) distinct =
 
 pub own-slots :
     (refer : ℕ → ℕ) (position : ℕ) {m : Module} {later : List Module}
-    → ModuleOk m later
+    → ModuleFits m later
     → netsOf (resolveModule refer position m) ≡ upFrom 0 (netCount m)
 unfolding netsOf
 own-slots refer position {m} ok =

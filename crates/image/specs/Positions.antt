@@ -1,20 +1,24 @@
 -- Modules by position. A number that a list has is that of the module at its position; and in a list whose modules have 16 plus their
 -- positions as numbers, what it says of such a number is what it says of the module there, whichever modules stand in front.
-use Prim.Native.Nat.{ℕ, zero, suc, _+_, _-_, _≤_, _<_}
-use mathlib.Core.Path.{_≡_, refl, sym, ap, _∙_}
+use Prim.Native.Nat.{ℕ, zero, suc, _+_, _-_, _≤_}
+use mathlib.Core.Path.{_≡_, sym, ap, _∙_}
 use mathlib.Core.Bool.{Bool, true, false, cond}
 use mathlib.Core.List.{List, [], _∷_}
 use native.Mathlib.Omega.{arith}
-use native.Mathlib.Nat.{zero-add, add-zero, add-suc, suc-add}
-use native.Mathlib.Numerals.{add-one}
+use native.Mathlib.Nat.{add-zero, add-suc, suc-add}
 use borrow.Author.Tests.{eq-eqb, ne-eqb}
 use lib.Dec.{eqb}
-use lib.ListN.{length, drop, length-drop}
+use lib.ListN.{drop}
 use lib.Seq.{drop-drop}
 use Rattle.meaning.specs.Syntax.{Module}
-use Rattle.meaning.specs.Boxlist.{box, F, assoc}
+use Rattle.meaning.specs.Boxlist.{box, assoc}
 use Rattle.image.specs.Resolved.{positionOf}
 use Rattle.image.specs.Searching.{Search}
+
+-- An empty list has nothing at any position.
+pub nothing-at : {A : Type 0} (k : ℕ) {x : A} {xs : List A} → drop k [] ≡ x ∷ xs → ⊥
+nothing-at zero e = let z : _≡_ {A = ℕ} 0 1 = cc in omega arith
+nothing-at (suc k) e = let z : _≡_ {A = ℕ} 0 1 = cc in omega arith
 
 pub found-at :
     (number : ℕ) (ms : List Module) {m : Module} → assoc number ms ≡ box m
@@ -52,13 +56,12 @@ module _ {C : Type 0} {f : List Module → ℕ → C} {own : Module → List Mod
       → Numbered position rs
       → drop j rs ≡ m ∷ later
       → f rs (16 + (position + j)) ≡ own m later
-  says-at zero none e = absurd (let z : _≡_ {A = ℕ} 0 1 = cc in omega arith)
+  says-at j none e = absurd (nothing-at j e)
   says-at zero {m} {later} (some {position} {m = first} {later = rest} n ns) e =
       let same : first ≡ m = cc in
       let behind : rest ≡ later = cc in
       search .here first rest (16 + (position + 0)) (eq-eqb (16 + (position + 0)) (first .number) (omega arith))
       ∙ rw (same, behind)
-  says-at (suc j) none e = absurd (let z : _≡_ {A = ℕ} 0 1 = cc in omega arith)
   says-at (suc j) (some {position} {m = first} {later = rest} n ns) e =
       let further : 16 + (suc position + j) ≡ 16 + (position + suc j) = omega arith in
       search .past .passes first rest (16 + (position + suc j)) (ne-eqb (16 + (position + suc j)) (first .number) (λ same. omega arith))

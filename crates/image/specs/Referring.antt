@@ -3,40 +3,45 @@
 use Prim.Native.Nat.{ℕ, suc, _+_, _≤_}
 use mathlib.Core.Path.{_≡_, refl, sym, ap, _∙_}
 use mathlib.Core.Bool.{Bool, true, false}
-use mathlib.Core.List.{List, [], _∷_}
+use mathlib.Core.List.{List, _∷_}
 use native.Mathlib.Omega.{arith}
-use borrow.Author.Tests.{eqb-true, le-ltb, lt-ltb}
+use borrow.Author.Tests.{eqb-true, le-ltb}
 use lib.Dec.{eqb}
 use Rattle.meaning.specs.Syntax.{Occurrence, Module}
 use Rattle.meaning.specs.Gates.{isGate}
-use Rattle.meaning.specs.Boxlist.{box, F, assoc}
-use Rattle.laws.specs.WellFormed.{Reference, toGate, toModule, ModuleOk, Accepted}
-use Rattle.laws.specs.Standing.{stands, number-of, keeps-rules}
+use Rattle.meaning.specs.Boxlist.{box, assoc}
+use Rattle.laws.specs.WellFormed.{Reference, toGate, toModule}
+use Rattle.laws.specs.Standing.{Stands, here, there, stands, number-of}
 use Rattle.image.specs.Resolved.{positionOf, referTo}
+use Rattle.image.specs.Fitting.{ModuleFits, Fits, some}
 
 pub record Refers (refer : ℕ → ℕ) (position : ℕ) (ms : List Module) : Type 0 where
   pub gates : (number : ℕ) → isGate number ≡ true → refer number ≡ number
   pub modules : (number : ℕ) (m : Module) → assoc number ms ≡ box m → refer number ≡ 16 + (position + positionOf number ms)
 
--- No module of an accepted file has a gate's number.
-pub found-no-gate : {ms : List Module} → Accepted ms → (number : ℕ) {m : Module} → assoc number ms ≡ box m → isGate number ≡ false
-found-no-gate {ms} ok number {m} e =
-    let there = stands number ms e in
-    rw (number-of there) (le-ltb (m .number) 16 (keeps-rules ok there .1 .above))
+above-gates : {ms : List Module} {number : ℕ} {m : Module} → Fits ms → Stands number m ms → 16 ≤ m .number
+above-gates (some ok rest) (here h) = ok .above
+above-gates (some ok rest) (there h s) = above-gates rest s
 
-pub refers-whole : {ms : List Module} → Accepted ms → Refers (referTo ms) 0 ms
+-- No module of a file that fits has a gate's number.
+found-no-gate : {ms : List Module} → Fits ms → (number : ℕ) {m : Module} → assoc number ms ≡ box m → isGate number ≡ false
+found-no-gate {ms} fits number {m} e =
+    let there = stands number ms e in
+    rw (number-of there) (le-ltb (m .number) 16 (above-gates fits there))
+
+pub refers-whole : {ms : List Module} → Fits ms → Refers (referTo ms) 0 ms
 unfolding referTo
-refers-whole {ms} ok =
+refers-whole {ms} fits =
     record {
       gates = λ number h. rw h;
       modules = λ number m e.
           let place : 16 + positionOf number ms ≡ 16 + (0 + positionOf number ms) = omega arith in
-          rw (found-no-gate ok number e) place;
+          rw (found-no-gate fits number e) place;
     }
 
 -- A number that later modules have is not the first one's.
 pub not-first :
-    {m : Module} {later : List Module} → ModuleOk m later
+    {m : Module} {later : List Module} → ModuleFits m later
     → (number : ℕ) {n : Module} → assoc number later ≡ box n → eqb number (m .number) ≡ false
 not-first {m} {later} ok number {n} e = go (eqb number (m .number)) refl
   where
@@ -46,7 +51,7 @@ not-first {m} {later} ok number {n} e = go (eqb number (m .number)) refl
 
 pub refers-behind :
     {refer : ℕ → ℕ} {position : ℕ} {m : Module} {later : List Module}
-    → ModuleOk m later
+    → ModuleFits m later
     → Refers refer position (m ∷ later)
     → Refers refer (suc position) later
 unfolding assoc positionOf
@@ -73,7 +78,7 @@ refer-first {position = position} {m = m} refers number h =
     let first : 16 + (position + 0) ≡ 16 + position = omega arith in
     rw h at place ∙ first
 
--- A reference goes to a gate after resolution exactly where it did before.
+-- A reference to a module goes to no gate after resolution either.
 pub refer-no-gate :
     {refer : ℕ → ℕ} {position : ℕ} {later : List Module}
     → Refers refer position later
@@ -81,11 +86,3 @@ pub refer-no-gate :
     → assoc number later ≡ box m
     → isGate (refer number) ≡ false
 refer-no-gate {refer} refers number m e = let place = refers .modules number m e in le-ltb (refer number) 16 (omega arith)
-
-pub kind-kept :
-    {refer : ℕ → ℕ} {position : ℕ} {later : List Module} {o : Occurrence}
-    → Refers refer position later
-    → Reference later o
-    → isGate (refer (o .refers)) ≡ isGate (o .refers)
-kind-kept {o = o} refers (toGate h arity one) = ap isGate (refers .gates (o .refers) h)
-kind-kept {o = o} refers (toModule m h e takes drives) = refer-no-gate refers (o .refers) m e ∙ sym h

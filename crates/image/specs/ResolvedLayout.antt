@@ -1,6 +1,6 @@
 -- The resolved file is laid out as the file is: it has as many numbers, and each of its modules begins where that module begins in the
 -- file. Module by module it is the file resolved.
-use Prim.Native.Nat.{ℕ, zero, suc, _+_, _≤_}
+use Prim.Native.Nat.{ℕ, zero, suc, _+_}
 use mathlib.Core.Path.{_≡_, refl, sym, ap, ap₂, _∙_}
 use mathlib.Core.List.{List, [], _∷_, _++_, append-assoc, append-nil}
 use native.Mathlib.Omega.{arith}
@@ -90,6 +90,10 @@ module _ (refer : ℕ → ℕ) where
   numbered-resolveFrom position (m ∷ ms) = some (number-of-resolved refer position m) (numbered-resolveFrom (suc position) ms)
 
 module _ (ms : List Module) where
+  pub numbered-resolve : Numbered 0 (resolve ms)
+  unfolding resolve
+  numbered-resolve = numbered-resolveFrom (referTo ms) 0 ms
+
   pub length-of-resolve : length (resolve ms) ≡ length ms
   unfolding resolve
   length-of-resolve = length-of-resolveFrom (referTo ms) 0 ms

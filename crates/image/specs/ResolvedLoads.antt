@@ -1,5 +1,5 @@
 -- Resolution keeps loads: slots of two nets of a module differ where the nets do, so a slot stands as an argument wherever its net does.
-use Prim.Native.Nat.{ℕ, zero, suc, _+_, max}
+use Prim.Native.Nat.{ℕ, suc, _+_, max}
 use mathlib.Core.Path.{_≡_, refl, sym, ap, ap₂, _∙_}
 use mathlib.Core.Bool.{Bool, true, false, cond, _||_, true≢false}
 use mathlib.Core.List.{List, [], _∷_, _++_, map, append-assoc}
@@ -10,19 +10,19 @@ use Rattle.meaning.specs.Syntax.{Occurrence, Module}
 use Rattle.meaning.specs.Gates.{isGate}
 use Rattle.meaning.specs.Boxlist.{box, assoc, member, subset}
 use Rattle.meaning.specs.Limits.{driven}
-use Rattle.meaning.specs.Figures.{largest, largestReferred, placesLoad, netLoad, inputLoads, largestLoad}
+use Rattle.meaning.specs.Figures.{largest, placesLoad, netLoad, inputLoads, largestLoad}
 use Rattle.laws.specs.Tests.{is-true}
 use Rattle.laws.specs.Members.{subset-tells}
-use Rattle.laws.specs.WellFormed.{Accepted}
 use Rattle.nets.specs.Slots.{slotOf}
 use Rattle.nets.specs.Booleans.{and-left, and-right}
 use Rattle.nets.specs.Members.{subset-append-left}
 use Rattle.image.specs.Resolved.{positionOf, netsOf, slotIn, resolveOccurrence, resolveModule, resolveFrom, resolve}
+use Rattle.image.specs.Fitting.{Fits}
 use Rattle.image.specs.Shapes.{nets-of-resolved}
 use Rattle.image.specs.Searching.{loadsOf, inputLoads-search, largestLoadOf, largestLoad-search}
-use Rattle.image.specs.Keeping.{Kept, Turn, kept-throughout, kept-in-file}
+use Rattle.image.specs.Keeping.{Turn, kept-throughout, kept-in-file}
 use Rattle.image.specs.Ordered.{Ordered, done, step, ordered}
-use Rattle.image.specs.ResolvedFigures.{Equal, Referring, references-same, largestReferred-kept}
+use Rattle.image.specs.ResolvedFigures.{Equal, SameReferred, references-same, largestReferred-kept}
 
 subset-self : (xs : List ℕ) → subset xs xs ≡ true
 subset-self xs = is-true (subset-tells xs xs) (λ lacking. lacking .missing (lacking .listed))
@@ -63,7 +63,7 @@ module _ (all : List ℕ) where
 
   netLoad-kept :
       {refer : ℕ → ℕ} {later : List Module} {l l′ : ℕ → List ℕ}
-      → Referring refer later l l′
+      → SameReferred refer later l l′
       → {nets : List ℕ} {os : List Occurrence}
       → all ≡ nets ++ driven os
       → Ordered later nets os
@@ -87,7 +87,7 @@ module _ (all : List ℕ) where
 
   netLoads-kept :
       {refer : ℕ → ℕ} {later : List Module} {l l′ : ℕ → List ℕ}
-      → Referring refer later l l′
+      → SameReferred refer later l l′
       → {nets : List ℕ} {os : List Occurrence}
       → all ≡ nets ++ driven os
       → Ordered later nets os
@@ -125,9 +125,9 @@ largestLoad-kept refer position m later turn =
     ∙ netLoads-kept (netsOf m) (references-same (turn .refers) inputs) refl (ordered (turn .ok)) (netsOf m) (subset-self (netsOf m))))
     (largestReferred-kept (references-same (turn .refers) (turn .before)) (slotIn m) (turn .ok .body))
 
-module _ {ms : List Module} (accepted : Accepted ms) (number : ℕ) (m : Module) (found : assoc number ms ≡ box m) where
+module _ {ms : List Module} (fits : Fits ms) (number : ℕ) (m : Module) (found : assoc number ms ≡ box m) where
   pub inputLoads-resolved : inputLoads (resolve ms) (16 + positionOf number ms) ≡ inputLoads ms number
-  inputLoads-resolved = kept-in-file Equal inputLoads-search inputLoads-search inputLoads-kept accepted number m found
+  inputLoads-resolved = kept-in-file Equal inputLoads-search inputLoads-search inputLoads-kept fits number m found
 
   pub largestLoad-resolved : largestLoad (resolve ms) (16 + positionOf number ms) ≡ largestLoad ms number
-  largestLoad-resolved = kept-in-file Equal largestLoad-search largestLoad-search largestLoad-kept accepted number m found
+  largestLoad-resolved = kept-in-file Equal largestLoad-search largestLoad-search largestLoad-kept fits number m found

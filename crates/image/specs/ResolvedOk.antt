@@ -1,23 +1,22 @@
--- A resolved file can be run on frames: of an accepted file, the resolved one is `FramesOk`.
+-- A resolved file can be run on frames: of a file that fits, the resolved one is `FramesOk`.
 use Prim.Native.Nat.{ℕ, zero, suc, _+_, _<_}
 use mathlib.Core.Path.{_≡_, refl, sym, ap, subst, _∙_}
-use mathlib.Core.Bool.{Bool, true, false}
+use mathlib.Core.Bool.{true}
 use mathlib.Core.List.{List, [], _∷_, _++_, map, append-assoc}
 use native.Mathlib.Nat.{not-suc-le-zero, le-of-suc-le-suc}
-use native.Mathlib.Omega.{arith}
 use lib.ListN.{length, getD, length-append, length-map}
 use Rattle.meaning.specs.Syntax.{Occurrence, Module}
-use Rattle.meaning.specs.Gates.{isGate, gate}
 use Rattle.meaning.specs.Boxlist.{box, assoc, member, subset}
-use Rattle.meaning.specs.Limits.{driven, netCount}
+use Rattle.meaning.specs.Limits.{driven}
 use Rattle.meaning.specs.Adder.{upFrom}
-use Rattle.laws.specs.WellFormed.{Reference, toGate, toModule, ModuleOk, Accepted}
+use Rattle.laws.specs.WellFormed.{Reference, toGate, toModule}
 use Rattle.nets.specs.Slots.{slotOf}
 use Rattle.nets.specs.Booleans.{and-left, and-right}
 use Rattle.nets.specs.SlotLaws.{slot-below}
-use Rattle.image.specs.Resolved.{positionOf, netsOf, referTo, resolveOccurrence, resolveModule, resolveFrom, resolve}
+use Rattle.image.specs.Resolved.{positionOf, netsOf, resolveOccurrence, resolveModule, resolveFrom, resolve}
 use Rattle.image.specs.Frames.{Filled, Framed, FrameOk, FramesOk}
-use Rattle.image.specs.Shapes.{number-of-resolved, inputs-of-resolved, outputs-of-resolved, length-of-nets, netCount-of-resolved}
+use Rattle.image.specs.Fitting.{ModuleFits, Fits, none, some}
+use Rattle.image.specs.Shapes.{inputs-of-resolved, outputs-of-resolved, length-of-nets, netCount-of-resolved}
 use Rattle.image.specs.Searching.{assoc-search}
 use Rattle.image.specs.Positions.{found-at, says-at}
 use Rattle.image.specs.Referring.{Refers, refers-whole, refers-behind, refer-no-gate}
@@ -87,7 +86,7 @@ framed-resolved {refer} {position} {later} all {nets} refers e (step {o} {os} ok
 module-resolved :
     {refer : ℕ → ℕ} {position : ℕ} {m : Module} {later : List Module}
     → Refers refer (suc position) later
-    → ModuleOk m later
+    → ModuleFits m later
     → FrameOk position (resolveModule refer position m) (resolveFrom refer (suc position) later)
 unfolding resolveModule netsOf
 module-resolved {refer} {position} {m} {later} refers ok =
@@ -100,13 +99,17 @@ module-resolved {refer} {position} {m} {later} refers ok =
       slots = own-slots refer position ok ∙ ap (upFrom 0) (sym count);
     }
 
-pub file-resolved : {refer : ℕ → ℕ} {position : ℕ} {ms : List Module} → Refers refer position ms → Accepted ms → FramesOk position (resolveFrom refer position ms)
+file-resolved :
+    {refer : ℕ → ℕ} {position : ℕ} {ms : List Module}
+    → Refers refer position ms
+    → Fits ms
+    → FramesOk position (resolveFrom refer position ms)
 unfolding resolveFrom
-file-resolved refers Accepted.none = FramesOk.none
-file-resolved refers (Accepted.some ok rest) =
+file-resolved refers none = FramesOk.none
+file-resolved refers (some ok rest) =
     let behind = refers-behind ok refers in
     FramesOk.some (module-resolved behind ok) (file-resolved behind rest)
 
-pub resolved-ok : {ms : List Module} → Accepted ms → FramesOk 0 (resolve ms)
+pub resolved-ok : {ms : List Module} → Fits ms → FramesOk 0 (resolve ms)
 unfolding resolve
-resolved-ok accepted = file-resolved (refers-whole accepted) accepted
+resolved-ok fits = file-resolved (refers-whole fits) fits

@@ -1,17 +1,17 @@
 -- What a list of modules says of a number it says of the first module that has the number, from that module and those after it.
 -- Evaluation and the figures are all of this form, so what is true of every such search is proved once.
-use Prim.Native.Nat.{ℕ}
+use Prim.Native.Nat.{ℕ, _+_, max}
 use mathlib.Core.Path.{_≡_, fun-ext}
 use mathlib.Core.Bool.{true}
 use mathlib.Core.List.{List, _∷_, map}
 use lib.Dec.{eqb}
-use Prim.Native.Nat.{_+_, max}
 use Rattle.meaning.specs.Syntax.{Module}
 use Rattle.meaning.specs.Boxlist.{box, assoc}
 use Rattle.meaning.specs.Limits.{netCount, bodySize, expandedSize}
 use Rattle.meaning.specs.Evaluation.{Meaning, runModule, run}
 use Rattle.meaning.specs.Figures.{largest, bodyWeight, gateWeight, largestReferred, room, netLoad, inputLoads, largestLoad}
-use Rattle.laws.specs.Suffix.{Searches, assoc-searches, run-searches, expandedSize-searches, gateWeight-searches, room-searches, inputLoads-searches, largestLoad-searches}
+use Rattle.laws.specs.Suffix.{Searches, assoc-searches, run-searches, expandedSize-searches, gateWeight-searches, room-searches}
+use Rattle.laws.specs.Suffix.{inputLoads-searches, largestLoad-searches}
 use Rattle.image.specs.Resolved.{netsOf}
 use Rattle.image.specs.Frames.{runFrame, runFrames}
 

@@ -1,6 +1,6 @@
 -- What resolution keeps of a module whatever the file: all its counts, and with them the length of its numbers. Its number becomes
 -- its position.
-use Prim.Native.Nat.{ℕ, suc, _+_}
+use Prim.Native.Nat.{ℕ, _+_}
 use mathlib.Core.Path.{_≡_, refl, sym, ap, ap₂, _∙_}
 use mathlib.Core.List.{List, [], _∷_, _++_, map, map-append}
 use lib.ListN.{length, length-append, length-map}
@@ -19,7 +19,8 @@ module _ (slot refer : ℕ → ℕ) where
   pub driven-resolved : (os : List Occurrence) → driven (map (resolveOccurrence slot refer) os) ≡ map slot (driven os)
   unfolding driven
   driven-resolved [] = refl
-  driven-resolved (o ∷ os) = ap (λ (nets : List ℕ). map slot (o .drives) ++ nets) (driven-resolved os) ∙ sym (map-append slot (o .drives) (driven os))
+  driven-resolved (o ∷ os) =
+      ap (λ (nets : List ℕ). map slot (o .drives) ++ nets) (driven-resolved os) ∙ sym (map-append slot (o .drives) (driven os))
 
   pub length-of-resolved-occurrence :
       (o : Occurrence) → length (occurrenceNumbers (resolveOccurrence slot refer o)) ≡ length (occurrenceNumbers o)

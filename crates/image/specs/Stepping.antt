@@ -1,23 +1,22 @@
 -- Going through a file that can be run on frames, from a module to those that it refers to: what holds of the module at a position, where
 -- its references lead, and what running such a module means. What stands in front of a module does not matter to it.
 use Prim.Native.Nat.{ℕ, zero, suc, _+_, _≤_, _<_}
-use mathlib.Core.Path.{_≡_, refl, sym, ap, subst, _∙_}
-use mathlib.Core.Bool.{true, false, true≢false}
-use mathlib.Core.List.{List, [], _∷_}
+use mathlib.Core.Path.{_≡_, sym, ap, subst, _∙_}
+use mathlib.Core.Bool.{false, true≢false}
+use mathlib.Core.List.{List, _∷_}
 use native.Mathlib.Omega.{arith}
 use native.Mathlib.Nat.{zero-add, add-zero, add-suc, suc-add}
 use lib.ListN.{length, drop, length-drop}
 use lib.Seq.{drop-drop}
 use Rattle.meaning.specs.Syntax.{Occurrence, Module}
 use Rattle.meaning.specs.Gates.{isGate}
-use Rattle.meaning.specs.Boxlist.{box, assoc}
 use Rattle.meaning.specs.Evaluation.{Meaning}
 use Rattle.laws.specs.WellFormed.{Reference, toGate, toModule}
 use Rattle.laws.specs.Standing.{stands, number-of}
 use Rattle.image.specs.Resolved.{positionOf}
 use Rattle.image.specs.Frames.{FrameOk, FramesOk, none, some, runFrame, runFrames}
 use Rattle.image.specs.Searching.{Search, runFrames-search}
-use Rattle.image.specs.Positions.{Numbered, numbered-drop, found-at, says-from}
+use Rattle.image.specs.Positions.{Numbered, found-at, says-from}
 
 pub frames-numbered : {position : ℕ} {rs : List Module} → FramesOk position rs → Numbered position rs
 frames-numbered none = Numbered.none
