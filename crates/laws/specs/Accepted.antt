@@ -1,28 +1,22 @@
 -- The verdict on a list of modules is good exactly where the list is `Accepted`.
-use Prim.Native.Nat.{ℕ, suc, _≤_, _<_}
-use mathlib.Core.Logic.{_↔_, _⊎_, inl, inr}
-use mathlib.Core.Path.{_≡_, refl}
-use mathlib.Core.Bool.{Bool, true, false}
+use Prim.Native.Nat.{ℕ, suc, _<_}
+use mathlib.Core.Logic.{inl, inr}
+use mathlib.Core.Path.{_≡_, ap}
 use mathlib.Core.List.{List, [], _∷_, _++_}
 use native.Mathlib.Omega.{arith}
-use borrow.Author.Tests.{le-ltb, le-leb}
 use Rattle.meaning.specs.Syntax.{Occurrence, Module}
-use Rattle.meaning.specs.Gates.{isGate}
-use Rattle.meaning.specs.Boxlist.{Found, box, F, assoc, isBox}
+use Rattle.meaning.specs.Boxlist.{isBox}
 use Rattle.meaning.specs.Limits.{driven, bodySize, expandedSize, mostSize}
-use Rattle.meaning.specs.Verdict.{Verdict, good, fileVerdict}
-use Rattle.meaning.specs.Rules.{Rule, numbers, occurrenceRules, moduleRules, modulesRules, sizeRules, fileRules, Outcome, allKept, broken, kept}
-use Rattle.laws.specs.WellFormed.{Reference, toGate, toModule, OccurrenceOk, Body, done, step, ModuleOk, Accepted, none, some}
-use Rattle.laws.specs.Tests.{is-true, is-false, otherwise}
+use Rattle.meaning.specs.Verdict.{good, fileVerdict}
+use Rattle.meaning.specs.Rules.{occurrenceRules, moduleRules, modulesRules, sizeRules, fileRules, Outcome, allKept, kept}
+use Rattle.laws.specs.WellFormed.{Body, done, step, ModuleOk, Accepted, none, some}
+use Rattle.laws.specs.Tests.{if-true, if-false, is-true, is-false, otherwise, neither, not-below}
 use Rattle.laws.specs.Members.{duplicates-tells, disjoint-tells, subset-tells}
-use Rattle.laws.specs.Finding.{reference-tells, not-found}
-use Rattle.laws.specs.Outcomes.{good-cons, good-both}
+use Rattle.laws.specs.Finding.{found-tells, reference-tells, reference-resolved, reference-matches, not-found}
+use Rattle.laws.specs.Outcomes.{andThen-outcome, good-cons, good-both}
 use Rattle.laws.specs.Refusals.{verdict-outcome}
 
-neither : {A B : Type 0} → ¬ A → ¬ B → ¬ (A ⊎ B)
-neither f g (inl a) = f a
-neither f g (inr b) = g b
-
+-- Where no rule is broken the list is accepted.
 body-accepted :
     (p : ℕ) (os : List Occurrence) (signals : List ℕ) (later : List Module)
     → Outcome (occurrenceRules p os signals later) good
@@ -76,3 +70,45 @@ unfolding fileRules
 good-accepted ms e =
     let both = good-both (modulesRules 0 ms) (sizeRules 0 ms) (verdict-outcome ms good .0 e) in
     modules-accepted 0 0 ms (both .0) (both .1)
+
+-- Where the list is accepted no rule is broken.
+body-kept :
+    (p : ℕ) {later : List Module} {signals : List ℕ} {os : List Occurrence}
+    → Body later signals os
+    → Outcome (occurrenceRules p os signals later) good
+unfolding occurrenceRules
+body-kept p done = allKept
+body-kept p {later} {signals} (step {o = o} ok rest) =
+    kept
+    (neither (if-false (duplicates-tells (o .drives)) (ok .distinct)) (if-true (disjoint-tells (o .drives) signals) (ok .fresh)))
+    (kept (if-true (subset-tells (o .takes) signals) (ok .bound))
+    (kept (reference-resolved (ok .reference))
+    (kept (reference-matches (ok .reference))
+    (body-kept p rest))))
+
+module-kept : (p : ℕ) {m : Module} {later : List Module} → ModuleOk m later → Outcome (moduleRules p m later) good
+unfolding moduleRules
+module-kept p {m} {later} ok =
+    kept (not-below (ok .above))
+    (kept (if-false (found-tells (m .number) later) (ap isBox (ok .unique)))
+    (kept (if-false (duplicates-tells (m .inputs)) (ok .inputsDistinct))
+    (kept (if-false (duplicates-tells (m .outputs)) (ok .outputsDistinct))
+    (kept (if-true (disjoint-tells (m .inputs) (m .outputs)) (ok .apart))
+    (andThen-outcome (body-kept p (ok .body))
+    (kept (if-true (subset-tells (m .outputs) (driven (m .occurrences))) (ok .outputsDriven))
+    (kept (not-below (ok .nets))
+    allKept)))))))
+
+modules-kept : (p : ℕ) {ms : List Module} → Accepted ms → Outcome (modulesRules p ms) good
+unfolding modulesRules
+modules-kept p none = allKept
+modules-kept p (some ok rest) = andThen-outcome (module-kept p ok) (modules-kept (suc p) rest)
+
+sizes-kept : (p : ℕ) {ms : List Module} → Accepted ms → Outcome (sizeRules p ms) good
+unfolding sizeRules
+sizes-kept p none = allKept
+sizes-kept p (some ok rest) = andThen-outcome (sizes-kept (suc p) rest) (kept (not-below (ok .size)) allKept)
+
+pub accepted-good : {ms : List Module} → Accepted ms → fileVerdict ms ≡ good
+unfolding fileRules
+accepted-good {ms} a = verdict-outcome ms good .1 (andThen-outcome (modules-kept 0 a) (sizes-kept 0 a))

@@ -1,12 +1,12 @@
 -- What looking up a number tells: (ASSOC NAME BOXLIST) finds a module exactly where the number is one of the list's, and the checks
--- of existence and arity of BODY-OKP say what a `Reference` says.
-use Prim.Native.Nat.{ℕ, suc, _≤_, _<_}
+-- of existence and arity of BODY-OKP say what a `Reference` says. In an accepted list, what is found is accepted.
+use Prim.Native.Nat.{ℕ, _≤_, _<_}
 use mathlib.Core.Logic.{_⊎_, inl, inr}
-use mathlib.Core.Path.{_≡_, refl, sym, _∙_, ap}
+use mathlib.Core.Path.{_≡_, refl, sym, _∙_, ap, subst}
 use mathlib.Core.Bool.{Bool, true, false, cond, _&&_, _||_, true≢false}
-use borrow.Author.Tests.{ltb-true, ltb-false}
-use mathlib.Core.List.{List, [], _∷_, List·Memᴰ·head as here, List·Memᴰ·tail as there, List·Memᴰ·not-nil as in-none}
+use mathlib.Core.List.{List, [], _∷_}
 use native.Mathlib.Omega.{arith}
+use borrow.Author.Tests.{ltb-true, ltb-false}
 use lib.Dec.{eqb}
 use lib.ListN.{length}
 use Rattle.meaning.specs.Syntax.{Occurrence, Module}
@@ -14,8 +14,10 @@ use Rattle.meaning.specs.Gates.{isGate, gate}
 use Rattle.meaning.specs.Members.{_∈_}
 use Rattle.meaning.specs.Boxlist.{Found, box, F, assoc, isBox, submoduleOkp, arityOkp}
 use Rattle.meaning.specs.Rules.{numbers, Unresolved, Mismatch, withGate, withModule}
-use Rattle.laws.specs.WellFormed.{Reference, toGate, toModule}
-use Rattle.laws.specs.Tests.{Tells, tells-true, tells-false, if-false, is-false, tells, tells-and, tells-or, eqb-tells, leb-tells}
+use Rattle.laws.specs.WellFormed.{Reference, toGate, toModule, ModuleOk, Accepted, none, some}
+use Rattle.laws.specs.Tests.{Tells, tells-true, tells-false, if-false, is-false, neither}
+use Rattle.laws.specs.Tests.{tells, tells-and, tells-or, eqb-tells, ltb-tells}
+use Rattle.laws.specs.Members.{here, there, in-none}
 
 pub found-tells : (x : ℕ) (ms : List Module) → Tells (x ∈ numbers ms) (¬ (x ∈ numbers ms)) (isBox (assoc x ms))
 unfolding assoc
@@ -28,24 +30,24 @@ found-tells x (m ∷ ms) = go (eqb-tells x (m .number)) (found-tells x ms)
         → Tells (x ∈ numbers ms) (¬ (x ∈ numbers ms)) (isBox (assoc x ms))
         → Tells (x ∈ numbers (m ∷ ms)) (¬ (x ∈ numbers (m ∷ ms))) (isBox (cond b (box m) (assoc x ms)))
     go (tells-true e) t = tells-true (here e)
-    go (tells-false h) t = tells there (λ out. neither out) t
+    go (tells-false h) t = tells there absent t
       where
-        neither : ¬ (x ∈ numbers ms) → ¬ (x ∈ numbers (m ∷ ms))
-        neither out (here e) = h e
-        neither out (there i) = out i
+        absent : ¬ (x ∈ numbers ms) → ¬ (x ∈ numbers (m ∷ ms))
+        absent out (here e) = h e
+        absent out (there i) = out i
 
 -- Rule 13's test: a gate, or a later module that is found.
 pub resolved-tells :
     (o : Occurrence) (later : List Module)
     → Tells (¬ (Unresolved o later)) (Unresolved o later) (isGate (o .refers) || isBox (assoc (o .refers) later))
-resolved-tells o later = tells either neither (tells-or (leb-tells (suc (o .refers)) 16) (found-tells (o .refers) later))
+resolved-tells o later = tells either unresolved (tells-or (ltb-tells (o .refers) 16) (found-tells (o .refers) later))
   where
-    either : (suc (o .refers) ≤ 16) ⊎ (o .refers ∈ numbers later) → ¬ (Unresolved o later)
+    either : (o .refers < 16) ⊎ (o .refers ∈ numbers later) → ¬ (Unresolved o later)
     either (inl l) u = omega arith
     either (inr i) u = u .noModule i
 
-    neither : (16 < suc (o .refers)) × (¬ (o .refers ∈ numbers later)) → Unresolved o later
-    neither h = record { noGate = omega arith; noModule = h .1 }
+    unresolved : (16 ≤ o .refers) × (¬ (o .refers ∈ numbers later)) → Unresolved o later
+    unresolved h = record { noGate = h .0; noModule = h .1 }
 
 -- The arity checks of BODY-OKP tell a fitting reference from one that breaks rule 13 or 14.
 pub reference-tells :
@@ -84,7 +86,8 @@ reference-tells o later = go (isGate (o .refers)) refl
 -- A fitting reference breaks neither rule.
 pub reference-resolved : {o : Occurrence} {later : List Module} → Reference later o → ¬ (Unresolved o later)
 reference-resolved (toGate g a b) u = omega (arith, ltb-true)
-reference-resolved {o} {later} (toModule m g e a b) u = true≢false (ap isBox (sym e) ∙ is-false (found-tells (o .refers) later) (u .noModule))
+reference-resolved {o} {later} (toModule m g e a b) u =
+    true≢false (ap isBox (sym e) ∙ is-false (found-tells (o .refers) later) (u .noModule))
 
 pub reference-matches : {o : Occurrence} {later : List Module} → Reference later o → ¬ (Mismatch o later)
 reference-matches (toGate g a b) (withGate l h) = h (a, b)
@@ -92,10 +95,29 @@ reference-matches (toGate g a b) (withModule m l e h) = omega (arith, ltb-true)
 reference-matches (toModule m g e a b) (withGate l h) = omega (arith, ltb-false)
 reference-matches (toModule m g e a b) (withModule m′ l e′ h) = h (cc, cc)
 
+pub reference-fits : {o : Occurrence} {later : List Module} → Reference later o → ¬ (Unresolved o later ⊎ Mismatch o later)
+reference-fits r = neither (reference-resolved r) (reference-matches r)
+
 -- A number that no module has is not found.
+pub not-box : (f : Found) → isBox f ≡ false → f ≡ F
+not-box (box m) e = absurd (true≢false e)
+not-box F e = refl
+
 pub not-found : (x : ℕ) (ms : List Module) → ¬ (x ∈ numbers ms) → assoc x ms ≡ F
-not-found x ms out = go (assoc x ms) (is-false (found-tells x ms) out)
+not-found x ms out = not-box (assoc x ms) (is-false (found-tells x ms) out)
+
+-- A property that a module has wherever the modules it can refer to have it, every module has that a number finds.
+pub found-every :
+    {ms : List Module} {P : Module → Type 0}
+    → ((m : Module) (later : List Module) → ModuleOk m later → ((x : ℕ) (k : Module) → assoc x later ≡ box k → P k) → P m)
+    → Accepted ms
+    → (x : ℕ) (k : Module)
+    → assoc x ms ≡ box k
+    → P k
+unfolding assoc
+found-every f none x k e = let z : _≡_ {A = ℕ} 0 1 = cc in absurd (omega arith)
+found-every {P = P} f (some {m} {later} ok rest) x k e = go (eqb x (m .number)) refl (found-every f rest)
   where
-    go : (f : Found) → isBox f ≡ false → f ≡ F
-    go (box m) e = absurd (true≢false e)
-    go F e = refl
+    go : (b : Bool) → eqb x (m .number) ≡ b → ((x : ℕ) (k : Module) → assoc x later ≡ box k → P k) → P k
+    go true t below = let same : m ≡ k = cc (rw t at e) in subst P same (f m later ok below)
+    go false t below = below x k (rw t at e)

@@ -14,7 +14,13 @@ pub mod RoundTrip
 pub mod Exactness
 pub mod Places
 pub mod ReadingRows
+pub mod Okp
 pub mod Accepted
+pub mod Acceptable
+pub mod Nets
+pub mod Bounds
+pub mod Idle
+pub mod Range
 pub mod Refusals
 pub mod Related
 pub mod Suffix

@@ -3,11 +3,15 @@
 use Prim.Native.Nat.{ℕ}
 use mathlib.Core.Logic.{_⊎_, inl, inr}
 use mathlib.Core.Path.{_≡_, refl, sym}
-use mathlib.Core.Bool.{Bool, true, false}
-use mathlib.Core.List.{List, [], _∷_, List·Memᴰ·head as here, List·Memᴰ·tail as there, List·Memᴰ·not-nil as in-none, Memᴰ·cast as same-in}
+use mathlib.Core.Bool.{true}
+use mathlib.Core.List.{List, [], _∷_}
+pub use mathlib.Core.List.{List·Memᴰ·head as here, List·Memᴰ·tail as there, List·Memᴰ·not-nil as in-none}
+pub use mathlib.Core.List.{Memᴰ·append-left as in-left, Memᴰ·append-right as in-right, List·Memᴰ·append-cases as in-either}
+pub use mathlib.Core.List.{Memᴰ·cast as same-in}
 use Rattle.meaning.specs.Members.{_∈_, Twice, again, further, Common, Lacking}
 use Rattle.meaning.specs.Boxlist.{member, disjoint, duplicates, subset}
-use Rattle.laws.specs.Tests.{Tells, tells-true, tells-false, if-true, if-false, is-true, is-false, tells, tells-not, tells-and, tells-or, eqb-tells}
+use Rattle.laws.specs.Tests.{Tells, tells-true, tells-false, if-true, otherwise}
+use Rattle.laws.specs.Tests.{tells, tells-not, tells-and, tells-or, eqb-tells}
 
 pub member-tells : (x : ℕ) (ys : List ℕ) → Tells (x ∈ ys) (¬ (x ∈ ys)) (member x ys)
 unfolding member
@@ -22,12 +26,12 @@ member-tells x (y ∷ ys) = tells either neither (tells-or (eqb-tells x y) (memb
     neither h (here e) = h .0 e
     neither h (there i) = h .1 i
 
+pub twice-none : ¬ (Twice [])
+twice-none t = elim t [ ]
+
 pub duplicates-tells : (xs : List ℕ) → Tells (Twice xs) (¬ (Twice xs)) (duplicates xs)
 unfolding duplicates
-duplicates-tells [] = tells-false none
-  where
-    none : ¬ (Twice [])
-    none t = elim t [ ]
+duplicates-tells [] = tells-false twice-none
 duplicates-tells (x ∷ xs) = tells either neither (tells-or (member-tells x xs) (duplicates-tells xs))
   where
     either : (x ∈ xs) ⊎ Twice xs → Twice (x ∷ xs)
@@ -64,28 +68,16 @@ subset-tells (x ∷ xs) ys = tells neither either (tells-and (member-tells x ys)
     either (inr l) = record { net = l .net; listed = there (l .listed); missing = l .missing }
 
     at : (net : ℕ) → (x ∈ ys) × (¬ (Lacking xs ys)) → net ∈ (x ∷ xs) → ¬ (net ∈ ys) → ⊥
-    at net h (here e) no-net = no-net (same-in e (h .0))
-    at net h (there k) no-net = h .1 (record { net = net; listed = k; missing = no-net })
+    at net h (here e) out = out (same-in e (h .0))
+    at net h (there k) out = h .1 (record { net = net; listed = k; missing = out })
 
     neither : (x ∈ ys) × (¬ (Lacking xs ys)) → ¬ (Lacking (x ∷ xs) ys)
     neither h l = at (l .net) h (l .listed) (l .missing)
 
--- The same as implications, for proofs that start from a list that passed.
-pub member-in : (x : ℕ) (ys : List ℕ) → member x ys ≡ true → x ∈ ys
-member-in x ys = if-true (member-tells x ys)
-
-pub in-member : (x : ℕ) (ys : List ℕ) → x ∈ ys → member x ys ≡ true
-in-member x ys i = is-true (member-tells x ys) (λ h. h i)
-
-pub out-member : (x : ℕ) (ys : List ℕ) → ¬ (x ∈ ys) → member x ys ≡ false
-out-member x ys = is-false (member-tells x ys)
-
+-- The last two as implications, for proofs that start from a list that passed.
 pub disjoint-out : (xs ys : List ℕ) → disjoint xs ys ≡ true → {x : ℕ} → x ∈ xs → ¬ (x ∈ ys)
 disjoint-out xs ys e {x} i j = if-true (disjoint-tells xs ys) e (record { net = x; inFirst = i; inSecond = j })
 
 pub subset-in : (xs ys : List ℕ) → subset xs ys ≡ true → {x : ℕ} → x ∈ xs → x ∈ ys
-subset-in xs ys e {x} i = from (member-tells x ys)
-  where
-    from : {b : Bool} → Tells (x ∈ ys) (¬ (x ∈ ys)) b → x ∈ ys
-    from (tells-true j) = j
-    from (tells-false h) = absurd (if-true (subset-tells xs ys) e (record { net = x; listed = i; missing = h }))
+subset-in xs ys e {x} i =
+    otherwise (member-tells x ys) (λ out. if-true (subset-tells xs ys) e (record { net = x; listed = i; missing = out }))

@@ -1,8 +1,8 @@
 -- Outcomes of rules in their order: an outcome is determined, and the combinators `keep` and `andThen` of a verdict are the next
 -- rule and the next list of rules.
 use Prim.Native.Nat.{ℕ}
-use mathlib.Core.Path.{_≡_, refl, sym}
-use mathlib.Core.Bool.{Bool, true, false}
+use mathlib.Core.Path.{_≡_, refl}
+use mathlib.Core.Bool.{Bool}
 use mathlib.Core.List.{List, [], _∷_, _++_}
 use Rattle.meaning.specs.Verdict.{Verdict, good, refused, keep, andThen}
 use Rattle.meaning.specs.Rules.{Rule, rule, Outcome, allKept, broken, kept}
@@ -37,3 +37,14 @@ good-cons (kept h o) = (h, o)
 pub good-both : (rs qs : List Rule) → Outcome (rs ++ qs) good → Outcome rs good × Outcome qs good
 good-both [] qs o = (allKept, o)
 good-both (r ∷ rs) qs (kept h o) = let both = good-both rs qs o in (kept h (both .0), both .1)
+
+-- What two lists refuse, the first refuses or the second.
+pub refused-either :
+    {n p : ℕ} {C : Type 0} (rs qs : List Rule)
+    → (Outcome rs (refused n p) → C)
+    → (Outcome qs (refused n p) → C)
+    → Outcome (rs ++ qs) (refused n p)
+    → C
+refused-either [] qs f g o = g o
+refused-either (r ∷ rs) qs f g (broken b) = f (broken b)
+refused-either (r ∷ rs) qs f g (kept h o) = refused-either rs qs (λ c. f (kept h c)) g o

@@ -2,10 +2,11 @@
 -- test are then built from facts about its parts, and read off its value either way.
 use Prim.Native.Nat.{ℕ, _≤_, _<_}
 use mathlib.Core.Logic.{_⊎_, inl, inr, _≢_}
-use mathlib.Core.Path.{_≡_, refl, sym}
+use mathlib.Core.Path.{_≡_, refl}
 use mathlib.Core.Bool.{Bool, true, false, not, _&&_, _||_, true≢false, false≢true}
+use native.Mathlib.Omega.{arith}
 use lib.Dec.{eqb, leb, ltb}
-use borrow.Author.Tests.{eqb-true, eqb-false, leb-true, leb-false}
+use borrow.Author.Tests.{eqb-true, eqb-false, leb-true, leb-false, ltb-true, ltb-false}
 
 pub data Tells (P Q : Type 0) : Bool → Type 0 where
   tells-true : P → Tells P Q true
@@ -53,14 +54,29 @@ tells-or (tells-true p) t = tells-true (inl p)
 tells-or (tells-false q) (tells-true p′) = tells-true (inr p′)
 tells-or (tells-false q) (tells-false q′) = tells-false (q, q′)
 
+-- How the negations of two facts are put together, and the negation of an order.
+pub neither : {P Q : Type 0} → ¬ P → ¬ Q → ¬ (P ⊎ Q)
+neither f g (inl p) = f p
+neither f g (inr q) = g q
+
+pub not-below : {a b : ℕ} → a ≤ b → ¬ (b < a)
+not-below h l = omega arith
+
+-- Two tests that are true together are true each.
+pub and-both : (a b : Bool) → (a && b) ≡ true → (a ≡ true) × (b ≡ true)
+and-both true b e = (refl, e)
+and-both false b e = absurd (false≢true e)
+
 -- The tests on numbers.
-module _ {P Q : Type 0} where
-  pub by-value : (b : Bool) → (b ≡ true → P) → (b ≡ false → Q) → Tells P Q b
-  by-value true f g = tells-true (f refl)
-  by-value false f g = tells-false (g refl)
+by-value : {P Q : Type 0} (b : Bool) → (b ≡ true → P) → (b ≡ false → Q) → Tells P Q b
+by-value true f g = tells-true (f refl)
+by-value false f g = tells-false (g refl)
 
 pub eqb-tells : (a b : ℕ) → Tells (a ≡ b) (a ≢ b) (eqb a b)
 eqb-tells a b = by-value (eqb a b) (eqb-true a b) (eqb-false a b)
 
 pub leb-tells : (a b : ℕ) → Tells (a ≤ b) (b < a) (leb a b)
 leb-tells a b = by-value (leb a b) (leb-true a b) (leb-false a b)
+
+pub ltb-tells : (a b : ℕ) → Tells (a < b) (b ≤ a) (ltb a b)
+ltb-tells a b = by-value (ltb a b) (ltb-true a b) (ltb-false a b)

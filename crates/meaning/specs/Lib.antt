@@ -12,6 +12,7 @@ pub mod Boxlist
 pub mod Limits
 pub mod Verdict
 pub mod Rules
+pub mod Acceptable
 pub mod Evaluation
 pub mod Heval
 pub mod Adder
