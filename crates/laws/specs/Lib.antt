@@ -35,3 +35,4 @@ pub mod Heval
 pub mod WrongEvaluators
 pub mod EvaluationRows
 pub mod Adder
+pub mod Flatten

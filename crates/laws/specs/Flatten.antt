@@ -1,0 +1,5 @@
+-- Flattening (document 01, 'Flattening'): the flattened module of a module of an accepted file is the same module.
+pub mod Numbered
+pub mod Environments
+pub mod Walk
+pub mod Values
