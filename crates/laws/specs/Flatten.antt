@@ -3,3 +3,9 @@ pub mod Numbered
 pub mod Environments
 pub mod Walk
 pub mod Values
+pub mod Counts
+pub mod Wired
+pub mod Distinct
+pub mod Shape
+pub mod Bytes
+pub mod Accepted

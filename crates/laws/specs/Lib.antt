@@ -2,6 +2,7 @@
 pub mod Fillings
 pub mod Folds
 pub mod Gates
+pub mod Arity
 pub mod Lists
 pub mod Written
 pub mod Reading

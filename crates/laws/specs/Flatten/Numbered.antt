@@ -26,6 +26,9 @@ of-run first zero i = absurd (in-none i)
 of-run first (suc n) (here e) = omega arith
 of-run first (suc n) (there i) = let b = of-run (suc first) n i in omega arith
 
+pub below-run : (count x : ℕ) → x ∈ upFrom 0 count → x < count
+below-run count x i = omega (arith, of-run 0 count i)
+
 -- and every net between them is one.
 pub in-run : (first count : ℕ) {x : ℕ} → Between first (first + count) x → x ∈ upFrom first count
 unfolding upFrom

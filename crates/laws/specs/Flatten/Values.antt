@@ -22,7 +22,7 @@ use Rattle.laws.specs.WellFormed.{Accepted}
 use Rattle.laws.specs.Accepted.{good-accepted}
 use Rattle.laws.specs.Members.{here, there}
 use Rattle.laws.specs.Standing.{stands}
-use Rattle.laws.specs.Flatten.Numbered.{length-of-run, of-run, run-once}
+use Rattle.laws.specs.Flatten.Numbered.{length-of-run, below-run, run-once}
 use Rattle.laws.specs.Flatten.Environments.{look-here, look-past, lookAll-of-pairs}
 use Rattle.laws.specs.Flatten.Walk.{single, Kept, Shows, Gates, place-shows}
 
@@ -115,7 +115,7 @@ inputs-read unset value later inputs vs count =
     let read : lookAll unset nets (pairs unset nets vs) ≡ vs
     = lookAll-of-pairs unset nets vs (run-once 0 inputs) (count ∙ sym (length-of-run 0 inputs)) in
     rw read at
-    (all-read unset value later (pairs unset nets vs) (unset-board inputs) nets (λ x i. omega (arith, of-run 0 inputs i)))
+    (all-read unset value later (pairs unset nets vs) (unset-board inputs) nets (below-run inputs))
 
 module _ (ms : List Module) (number : ℕ) (m : Module) (accepted : fileVerdict ms ≡ good) (found : assoc number ms ≡ box m) where
   -- Any interpreter whose gates each give one value.

@@ -30,6 +30,18 @@ length-of-related : {A B : Type 0} {R : A → B → Type 0} {xs : List A} {ys : 
 length-of-related none = refl
 length-of-related (more r rs) = ap suc (length-of-related rs)
 
+-- The order in which nets stand in front of others does not matter.
+pub in-front : {x : ℕ} (xs ys zs : List ℕ) → x ∈ (xs ++ ys ++ zs) → x ∈ (ys ++ (xs ++ zs))
+in-front {x} xs ys zs i = either (in-either (xs ++ ys) i)
+  where
+    first : (x ∈ xs) ⊎ (x ∈ ys) → x ∈ (ys ++ (xs ++ zs))
+    first (inl j) = in-right ys (in-left zs j)
+    first (inr j) = in-left (xs ++ zs) j
+
+    either : (x ∈ (xs ++ ys)) ⊎ (x ∈ zs) → x ∈ (ys ++ (xs ++ zs))
+    either (inl j) = first (in-either xs j)
+    either (inr j) = in-right ys (in-right xs j)
+
 -- From one board to another everything is kept.
 pub record Kept {A : Type 0} (Fine : Board → Type 0) (Is : Board → ℕ → A → Type 0) (a b : Board) : Type 0 where
   pub fine : Fine a → Fine b
@@ -160,18 +172,7 @@ module _ {A : Type 0} (unset : A) (value : ℕ → List A → A) (Fine : Board �
         pairs-match (o .drives) (length-of-reference (lookAll unset (o .takes) env) (ok .reference)) (shown .outputs)
         (matches-kept (shown .kept) (h .matches)) in
         let w′ = body-shows a _ _ later rest (record { kept = kept-on (h .kept) (shown .kept); matches = bound }) in
-        record { kept = w′ .kept; matches = record { at = λ x i. w′ .matches .at x (regroup x i) } }
-      where
-        regroup : (x : ℕ) → x ∈ (o .drives ++ driven os ++ signals) → x ∈ (driven os ++ (o .drives ++ signals))
-        regroup x i = first-or-later (in-either (o .drives ++ driven os) i)
-          where
-            here-or-later : (x ∈ o .drives) ⊎ (x ∈ driven os) → x ∈ (driven os ++ (o .drives ++ signals))
-            here-or-later (inl j) = in-right (driven os) (in-left signals j)
-            here-or-later (inr j) = in-left (o .drives ++ signals) j
-
-            first-or-later : (x ∈ (o .drives ++ driven os)) ⊎ (x ∈ signals) → x ∈ (driven os ++ (o .drives ++ signals))
-            first-or-later (inl j) = here-or-later (in-either (o .drives) j)
-            first-or-later (inr j) = in-right (driven os) (in-right (o .drives) j)
+        record { kept = w′ .kept; matches = record { at = λ x i. w′ .matches .at x (in-front (o .drives) (driven os) signals i) } }
 
     module-shows :
         {m : Module} {ms : List Module} {nets : List ℕ} {vs : List A} (b : Board)
