@@ -9,3 +9,4 @@ pub mod Distinct
 pub mod Shape
 pub mod Bytes
 pub mod Accepted
+pub mod Within
