@@ -10,3 +10,5 @@ pub mod Shape
 pub mod Bytes
 pub mod Accepted
 pub mod Within
+pub mod Again
+pub mod Rows
