@@ -37,3 +37,4 @@ pub mod WrongEvaluators
 pub mod EvaluationRows
 pub mod Adder
 pub mod Flatten
+pub mod Figures

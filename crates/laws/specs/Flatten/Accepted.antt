@@ -21,12 +21,11 @@ use Rattle.meaning.specs.Adder.{upFrom}
 use Rattle.laws.specs.WellFormed.{Reference, toGate, OccurrenceOk, Body, done, step, ModuleOk, Accepted, none, some}
 use Rattle.laws.specs.Tests.{is-true, is-false}
 use Rattle.laws.specs.Members.{here, there, in-none, same-in, in-left, in-right, in-either}
-use Rattle.laws.specs.Members.{duplicates-tells, disjoint-tells, subset-tells}
+use Rattle.laws.specs.Members.{twice-one, duplicates-tells, disjoint-tells, subset-tells}
 use Rattle.laws.specs.Accepted.{good-accepted, accepted-good}
 use Rattle.laws.specs.Standing.{Stands, stands, number-of, keeps-rules}
 use Rattle.laws.specs.Flatten.Numbered.{Between, length-of-run, of-run, below-run, in-run, run-once}
 use Rattle.laws.specs.Flatten.Wired.{GateAt, Wired, done as no-more, more, driven-of-wired, size-of-wired}
-use Rattle.laws.specs.Flatten.Distinct.{one-once}
 use Rattle.laws.specs.Flatten.Shape.{Flat, flat-shape, length-of-flat}
 
 -- These nets are the numbers below one.
@@ -49,7 +48,7 @@ below-further {n} {nets} b = record { are = are; all = λ x l. all x (eq-or-lt-o
 gate-ok : {n : ℕ} {later : List Module} {signals : List ℕ} {o : Occurrence} → Below n signals → GateAt n o → OccurrenceOk later signals o
 gate-ok {n} {signals = signals} {o = o} b g =
     record {
-      distinct = is-false (duplicates-tells (o .drives)) (rw (g .drives) one-once);
+      distinct = is-false (duplicates-tells (o .drives)) (rw (g .drives) twice-one);
       fresh = is-true (disjoint-tells (o .drives) signals) (λ c. fresh (c .net) (rw (g .drives) at (c .inFirst)) (c .inSecond));
       bound = is-true (subset-tells (o .takes) signals) (λ l. l .missing (b .all (l .net) (g .below (l .net) (l .listed))));
       reference = toGate (g .kind) (g .arity) (rw (g .drives));

@@ -19,7 +19,7 @@ use Rattle.meaning.specs.Flattening.{Board, Placed, placeReferred, Walked, plac
 use Rattle.laws.specs.WellFormed.{Reference, toGate, toModule, Body, done, step, ModuleOk, Accepted, none, some}
 use Rattle.laws.specs.Tests.{Tells, tells-true, tells-false, if-false}
 use Rattle.laws.specs.Members.{here, there, in-none, same-in, in-left, in-right, in-either, subset-in}
-use Rattle.laws.specs.Members.{member-tells, duplicates-tells, twice-none}
+use Rattle.laws.specs.Members.{member-tells, duplicates-tells, twice-none, twice-one}
 use Rattle.laws.specs.Standing.{Stands, here as first, there as after, stands}
 use Rattle.laws.specs.OutputCount.{length-of-lookAll}
 use Rattle.laws.specs.Flatten.Numbered.{Between}
@@ -94,10 +94,6 @@ pub record New (a : Board) (p : Placed) (count : ℕ) : Type 0 where
 pub record NewModules (ms : List Module) : Type 0 where
   pub new : (number : ℕ) {m : Module} → Stands number m ms → (nets : List ℕ) (b : Board) → New b (place ms number nets b) (length (m .outputs))
 
-pub one-once : {x : ℕ} → ¬ (Twice (x ∷ []))
-one-once (again i) = in-none i
-one-once (further t) = twice-none t
-
 reference-new :
     {ms : List Module} {o : Occurrence} (nets : List ℕ) (b : Board)
     → NewModules ms
@@ -108,7 +104,7 @@ reference-new nets b later (toGate g takes drives) =
     (record {
       grown = omega arith;
       between = one;
-      once = one-once;
+      once = twice-one;
       counted = drives;
     })
   where

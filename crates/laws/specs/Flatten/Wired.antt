@@ -81,8 +81,8 @@ pub place-builds :
     → Builds first (place ms number nets b)
 place-builds {ms} {number} {nets = nets} first b accepted stands count below w =
     let shown =
-        place-shows tt (λ kind vs. tt) (Built first) OnBoard (gates-wired first) accepted .shows number stands b count
-        (all-on-board b nets below) in
+    place-shows tt (λ kind vs. tt) (Built first) OnBoard (gates-wired first) accepted .shows number stands b count
+    (all-on-board b nets below) in
     record { wired = shown .kept .fine w; below = on-board (place ms number nets b .board) (shown .outputs) }
 
 -- How many they are, and what they drive.

@@ -20,7 +20,8 @@ use Rattle.meaning.specs.Adder.{upFrom}
 use Rattle.laws.specs.Members.{here, there}
 use Rattle.laws.specs.Arity.{arity-within}
 use Rattle.laws.specs.RoundTrip.{round-trip}
-use Rattle.laws.specs.Standing.{stands, number-of, holds-standing}
+use Rattle.laws.specs.Standing.{stands, number-of}
+use Rattle.laws.specs.Figures.Bounds.{found-within}
 use Rattle.laws.specs.Flatten.Numbered.{length-of-run, below-run}
 use Rattle.laws.specs.Flatten.Wired.{GateAt, Wired, done, more as then, next-of-wired}
 use Rattle.laws.specs.Flatten.Shape.{Flat, flat-shape, outputCount-of-flat, length-of-flat}
@@ -72,9 +73,8 @@ module _ (ms : List Module) (number : ℕ) (m : Module) (accepted : fileVerdict 
       let shape = flat-shape ms number m accepted found in
       let gates = length-of-flat ms number m accepted found in
       let outputs = outputCount-of-flat ms number m accepted found in
-      let at = stands number ms found in
-      let own : ModuleWithin m = holds-standing (within .modules .modules) at in
-      let same = number-of at in
+      let own = found-within number m within found in
+      let same = number-of (stands number ms found) in
       record {
         number = omega (arith, own .number);
         inputs =
@@ -89,7 +89,7 @@ module _ (ms : List Module) (number : ℕ) (m : Module) (accepted : fileVerdict 
 
   pub flat-file-within : Within (flatModule ms number (length (m .inputs)) ∷ [])
   flat-file-within =
-      let own : ModuleWithin m = holds-standing (within .modules .modules) (stands number ms found) in
+      let own = found-within number m within found in
       record {
         modules = record { count = omega arith; modules = more flat-within none };
         bytes = omega (arith, bytes-of-flat, own .outputs .count);
