@@ -10,5 +10,7 @@ pub mod Shape
 pub mod Bytes
 pub mod Accepted
 pub mod Within
+pub mod Same
 pub mod Again
+pub mod Answered
 pub mod Rows

@@ -35,6 +35,7 @@ pub mod Pairlist
 pub mod Heval
 pub mod WrongEvaluators
 pub mod EvaluationRows
+pub mod Calls
 pub mod Adder
 pub mod Flatten
 pub mod Figures

@@ -5,12 +5,11 @@ use mathlib.Core.Path.{_≡_}
 use mathlib.Core.List.{List, [], _∷_, map}
 use native.Mathlib.Nat.{le-trans, mul-le-mul-left}
 use native.Mathlib.Omega.{arith}
-use lib.ListN.{length}
 use Rattle.meaning.specs.Lists.{All, none, more}
 use Rattle.meaning.specs.Syntax.{Module}
 use Rattle.meaning.specs.Boxlist.{box, assoc}
 use Rattle.meaning.specs.Limits.{mostModuleNets, mostSize}
-use Rattle.meaning.specs.Reading.{mostModules, mostNets}
+use Rattle.meaning.specs.Reading.{mostModules}
 use Rattle.meaning.specs.Ceilings.{ModuleWithin, Within}
 use Rattle.meaning.specs.Figures.{tally, kindCount, room, delayBy, delay, inputLoads, largestLoad}
 use Rattle.meaning.specs.Adder.{upFrom}

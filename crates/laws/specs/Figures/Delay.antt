@@ -1,13 +1,13 @@
 -- Delay is never above the gate count: an output arrives after the latest input by at most the delays of all gates reached. And where
 -- no gate is faster, nothing arrives earlier. Nothing is asked of the list.
-use Prim.Native.Nat.{ℕ, zero, suc, _+_, _*_, _≤_, max}
+use Prim.Native.Nat.{ℕ, zero, suc, _+_, _*_, _≤_}
 use mathlib.Core.Path.{_≡_, refl}
 use mathlib.Core.Bool.{Bool, true, false, cond}
 use mathlib.Core.List.{List, [], _∷_, _++_, append-nil, Forall₂, Forall₂·nil as none, Forall₂·cons as more}
 use native.Mathlib.Nat.{le-refl}
 use native.Mathlib.Omega.{arith}
 use lib.Dec.{eqb}
-use lib.ListN.{length, replicate}
+use lib.ListN.{replicate}
 use Rattle.meaning.specs.Syntax.{Occurrence, Module}
 use Rattle.meaning.specs.Gates.{isGate}
 use Rattle.meaning.specs.Boxlist.{assoc}

@@ -1,21 +1,21 @@
 -- Largest load is at most the number of argument places of the gates reached, so at most four times the gate count: each unit of a
 -- net's load is the place of an argument at a gate, and no place counts for two nets of one module.
 use Prim.Native.Nat.{ℕ, zero, suc, _+_, _*_, _≤_, max}
-use mathlib.Core.Path.{_≡_, refl, sym, ap}
+use mathlib.Core.Path.{_≡_, refl, sym}
 use mathlib.Core.Bool.{Bool, true, false, cond}
 use mathlib.Core.List.{List, [], _∷_, _++_, map}
 use native.Mathlib.Omega.{arith}
 use lib.Dec.{eqb}
 use lib.ListN.{length, replicate}
-use borrow.Author.Tests.{eqb-true, eqb-false, ne-eqb}
+use borrow.Author.Tests.{eqb-true, ne-eqb}
 use Rattle.meaning.specs.Syntax.{Occurrence, Module}
 use Rattle.meaning.specs.Gates.{isGate, gate}
 use Rattle.meaning.specs.Members.{_∈_, Twice, again, further}
 use Rattle.meaning.specs.Limits.{driven}
 use Rattle.meaning.specs.Figures.{largest, bodyWeight, gateWeight, gateCount, largestReferred, placesLoad, netLoad, inputLoads, largestLoad}
-use Rattle.laws.specs.WellFormed.{Reference, toGate, toModule, Body, done, step, ModuleOk, Accepted, none, some}
+use Rattle.laws.specs.WellFormed.{Reference, toGate, toModule, Body, done, step, Accepted, none, some}
 use Rattle.laws.specs.Tests.{if-false}
-use Rattle.laws.specs.Members.{here, there, in-none, same-in, twice-one, duplicates-tells}
+use Rattle.laws.specs.Members.{here, there, same-in, twice-one, duplicates-tells}
 use Rattle.laws.specs.Arity.{arity-within}
 use Rattle.laws.specs.Figures.Weights.{weight-within}
 use Rattle.laws.specs.Figures.Tally.{total, total-both, total-none}

@@ -1,16 +1,15 @@
 -- The sum of the tally is the gate count.
 use Prim.Native.Nat.{ℕ, zero, suc, _+_, _≤_, _<_}
-use mathlib.Core.Path.{_≡_, refl, ap, _∙_}
+use mathlib.Core.Path.{_≡_, refl}
 use mathlib.Core.Bool.{Bool, true, false, cond}
 use mathlib.Core.List.{List, [], _∷_, map}
 use native.Mathlib.Omega.{arith}
 use lib.Dec.{eqb}
 use borrow.Author.Tests.{ltb-true, eqb-true, eqb-false, ne-eqb}
 use Rattle.meaning.specs.Syntax.{Module}
-use Rattle.meaning.specs.Gates.{isGate}
-use Rattle.meaning.specs.Figures.{gateWeight, gateCount, kindCount, tally}
+use Rattle.meaning.specs.Figures.{gateCount, kindCount, tally}
 use Rattle.meaning.specs.Adder.{upFrom}
-use Rattle.laws.specs.Figures.Weights.{Adds, weights-together}
+use Rattle.laws.specs.Figures.Weights.{weights-together}
 
 unfoldable pub total : List ℕ → ℕ
 total [] = 0

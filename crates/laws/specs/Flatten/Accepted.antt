@@ -1,30 +1,29 @@
 -- The check accepts every flattened file: where inputs and gates are at most 4,096, the verdict on the file that holds the flattened
 -- module of a module of an accepted file is good.
 use Prim.Native.Nat.{ℕ, suc, _+_, _≤_, _<_}
-use mathlib.Core.Path.{_≡_, refl, sym, ap, subst, _∙_}
-use mathlib.Core.Bool.{Bool, true, false}
+use mathlib.Core.Path.{_≡_, refl}
 use mathlib.Core.Logic.{_⊎_, inl, inr}
-use mathlib.Core.List.{List, [], _∷_, _++_}
-use native.Mathlib.Nat.{eq-or-lt-of-le, zero-add}
+use mathlib.Core.List.{List, [], _∷_}
+use native.Mathlib.Nat.{eq-or-lt-of-le}
 use native.Mathlib.Omega.{arith}
 use lib.ListN.{length}
-use borrow.Author.Tests.{eq-eqb}
 use Rattle.meaning.specs.Syntax.{Occurrence, Module}
-use Rattle.meaning.specs.Gates.{isGate, gate}
-use Rattle.meaning.specs.Members.{_∈_, Twice, again, further, Common, Lacking}
-use Rattle.meaning.specs.Boxlist.{duplicates, disjoint, subset, box, F, assoc}
-use Rattle.meaning.specs.Limits.{driven, netCount, bodySize, expandedSize, mostModuleNets}
+use Rattle.meaning.specs.Members.{_∈_}
+use Rattle.meaning.specs.Boxlist.{box, assoc}
+use Rattle.meaning.specs.Limits.{driven, netCount, expandedSize, mostModuleNets}
 use Rattle.meaning.specs.Verdict.{good, fileVerdict}
-use Rattle.meaning.specs.Figures.{bodyWeight, gateWeight, gateCount}
-use Rattle.meaning.specs.Flattening.{Board, place, flatModule}
+use Rattle.meaning.specs.Figures.{gateCount}
+use Rattle.meaning.specs.Flattening.{flatModule}
 use Rattle.meaning.specs.Adder.{upFrom}
-use Rattle.laws.specs.WellFormed.{Reference, toGate, OccurrenceOk, Body, done, step, ModuleOk, Accepted, none, some}
+use Rattle.laws.specs.WellFormed.{toGate, OccurrenceOk, Body, done, step, ModuleOk, none, some}
 use Rattle.laws.specs.Tests.{is-true, is-false}
-use Rattle.laws.specs.Members.{here, there, in-none, same-in, in-left, in-right, in-either}
+use Rattle.laws.specs.Members.{here, there, in-none}
 use Rattle.laws.specs.Members.{twice-one, duplicates-tells, disjoint-tells, subset-tells}
 use Rattle.laws.specs.Accepted.{good-accepted, accepted-good}
-use Rattle.laws.specs.Standing.{Stands, stands, number-of, keeps-rules}
-use Rattle.laws.specs.Flatten.Numbered.{Between, length-of-run, of-run, below-run, in-run, run-once}
+use Rattle.laws.specs.Standing.{stands, number-of, keeps-rules}
+use Rattle.laws.specs.Adder.Nets.{length-upFrom}
+use Rattle.laws.specs.Adder.Distinct.{duplicates-of-run}
+use Rattle.laws.specs.Flatten.Numbered.{of-run, below-run, in-run}
 use Rattle.laws.specs.Flatten.Wired.{GateAt, Wired, done as no-more, more, driven-of-wired, size-of-wired}
 use Rattle.laws.specs.Flatten.Shape.{Flat, flat-shape, length-of-flat}
 
@@ -69,13 +68,13 @@ flat-ok : {inputs : ℕ} {f : Module} → Flat inputs f → 16 ≤ f .number →
 unfolding assoc netCount
 flat-ok {inputs} {f} flat above few =
     let drives = driven-of-wired (flat .wired) in
-    let run = length-of-run 0 inputs in
-    let run′ = length-of-run inputs (length (f .occurrences)) in
+    let run = length-upFrom 0 inputs in
+    let run′ = length-upFrom inputs (length (f .occurrences)) in
     let size = size-of-wired (expandedSize []) (flat .wired) in
     record {
       above = above;
       unique = refl;
-      inputsDistinct = is-false (duplicates-tells (f .inputs)) (rw (flat .inputs-are) (run-once 0 inputs));
+      inputsDistinct = rw (flat .inputs-are) (duplicates-of-run 0 inputs);
       outputsDistinct = is-false (duplicates-tells (f .outputs)) (flat .outputs-once);
       apart =
           is-true (disjoint-tells (f .inputs) (f .outputs))
@@ -88,7 +87,7 @@ flat-ok {inputs} {f} flat above few =
       body = body-of-wired (rw (flat .inputs-are) inputs-below) (flat .wired);
       outputsDriven =
           is-true (subset-tells (f .outputs) (driven (f .occurrences)))
-          (λ l. l .missing (rw drives (in-run inputs _ (flat .outputs-driven (l .net) (l .listed)))));
+          (λ l. l .missing (rw drives (in-run inputs _ (l .net) (flat .outputs-driven (l .net) (l .listed)))));
       nets = rw (flat .inputs-are, drives, run, run′) few;
       size = omega arith;
     }
@@ -97,7 +96,7 @@ flat-ok {inputs} {f} flat above few =
     inputs-below =
         record {
           are = below-run inputs;
-          all = λ x l. in-run 0 inputs (omega arith);
+          all = λ x l. in-run 0 inputs x (omega arith);
         }
 
 pub flat-accepted :

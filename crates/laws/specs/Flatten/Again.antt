@@ -1,6 +1,6 @@
 -- Flattening a flattened file gives it back: in a module of that shape every net stands for itself.
-use Prim.Native.Nat.{ℕ, suc, _+_, _<_}
-use mathlib.Core.Path.{_≡_, refl, sym, ap, ap₂, _∙_}
+use Prim.Native.Nat.{ℕ, suc, _<_}
+use mathlib.Core.Path.{_≡_, refl, sym, ap₂, _∙_}
 use mathlib.Core.Bool.{Bool, true, false, cond}
 use mathlib.Core.Logic.{_⊎_, inl, inr}
 use mathlib.Core.List.{List, [], _∷_, _++_, append-nil, append-assoc}
@@ -14,11 +14,11 @@ use Rattle.meaning.specs.Members.{_∈_}
 use Rattle.meaning.specs.Boxlist.{box, assoc}
 use Rattle.meaning.specs.Verdict.{good, fileVerdict}
 use Rattle.meaning.specs.Evaluation.{Env, look, lookAll, pairs}
-use Rattle.meaning.specs.Flattening.{Placing, Placed, placeReferred, Walked, placeBody, placeModule, place, flatModule}
+use Rattle.meaning.specs.Flattening.{Placing, placeReferred, Walked, placeBody, placeModule, place, flatModule}
 use Rattle.meaning.specs.Adder.{upFrom}
 use Rattle.laws.specs.Members.{here, there, in-none}
-use Rattle.laws.specs.Flatten.Numbered.{Between, in-run}
-use Rattle.laws.specs.Flatten.Environments.{look-here, look-past}
+use Rattle.laws.specs.Adder.Nets.{look-here, look-past}
+use Rattle.laws.specs.Flatten.Numbered.{in-run}
 use Rattle.laws.specs.Flatten.Wired.{GateAt, Wired, done, more}
 use Rattle.laws.specs.Flatten.Shape.{Flat, flat-shape}
 
@@ -52,7 +52,7 @@ pairs-mirror (net ∷ nets) x i = go (eqb x net) refl i (pairs-mirror nets x)
 
 inputs-mirror : (inputs : ℕ) → Mirrors inputs (pairs 0 (upFrom 0 inputs) (upFrom 0 inputs))
 inputs-mirror inputs =
-    record { same = λ x l. pairs-mirror (upFrom 0 inputs) x (in-run 0 inputs (omega arith)) }
+    record { same = λ x l. pairs-mirror (upFrom 0 inputs) x (in-run 0 inputs x (omega arith)) }
 
 -- A gate on nets that stand for themselves is set down as it is.
 gate-again :

@@ -1,33 +1,23 @@
 -- How many bytes a flattened file has: at most 13 for each gate, two for each input and output, and nine more.
-use Prim.Native.Nat.{ℕ, suc, _+_, _*_, _≤_, _<_}
-use mathlib.Core.Path.{_≡_, refl, ap, _∙_}
+use Prim.Native.Nat.{ℕ, _+_, _*_, _≤_}
+use mathlib.Core.Path.{_≡_, ap, _∙_}
 use mathlib.Core.List.{List, [], _∷_, _++_, append-nil}
-use native.Mathlib.Decide.{decLt}
 use native.Mathlib.Omega.{arith}
 use lib.ListN.{length, length-append}
 use borrow.Author.Tests.{ltb-true}
 use Rattle.meaning.specs.Syntax.{Occurrence, Module}
 use Rattle.meaning.specs.Layout.{each, numberBytes, encode}
 use Rattle.laws.specs.Arity.{arity-within}
-use Rattle.laws.specs.Written.{bytes-of-low, bytes-of-high, netsBytes, occurrenceBytes, moduleBytes}
+use Rattle.laws.specs.Written.{netsBytes, occurrenceBytes, moduleBytes}
 use Rattle.laws.specs.Written.{bytes-of-nets, bytes-of-occurrence, bytes-of-module, bytes-of-file}
+use Rattle.laws.specs.Adder.Bytes.{most-count, low-count}
 use Rattle.laws.specs.Flatten.Wired.{GateAt, Wired, done, more}
-
-low-length : (n : ℕ) → n < 128 → length (numberBytes n) ≡ 1
-low-length n low = ap length (bytes-of-low n low)
-
-number-length : (n : ℕ) → length (numberBytes n) ≤ 2
-number-length n = go (decLt n 128)
-  where
-    go : Dec (n < 128) → length (numberBytes n) ≤ 2
-    go (yes low) = omega (arith, low-length n low)
-    go (no high) = omega (arith, ap length (bytes-of-high n (omega arith)))
 
 numbers-length : (ns : List ℕ) → length (each numberBytes ns) ≤ 2 * length ns
 unfolding each
 numbers-length [] = omega arith
 numbers-length (n ∷ ns) =
-    omega (arith, length-append (numberBytes n) (each numberBytes ns), number-length n, numbers-length ns)
+    omega (arith, length-append (numberBytes n) (each numberBytes ns), most-count n, numbers-length ns)
 
 nets-length : (nets : List ℕ) → length (netsBytes nets) ≤ length (numberBytes (length nets)) + 2 * length nets
 nets-length nets =
@@ -42,10 +32,10 @@ gate-length {net} {o} g =
     (omega (
       arith,
       nets-length (o .drives),
-      low-length (length (o .drives)) (omega arith),
-      low-length (o .refers) (omega arith),
+      low-count (length (o .drives)) (omega arith),
+      low-count (o .refers) (omega arith),
       nets-length (o .takes),
-      low-length (length (o .takes)) (omega (arith, g .arity)),
+      low-count (length (o .takes)) (omega (arith, g .arity)),
     ))
 
 gates-length : {n k : ℕ} {os : List Occurrence} → Wired n os k → length (each occurrenceBytes os) ≤ 13 * length os
@@ -67,12 +57,12 @@ bytes-of-wired f w =
     (simp length-append
     (omega (
       arith,
-      low-length 1 (omega arith),
-      number-length (f .number),
+      low-count 1 (omega arith),
+      most-count (f .number),
       nets-length (f .inputs),
-      number-length (length (f .inputs)),
+      most-count (length (f .inputs)),
       nets-length (f .outputs),
-      number-length (length (f .outputs)),
-      number-length (length (f .occurrences)),
+      most-count (length (f .outputs)),
+      most-count (length (f .occurrences)),
       gates-length w,
     )))

@@ -1,50 +1,75 @@
--- What a net reads as after nets were given values in order.
+-- Nets given to as many others: each of those reads as one of them, no two as the same where none is listed twice, and any other net
+-- reads as before.
 use Prim.Native.Nat.{ℕ}
-use mathlib.Core.Path.{_≡_, refl, sym, ap₂, _∙_}
+use mathlib.Core.Path.{_≡_, refl, sym, _∙_}
 use mathlib.Core.Bool.{Bool, true, false, cond}
 use mathlib.Core.List.{List, [], _∷_, _++_}
 use native.Mathlib.Omega.{arith}
 use lib.Dec.{eqb}
 use lib.ListN.{length}
-use borrow.Author.Tests.{eqb-true, eqb-false, eq-eqb, ne-eqb}
+use borrow.Author.Tests.{eqb-true, eqb-false, ne-eqb}
 use Rattle.meaning.specs.Members.{_∈_, Twice, again, further}
-use Rattle.meaning.specs.Evaluation.{Binding, Env, look, lookAll, pairs}
+use Rattle.meaning.specs.Evaluation.{Env, look, pairs}
 use Rattle.laws.specs.Members.{here, there, in-none, same-in}
 
-module _ {A : Type 0} (unset : A) where
-  -- A net that a binding gives is read there, any other behind it.
-  pub look-here : (net : ℕ) (v : A) (env : Env A) → look unset net (record { net = net; value = v } ∷ env) ≡ v
-  unfolding look
-  look-here net v env = rw (eq-eqb net net refl)
+-- A member that is not the first stands further on.
+past : {x d : ℕ} {ds : List ℕ} → eqb x d ≡ false → x ∈ (d ∷ ds) → x ∈ ds
+past {x} {d} e (here same) = absurd (eqb-false x d e same)
+past e (there i) = i
 
-  pub look-past :
-      (net other : ℕ) (v : A) (env : Env A)
-      → ¬ (net ≡ other)
-      → look unset net (record { net = other; value = v } ∷ env) ≡ look unset net env
-  unfolding look
-  look-past net other v env h = rw (ne-eqb net other h)
+module _ (env : Env ℕ) where
+  pub look-given :
+      (drives nets : List ℕ)
+      → length drives ≡ length nets
+      → (x : ℕ)
+      → x ∈ drives
+      → look 0 x (pairs 0 drives nets ++ env) ∈ nets
+  unfolding look pairs
+  look-given [] nets count x i = absurd (in-none i)
+  look-given (d ∷ ds) [] count x i = absurd (omega arith)
+  look-given (d ∷ ds) (n ∷ ns) count x i = go (eqb x d) refl (look-given ds ns (omega arith) x)
+    where
+      go :
+          (b : Bool)
+          → eqb x d ≡ b
+          → (x ∈ ds → look 0 x (pairs 0 ds ns ++ env) ∈ ns)
+          → cond b n (look 0 x (pairs 0 ds ns ++ env)) ∈ (n ∷ ns)
+      go true e rest = here refl
+      go false e rest = there (rest (past e i))
 
-  -- A net that none of these values was given to does not see them.
-  lookAll-past :
-      (x : ℕ) (v : A) (nets : List ℕ) (env : Env A)
-      → ¬ (x ∈ nets)
-      → lookAll unset nets (record { net = x; value = v } ∷ env) ≡ lookAll unset nets env
-  unfolding lookAll
-  lookAll-past x v [] env out = refl
-  lookAll-past x v (net ∷ nets) env out =
-      ap₂ {C = List A} _∷_ (look-past net x v env (λ e. out (here (sym e)))) (lookAll-past x v nets env (λ i. out (there i)))
-
-  -- Nets given as many values, none of them twice, read as those values.
-  pub lookAll-of-pairs :
-      (nets : List ℕ) (vs : List A)
+  pub look-apart :
+      (drives nets : List ℕ)
+      → length drives ≡ length nets
       → ¬ (Twice nets)
-      → length vs ≡ length nets
-      → lookAll unset nets (pairs unset nets vs) ≡ vs
-  unfolding lookAll pairs
-  lookAll-of-pairs [] [] once count = refl
-  lookAll-of-pairs [] (v ∷ vs) once count = absurd (omega arith)
-  lookAll-of-pairs (net ∷ nets) [] once count = absurd (omega arith)
-  lookAll-of-pairs (net ∷ nets) (v ∷ vs) once count =
-      ap₂ {C = List A} _∷_ (look-here net v (pairs unset nets vs))
-      (lookAll-past net v nets (pairs unset nets vs) (λ i. once (again i))
-      ∙ lookAll-of-pairs nets vs (λ t. once (further t)) (omega arith))
+      → (x y : ℕ)
+      → x ∈ drives
+      → y ∈ drives
+      → look 0 x (pairs 0 drives nets ++ env) ≡ look 0 y (pairs 0 drives nets ++ env)
+      → x ≡ y
+  unfolding look pairs
+  look-apart [] nets count once x y i j e = absurd (in-none i)
+  look-apart (d ∷ ds) [] count once x y i j e = absurd (omega arith)
+  look-apart (d ∷ ds) (n ∷ ns) count once x y i j e =
+      go (eqb x d) refl (eqb y d) refl e (look-apart ds ns (omega arith) (λ t. once (further t)) x y)
+    where
+      given : (z : ℕ) → eqb z d ≡ false → z ∈ (d ∷ ds) → look 0 z (pairs 0 ds ns ++ env) ∈ ns
+      given z e k = look-given ds ns (omega arith) z (past e k)
+
+      go :
+          (a : Bool)
+          → eqb x d ≡ a
+          → (b : Bool)
+          → eqb y d ≡ b
+          → cond a n (look 0 x (pairs 0 ds ns ++ env)) ≡ cond b n (look 0 y (pairs 0 ds ns ++ env))
+          → (x ∈ ds → y ∈ ds → look 0 x (pairs 0 ds ns ++ env) ≡ look 0 y (pairs 0 ds ns ++ env) → x ≡ y)
+          → x ≡ y
+      go true ex true ey e rest = eqb-true x d ex ∙ sym (eqb-true y d ey)
+      go true ex false ey e rest = absurd (once (again (same-in e (given y ey j))))
+      go false ex true ey e rest = absurd (once (again (same-in (sym e) (given x ex i))))
+      go false ex false ey e rest = rest (past ex i) (past ey j) e
+
+  pub look-other : (drives nets : List ℕ) (x : ℕ) → ¬ (x ∈ drives) → look 0 x (pairs 0 drives nets ++ env) ≡ look 0 x env
+  unfolding look pairs
+  look-other [] nets x out = refl
+  look-other (d ∷ ds) [] x out = rw (ne-eqb x d (λ e. out (here e))) (look-other ds [] x (λ i. out (there i)))
+  look-other (d ∷ ds) (n ∷ ns) x out = rw (ne-eqb x d (λ e. out (here e))) (look-other ds ns x (λ i. out (there i)))

@@ -1,22 +1,22 @@
 -- The shape of a flattened module: inputs 0, 1, 2 and so on, gates that each drive the next number, and outputs that are driven nets,
 -- all different. The module that flattening gives has it, with as many gates as the module reaches and as many outputs as it has.
-use Prim.Native.Nat.{ℕ, _+_, _<_}
-use mathlib.Core.Path.{_≡_, refl, sym, subst, _∙_}
+use Prim.Native.Nat.{ℕ, _+_}
+use mathlib.Core.Path.{_≡_, refl, sym, _∙_}
 use mathlib.Core.List.{List, [], _∷_}
-use native.Mathlib.Omega.{arith}
 use lib.ListN.{length}
 use borrow.Author.Tests.{eq-eqb}
 use Rattle.meaning.specs.Syntax.{Module}
 use Rattle.meaning.specs.Members.{_∈_, Twice}
 use Rattle.meaning.specs.Boxlist.{box, assoc}
-use Rattle.meaning.specs.Limits.{bodySize, expandedSize}
-use Rattle.meaning.specs.Figures.{bodyWeight, gateWeight, gateCount}
+use Rattle.meaning.specs.Limits.{expandedSize}
+use Rattle.meaning.specs.Figures.{gateWeight, gateCount}
 use Rattle.meaning.specs.Verdict.{good, fileVerdict}
-use Rattle.meaning.specs.Flattening.{Board, Placed, place, flatModule}
+use Rattle.meaning.specs.Flattening.{Board, flatModule}
 use Rattle.meaning.specs.Adder.{upFrom}
 use Rattle.laws.specs.Accepted.{good-accepted}
 use Rattle.laws.specs.Standing.{stands}
-use Rattle.laws.specs.Flatten.Numbered.{Between, length-of-run, below-run}
+use Rattle.laws.specs.Adder.Nets.{length-upFrom}
+use Rattle.laws.specs.Flatten.Numbered.{Between, below-run}
 use Rattle.laws.specs.Flatten.Wired.{Wired, done, place-builds, next-of-wired, size-of-wired, count-of-wired}
 use Rattle.laws.specs.Flatten.Distinct.{place-new}
 use Rattle.laws.specs.Flatten.Counts.{gateCount-of-flat}
@@ -35,7 +35,7 @@ module _ (ms : List Module) (number : ℕ) (m : Module) (accepted : fileVerdict 
       let board : Board = record { next = inputs; gates = [] } in
       let ok = good-accepted ms accepted in
       let at = stands number ms found in
-      let built = place-builds inputs board ok at (length-of-run 0 inputs) (below-run inputs) done in
+      let built = place-builds inputs board ok at (length-upFrom 0 inputs) (below-run inputs) done in
       let new = place-new ok .new number at (upFrom 0 inputs) board in
       let next = next-of-wired (built .wired) in
       record {

@@ -1,30 +1,30 @@
 -- The flattened module gives what the module gives, for any interpreter whose gates each give one value: on three values, unknown
 -- ones too, and on arrivals. A net of the board stands for the value that it reads as once the gates so far have run; the nets below
 -- the next number read the same ever after.
-use Prim.Native.Nat.{ℕ, suc, _+_, _<_}
-use mathlib.Core.Path.{_≡_, refl, sym, ap, ap₂, _∙_}
-use mathlib.Core.Bool.{Bool, true, false}
+use Prim.Native.Nat.{ℕ, _+_, _<_}
+use mathlib.Core.Path.{_≡_, refl, ap, ap₂, _∙_}
+use mathlib.Core.Bool.{true, false}
 use mathlib.Core.List.{List, [], _∷_, _++_, Forall₂, Forall₂·nil as none, Forall₂·cons as more}
 use lib.ListN.{length, replicate, length-replicate}
+use lib.Seq.{take-all}
 use native.Mathlib.Omega.{arith}
 use borrow.Author.Tests.{eq-eqb}
 use Rattle.meaning.specs.Syntax.{Occurrence, Module}
 use Rattle.meaning.specs.Values.{Val, known}
-use Rattle.meaning.specs.Gates.{isGate, gate, gateValue}
+use Rattle.meaning.specs.Gates.{isGate, gateValue}
 use Rattle.meaning.specs.Members.{_∈_}
 use Rattle.meaning.specs.Boxlist.{box, assoc}
 use Rattle.meaning.specs.Verdict.{good, fileVerdict}
 use Rattle.meaning.specs.Evaluation.{Env, look, lookAll, pairs, Meaning, walk, runModule, run, evaluate}
-use Rattle.meaning.specs.Figures.{arrivals, largest, inputCount, delayBy}
-use Rattle.meaning.specs.Flattening.{Board, placeGate, place, flatModule}
+use Rattle.meaning.specs.Figures.{arrivals, largest, delayBy}
+use Rattle.meaning.specs.Flattening.{Board, placeGate, flatModule}
 use Rattle.meaning.specs.Adder.{upFrom}
-use Rattle.laws.specs.WellFormed.{Accepted}
 use Rattle.laws.specs.Accepted.{good-accepted}
 use Rattle.laws.specs.Members.{here, there}
 use Rattle.laws.specs.Standing.{stands}
-use Rattle.laws.specs.Flatten.Numbered.{length-of-run, below-run, run-once}
-use Rattle.laws.specs.Flatten.Environments.{look-here, look-past, lookAll-of-pairs}
-use Rattle.laws.specs.Flatten.Walk.{single, Kept, Shows, Gates, place-shows}
+use Rattle.laws.specs.Adder.Nets.{length-upFrom, look-here, look-past, lookAll-pairs}
+use Rattle.laws.specs.Flatten.Numbered.{below-run}
+use Rattle.laws.specs.Flatten.Walk.{single, Gates, place-shows}
 
 -- Occurrences one after the other.
 walk-append :
@@ -113,7 +113,7 @@ unfolding after walk
 inputs-read unset value later inputs vs count =
     let nets : List ℕ = upFrom 0 inputs in
     let read : lookAll unset nets (pairs unset nets vs) ≡ vs
-    = lookAll-of-pairs unset nets vs (run-once 0 inputs) (count ∙ sym (length-of-run 0 inputs)) in
+    = lookAll-pairs unset 0 0 inputs inputs vs (omega arith) (omega arith) ∙ take-all inputs vs (omega arith) in
     rw read at
     (all-read unset value later (pairs unset nets vs) (unset-board inputs) nets (below-run inputs))
 
@@ -131,7 +131,7 @@ module _ (ms : List Module) (number : ℕ) (m : Module) (accepted : fileVerdict 
       let start = pairs unset (upFrom 0 inputs) vs in
       let shown =
       place-shows unset value _ _ (gates-read unset value later start) (good-accepted ms accepted) .shows number
-      (stands number ms found) (unset-board inputs) (length-of-run 0 inputs) (inputs-read unset value later inputs vs count) in
+      (stands number ms found) (unset-board inputs) (length-upFrom 0 inputs) (inputs-read unset value later inputs vs count) in
       rw (eq-eqb number number refl) (reads-all unset value later start (shown .outputs))
 
   -- Its three-valued outputs are the module's, on every list of input values, unknown ones too.
@@ -156,5 +156,5 @@ module _ (ms : List Module) (number : ℕ) (m : Module) (accepted : fileVerdict 
   unfolding delayBy assoc flatModule
   delay-of-flat delay =
       let inputs = length (m .inputs) in
-      rw (eq-eqb number number refl, length-of-run 0 inputs, found)
+      rw (eq-eqb number number refl, length-upFrom 0 inputs, found)
       (ap largest (arrivals-of-flat delay (replicate inputs 0) (length-replicate inputs 0)))

@@ -13,7 +13,6 @@ use borrow.Author.Tests.{eqb-false}
 use Rattle.meaning.specs.Syntax.{Occurrence, Module}
 use Rattle.meaning.specs.Gates.{isGate, gate}
 use Rattle.meaning.specs.Members.{_∈_}
-use Rattle.meaning.specs.Boxlist.{box, assoc}
 use Rattle.meaning.specs.Limits.{driven}
 use Rattle.meaning.specs.Evaluation.{Env, look, lookAll, pairs, Meaning, apply, walk, runModule, run}
 use Rattle.meaning.specs.Flattening.{Board, Placed, placeGate, placeReferred, Walked, placeBody, placeModule, place}

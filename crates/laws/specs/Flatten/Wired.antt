@@ -1,24 +1,22 @@
 -- What the gates of a flattened module look like: each drives the next number, on nets below it, as many as its kind takes. Placing a
 -- module of an accepted list on such a board gives such a board.
-use Prim.Native.Nat.{ℕ, suc, _+_, _≤_, _<_}
-use mathlib.Core.Path.{_≡_, refl, sym, ap, ap₂, _∙_}
-use mathlib.Core.Bool.{Bool, true, false}
+use Prim.Native.Nat.{ℕ, suc, _+_, _<_}
+use mathlib.Core.Path.{_≡_, refl}
+use mathlib.Core.Bool.{true}
 use mathlib.Core.List.{List, [], _∷_, _++_, map, Forall₂, Forall₂·nil, Forall₂·cons}
 use native.Mathlib.Omega.{arith}
 use lib.ListN.{length}
 use Rattle.meaning.specs.Syntax.{Occurrence, Module}
 use Rattle.meaning.specs.Gates.{isGate, gate}
 use Rattle.meaning.specs.Members.{_∈_}
-use Rattle.meaning.specs.Boxlist.{box, assoc}
 use Rattle.meaning.specs.Limits.{driven, bodySize}
 use Rattle.meaning.specs.Figures.{bodyWeight}
-use Rattle.meaning.specs.Flattening.{Board, Placed, placeGate, place}
+use Rattle.meaning.specs.Flattening.{Board, Placed, place}
 use Rattle.meaning.specs.Adder.{upFrom}
 use Rattle.laws.specs.WellFormed.{Accepted}
 use Rattle.laws.specs.Members.{here, there, in-none}
 use Rattle.laws.specs.Standing.{Stands}
-use Rattle.laws.specs.Flatten.Numbered.{length-of-run, of-run}
-use Rattle.laws.specs.Flatten.Walk.{single, Kept, Shows, Gates, place-shows}
+use Rattle.laws.specs.Flatten.Walk.{Gates, place-shows}
 
 -- A gate that drives this net.
 pub record GateAt (net : ℕ) (o : Occurrence) : Type 0 where

@@ -1,5 +1,5 @@
 -- A flattened file is within the ceilings, so that what is written of it reads back and is accepted.
-use Prim.Native.Nat.{ℕ, suc, _+_, _*_, _≤_, _<_}
+use Prim.Native.Nat.{ℕ, _+_, _*_, _≤_, _<_}
 use mathlib.Core.Path.{_≡_, refl, ap, _∙_}
 use mathlib.Core.List.{List, [], _∷_}
 use native.Mathlib.Omega.{arith}
@@ -12,7 +12,7 @@ use Rattle.meaning.specs.Boxlist.{box, assoc}
 use Rattle.meaning.specs.Limits.{mostModuleNets}
 use Rattle.meaning.specs.Layout.{encode}
 use Rattle.meaning.specs.Reading.{mostNets, holds, read}
-use Rattle.meaning.specs.Ceilings.{Small, mostNumber, NetsWithin, OccurrenceWithin, ModuleWithin, ModulesWithin, Within}
+use Rattle.meaning.specs.Ceilings.{Small, NetsWithin, OccurrenceWithin, ModuleWithin, Within}
 use Rattle.meaning.specs.Verdict.{good, fileVerdict, verdictOf, verdict}
 use Rattle.meaning.specs.Figures.{gateCount}
 use Rattle.meaning.specs.Flattening.{flatModule}
@@ -22,9 +22,10 @@ use Rattle.laws.specs.Arity.{arity-within}
 use Rattle.laws.specs.RoundTrip.{round-trip}
 use Rattle.laws.specs.Standing.{stands, number-of}
 use Rattle.laws.specs.Figures.Bounds.{found-within}
-use Rattle.laws.specs.Flatten.Numbered.{length-of-run, below-run}
+use Rattle.laws.specs.Adder.Nets.{length-upFrom}
+use Rattle.laws.specs.Flatten.Numbered.{below-run}
 use Rattle.laws.specs.Flatten.Wired.{GateAt, Wired, done, more as then, next-of-wired}
-use Rattle.laws.specs.Flatten.Shape.{Flat, flat-shape, outputCount-of-flat, length-of-flat}
+use Rattle.laws.specs.Flatten.Shape.{flat-shape, outputCount-of-flat, length-of-flat}
 use Rattle.laws.specs.Flatten.Bytes.{bytes-of-wired}
 use Rattle.laws.specs.Flatten.Accepted.{flat-accepted}
 
@@ -61,7 +62,7 @@ module _ (ms : List Module) (number : ℕ) (m : Module) (accepted : fileVerdict 
       omega (
         arith,
         bytes-of-wired flat (flat-shape ms number m accepted found .wired),
-        length-of-run 0 (length (m .inputs)),
+        length-upFrom 0 (length (m .inputs)),
         outputCount-of-flat ms number m accepted found,
         length-of-flat ms number m accepted found,
       )
@@ -78,7 +79,7 @@ module _ (ms : List Module) (number : ℕ) (m : Module) (accepted : fileVerdict 
       record {
         number = omega (arith, own .number);
         inputs =
-            nets-within inputs (upFrom 0 inputs) (omega arith) (omega (arith, own .inputs .count, length-of-run 0 inputs))
+            nets-within inputs (upFrom 0 inputs) (omega arith) (omega (arith, own .inputs .count, length-upFrom 0 inputs))
             (below-run inputs);
         outputs =
             nets-within (inputs + gateCount ms number) (flat .outputs) few (omega (arith, own .outputs .count))
