@@ -1,6 +1,7 @@
 -- Flattening (document 01, 'Flattening'): the flattened module of a module of an accepted file is the same module.
 pub mod Numbered
 pub mod Environments
+pub mod Matching
 pub mod Walk
 pub mod Values
 pub mod Counts

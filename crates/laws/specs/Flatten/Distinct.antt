@@ -20,7 +20,7 @@ use Rattle.laws.specs.Standing.{Stands, here as first, there as after, s
 use Rattle.laws.specs.OutputCount.{length-of-lookAll}
 use Rattle.laws.specs.Flatten.Numbered.{Between}
 use Rattle.laws.specs.Flatten.Environments.{look-given, look-apart, look-other}
-use Rattle.laws.specs.Flatten.Walk.{in-front}
+use Rattle.laws.specs.Flatten.Matching.{in-front}
 
 -- What was placed from a board on: its nets are new, and none is listed twice.
 pub record New (a : Board) (p : Placed) (count : ℕ) : Type 0 where

@@ -17,7 +17,7 @@ use Rattle.laws.specs.Accepted.{good-accepted}
 use Rattle.laws.specs.Standing.{stands}
 use Rattle.laws.specs.Adder.Nets.{length-upFrom}
 use Rattle.laws.specs.Flatten.Numbered.{Between, below-run}
-use Rattle.laws.specs.Flatten.Wired.{Wired, done, place-builds, next-of-wired, size-of-wired, count-of-wired}
+use Rattle.laws.specs.Flatten.Wired.{Wired, done, place-wired, next-of-wired, size-of-wired, count-of-wired}
 use Rattle.laws.specs.Flatten.Distinct.{place-new}
 use Rattle.laws.specs.Flatten.Counts.{gateCount-of-flat}
 
@@ -35,12 +35,12 @@ module _ (ms : List Module) (number : ℕ) (m : Module) (accepted : fileVerdict 
       let board : Board = record { next = inputs; gates = [] } in
       let ok = good-accepted ms accepted in
       let at = stands number ms found in
-      let built = place-builds inputs board ok at (length-upFrom 0 inputs) (below-run inputs) done in
+      let wired = place-wired inputs board ok at (length-upFrom 0 inputs) (below-run inputs) done in
       let new = place-new ok .new number at (upFrom 0 inputs) board in
-      let next = next-of-wired (built .wired) in
+      let next = next-of-wired wired in
       record {
         inputs-are = refl;
-        wired = rw (← next) (built .wired);
+        wired = rw (← next) wired;
         outputs-driven = λ x i. rw (← next) (new .between x i);
         outputs-once = new .once;
       }

@@ -102,20 +102,19 @@ module _ {A : Type 0} (unset : A) (value : ℕ → List A → A) (later : Meanin
       }
 
 -- On the board before the first gate the inputs, 0, 1, 2 and so on, read as the values given to them.
-abbrev unset-board : ℕ → Board
-unset-board inputs = record { next = inputs; gates = [] }
+abbrev bare : ℕ → Board
+bare inputs = record { next = inputs; gates = [] }
 
 inputs-read :
     {A : Type 0} (unset : A) (value : ℕ → List A → A) (later : Meaning A) (inputs : ℕ) (vs : List A)
     → length vs ≡ inputs
-    → Forall₂ (Reads unset value later (pairs unset (upFrom 0 inputs) vs) (unset-board inputs)) (upFrom 0 inputs) vs
+    → Forall₂ (Reads unset value later (pairs unset (upFrom 0 inputs) vs) (bare inputs)) (upFrom 0 inputs) vs
 unfolding after walk
 inputs-read unset value later inputs vs count =
     let nets : List ℕ = upFrom 0 inputs in
     let read : lookAll unset nets (pairs unset nets vs) ≡ vs
     = lookAll-pairs unset 0 0 inputs inputs vs (omega arith) (omega arith) ∙ take-all inputs vs (omega arith) in
-    rw read at
-    (all-read unset value later (pairs unset nets vs) (unset-board inputs) nets (below-run inputs))
+    rw read at (all-read unset value later (pairs unset nets vs) (bare inputs) nets (below-run inputs))
 
 module _ (ms : List Module) (number : ℕ) (m : Module) (accepted : fileVerdict ms ≡ good) (found : assoc number ms ≡ box m) where
   -- Any interpreter whose gates each give one value.
@@ -129,9 +128,9 @@ module _ (ms : List Module) (number : ℕ) (m : Module) (accepted : fileVerdict 
       let inputs = length (m .inputs) in
       let later = run unset (single value) [] in
       let start = pairs unset (upFrom 0 inputs) vs in
-      let shown =
-      place-shows unset value _ _ (gates-read unset value later start) (good-accepted ms accepted) .shows number
-      (stands number ms found) (unset-board inputs) (length-upFrom 0 inputs) (inputs-read unset value later inputs vs count) in
+      let modules = place-shows unset value _ _ (gates-read unset value later start) (good-accepted ms accepted) in
+      let reads = inputs-read unset value later inputs vs count in
+      let shown = modules .shows number (stands number ms found) (bare inputs) (length-upFrom 0 inputs) reads in
       rw (eq-eqb number number refl) (reads-all unset value later start (shown .outputs))
 
   -- Its three-valued outputs are the module's, on every list of input values, unknown ones too.

@@ -1,5 +1,5 @@
--- What the gates of a flattened module look like: each drives the next number, on nets below it, as many as its kind takes. Placing a
--- module of an accepted list on such a board gives such a board.
+-- What the gates of a flattened module look like: each drives the next number, on as many nets below it as its kind takes. Placing
+-- a module of an accepted list on such a board gives such a board.
 use Prim.Native.Nat.{ℕ, suc, _+_, _<_}
 use mathlib.Core.Path.{_≡_, refl}
 use mathlib.Core.Bool.{true}
@@ -11,7 +11,7 @@ use Rattle.meaning.specs.Gates.{isGate, gate}
 use Rattle.meaning.specs.Members.{_∈_}
 use Rattle.meaning.specs.Limits.{driven, bodySize}
 use Rattle.meaning.specs.Figures.{bodyWeight}
-use Rattle.meaning.specs.Flattening.{Board, Placed, place}
+use Rattle.meaning.specs.Flattening.{Board, place}
 use Rattle.meaning.specs.Adder.{upFrom}
 use Rattle.laws.specs.WellFormed.{Accepted}
 use Rattle.laws.specs.Members.{here, there, in-none}
@@ -34,7 +34,7 @@ wired-then : {n k : ℕ} {o : Occurrence} {os : List Occurrence} → Wired n os 
 wired-then done g = more g done
 wired-then (more h rest) g = more h (wired-then rest g)
 
--- Setting down a gate on nets of the board keeps it so. No value matters here: each net stands for nothing but itself.
+-- Setting down a gate on nets of the board keeps it so. Values do not matter here: a net is on the board, and that is all.
 abbrev Built : (first : ℕ) → Board → Type 0
 Built first b = Wired first (b .gates) (b .next)
 
@@ -46,7 +46,8 @@ on-board b Forall₂·nil x i = absurd (in-none i)
 on-board b (Forall₂·cons l ls) x (here e) = omega arith
 on-board b (Forall₂·cons l ls) x (there i) = on-board b ls x i
 
-all-on-board : (b : Board) (nets : List ℕ) → ((x : ℕ) → x ∈ nets → x < b .next) → Forall₂ (OnBoard b) nets (map (λ x. tt) nets)
+all-on-board :
+    (b : Board) (nets : List ℕ) → ((x : ℕ) → x ∈ nets → x < b .next) → Forall₂ (OnBoard b) nets (map (λ net. tt) nets)
 all-on-board b [] below = Forall₂·nil
 all-on-board b (x ∷ nets) below = Forall₂·cons (below x (here refl)) (all-on-board b nets (λ y i. below y (there i)))
 
@@ -64,24 +65,17 @@ gates-wired first =
           };
     }
 
--- What placing on a built board gives.
-pub record Builds (first : ℕ) (p : Placed) : Type 0 where
-  pub wired : Wired first (p .board .gates) (p .board .next)
-  pub below : (x : ℕ) → x ∈ p .nets → x < p .board .next
-
-pub place-builds :
+pub place-wired :
     {ms : List Module} {number : ℕ} {m : Module} {nets : List ℕ} (first : ℕ) (b : Board)
     → Accepted ms
     → Stands number m ms
     → length nets ≡ length (m .inputs)
     → ((x : ℕ) → x ∈ nets → x < b .next)
     → Wired first (b .gates) (b .next)
-    → Builds first (place ms number nets b)
-place-builds {ms} {number} {nets = nets} first b accepted stands count below w =
-    let shown =
-    place-shows tt (λ kind vs. tt) (Built first) OnBoard (gates-wired first) accepted .shows number stands b count
-    (all-on-board b nets below) in
-    record { wired = shown .kept .fine w; below = on-board (place ms number nets b .board) (shown .outputs) }
+    → Wired first (place ms number nets b .board .gates) (place ms number nets b .board .next)
+place-wired {number = number} {nets = nets} first b accepted stands count below w =
+    let modules = place-shows tt (λ kind vs. tt) (Built first) OnBoard (gates-wired first) accepted in
+    modules .shows number stands b count (all-on-board b nets below) .kept .fine w
 
 -- How many they are, and what they drive.
 pub next-of-wired : {n k : ℕ} {os : List Occurrence} → Wired n os k → k ≡ n + length os
