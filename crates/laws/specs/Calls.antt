@@ -14,6 +14,9 @@ module _ {R : Type 0} where
   refusal-no-answer : {number place : ℕ} {r : R} → refusal number place ≡ answer r → ⊥
   refusal-no-answer h = let z : _≡_ {A = ℕ} 0 1 = cc in omega arith
 
+  pub same-answer : {r s : R} → answer r ≡ answer s → r ≡ s
+  same-answer h = cc
+
   -- A demand was met, and the rest was answered.
   pub record Met (b : Bool) (next : Decision R) (r : R) : Type 0 where
     pub met : b ≡ true
@@ -45,7 +48,13 @@ module _ {R : Type 0} where
   unfolding onFile
   file-met file {ask} {r} = reading (read file) refl
     where
-      checking : (ms : List Module) → read file ≡ holds ms → (v : Verdict) → fileVerdict ms ≡ v → ifGood v (ask ms) ≡ answer r → OnFile file ask r
+      checking :
+          (ms : List Module)
+          → read file ≡ holds ms
+          → (v : Verdict)
+          → fileVerdict ms ≡ v
+          → ifGood v (ask ms) ≡ answer r
+          → OnFile file ask r
       checking ms reads good e h = record { ms = ms; reads = reads; accepted = e; answered = h }
       checking ms reads (refused number place) e h = absurd (refusal-no-answer h)
 

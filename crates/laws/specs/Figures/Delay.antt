@@ -1,5 +1,5 @@
--- Delay is never above the gate count: an output arrives after the latest input by at most the delays of all gates reached. And where
--- no gate is faster, nothing arrives earlier. Nothing is asked of the list.
+-- Delay is never above the gate count: an output arrives after the latest input by at most the delays of all gates reached. And
+-- where no gate is faster, nothing arrives earlier. Nothing is asked of the list.
 use Prim.Native.Nat.{ℕ, zero, suc, _+_, _*_, _≤_}
 use mathlib.Core.Path.{_≡_, refl}
 use mathlib.Core.Bool.{Bool, true, false, cond}

@@ -1,5 +1,5 @@
--- Largest load is at most the number of argument places of the gates reached, so at most four times the gate count: each unit of a
--- net's load is the place of an argument at a gate, and no place counts for two nets of one module.
+-- Largest load is at most the number of argument places of the gates reached, so at most four times the gate count: each unit of
+-- a net's load is the place of an argument at a gate, and no place counts for two nets of one module.
 use Prim.Native.Nat.{ℕ, zero, suc, _+_, _*_, _≤_, max}
 use mathlib.Core.Path.{_≡_, refl, sym}
 use mathlib.Core.Bool.{Bool, true, false, cond}
@@ -12,8 +12,9 @@ use Rattle.meaning.specs.Syntax.{Occurrence, Module}
 use Rattle.meaning.specs.Gates.{isGate, gate}
 use Rattle.meaning.specs.Members.{_∈_, Twice, again, further}
 use Rattle.meaning.specs.Limits.{driven}
-use Rattle.meaning.specs.Figures.{largest, bodyWeight, gateWeight, gateCount, largestReferred, placesLoad, netLoad, inputLoads, largestLoad}
-use Rattle.laws.specs.WellFormed.{Reference, toGate, toModule, Body, done, step, Accepted, none, some}
+use Rattle.meaning.specs.Figures.{largest, bodyWeight, gateWeight, gateCount, largestReferred}
+use Rattle.meaning.specs.Figures.{placesLoad, netLoad, inputLoads, largestLoad}
+use Rattle.laws.specs.WellFormed.{Reference, toGate, toModule, Body, done, step, ModuleOk, Accepted, none, some}
 use Rattle.laws.specs.Tests.{if-false}
 use Rattle.laws.specs.Members.{here, there, same-in, twice-one, duplicates-tells}
 use Rattle.laws.specs.Arity.{arity-within}
@@ -128,7 +129,8 @@ module _ {A : Type 0} (figure : A → ℕ) where
   either false h k = k
 
 -- The loads of a module's inputs, together.
-pub inputLoads-below-places : {ms : List Module} → Accepted ms → (number : ℕ) → total (inputLoads ms number) ≤ gateWeight places ms number
+pub inputLoads-below-places :
+    {ms : List Module} → Accepted ms → (number : ℕ) → total (inputLoads ms number) ≤ gateWeight places ms number
 unfolding inputLoads gateWeight total
 inputLoads-below-places none number = omega arith
 inputLoads-below-places (some {m} {later} ok rest) number =
@@ -138,14 +140,26 @@ inputLoads-below-places (some {m} {later} ok rest) number =
     (nets-load (inputLoads later) (gateWeight places later) below (m .inputs) distinct (ok .body))
     (below number)
 
+-- The load of any one net of a module.
+pub netLoad-below-places :
+    {m : Module} {later : List Module}
+    → ModuleOk m later
+    → Accepted later
+    → (net : ℕ)
+    → netLoad (inputLoads later) (m .occurrences) net ≤ bodyWeight places (gateWeight places later) (m .occurrences)
+netLoad-below-places {later = later} ok rest net =
+    net-load (inputLoads later) (gateWeight places later) (inputLoads-below-places rest) net (ok .body)
+
 pub largestLoad-below-places : {ms : List Module} → Accepted ms → (number : ℕ) → largestLoad ms number ≤ gateWeight places ms number
 unfolding largestLoad gateWeight
 largestLoad-below-places none number = omega arith
 largestLoad-below-places (some {m} {later} ok rest) number =
-    let inner = inputLoads-below-places rest in
-    let own = largest-load (inputLoads later) (gateWeight places later) inner (m .inputs ++ driven (m .occurrences)) (ok .body) in
-    let deeper = largest-referred (largestLoad later) places (gateWeight places later) (largestLoad-below-places rest) (m .occurrences) in
-    either (λ n. n) (eqb number (m .number)) (omega arith) (largestLoad-below-places rest number)
+    let most = gateWeight places later in
+    let nets = m .inputs ++ driven (m .occurrences) in
+    let own = largest-load (inputLoads later) most (inputLoads-below-places rest) nets (ok .body) in
+    let below = largestLoad-below-places rest in
+    let deeper = largest-referred (largestLoad later) places most below (m .occurrences) in
+    either (λ n. n) (eqb number (m .number)) (omega arith) (below number)
 
 -- No gate has more than four places.
 pub places-below-gates : (ms : List Module) (number : ℕ) → gateWeight places ms number ≤ 4 * gateCount ms number

@@ -1,5 +1,5 @@
--- Gates reached, counted with several weights at once: what holds of the weights of each gate, and is kept by adding up, holds of the
--- sums over all gates that a module reaches.
+-- Gates reached, counted with several weights at once: what holds of the weights of each gate, and is kept by adding up, holds of
+-- the sums over all gates that a module reaches.
 use Prim.Native.Nat.{ℕ, _+_, _*_, _≤_}
 use mathlib.Core.Path.{_≡_, refl}
 use mathlib.Core.Bool.{Bool, true, false, cond}

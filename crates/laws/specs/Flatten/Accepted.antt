@@ -1,5 +1,5 @@
--- The check accepts every flattened file: where inputs and gates are at most 4,096, the verdict on the file that holds the flattened
--- module of a module of an accepted file is good.
+-- The check accepts every flattened file: where inputs and gates are together at most 4,096, the verdict on the flattened module
+-- of a module of an accepted file, by itself, is good.
 use Prim.Native.Nat.{ℕ, suc, _+_, _≤_, _<_}
 use mathlib.Core.Path.{_≡_, refl}
 use mathlib.Core.Logic.{_⊎_, inl, inr}
@@ -44,7 +44,11 @@ below-further {n} {nets} b = record { are = are; all = λ x l. all x (eq-or-lt-o
     all x (inr l) = there (b .all x (omega arith))
 
 -- Gates in such an order keep the rules of occurrences.
-gate-ok : {n : ℕ} {later : List Module} {signals : List ℕ} {o : Occurrence} → Below n signals → GateAt n o → OccurrenceOk later signals o
+gate-ok :
+    {n : ℕ} {later : List Module} {signals : List ℕ} {o : Occurrence}
+    → Below n signals
+    → GateAt n o
+    → OccurrenceOk later signals o
 gate-ok {n} {signals = signals} {o = o} b g =
     record {
       distinct = is-false (duplicates-tells (o .drives)) (rw (g .drives) twice-one);
@@ -58,13 +62,20 @@ gate-ok {n} {signals = signals} {o = o} b g =
     fresh x (there k) i = in-none k
 
 body-of-wired :
-    {n k : ℕ} {later : List Module} {signals : List ℕ} {os : List Occurrence} → Below n signals → Wired n os k → Body later signals os
+    {n k : ℕ} {later : List Module} {signals : List ℕ} {os : List Occurrence}
+    → Below n signals
+    → Wired n os k
+    → Body later signals os
 body-of-wired b no-more = done
-body-of-wired {signals = signals} b (more g rest) =
-    step (gate-ok b g) (body-of-wired (rw (g .drives) (below-further b)) rest)
+body-of-wired b (more g rest) = step (gate-ok b g) (body-of-wired (rw (g .drives) (below-further b)) rest)
 
 -- A module of the shape of a flattened one keeps the rules by itself.
-flat-ok : {inputs : ℕ} {f : Module} → Flat inputs f → 16 ≤ f .number → inputs + length (f .occurrences) ≤ mostModuleNets → ModuleOk f []
+flat-ok :
+    {inputs : ℕ} {f : Module}
+    → Flat inputs f
+    → 16 ≤ f .number
+    → inputs + length (f .occurrences) ≤ mostModuleNets
+    → ModuleOk f []
 unfolding assoc netCount
 flat-ok {inputs} {f} flat above few =
     let drives = driven-of-wired (flat .wired) in
@@ -93,11 +104,7 @@ flat-ok {inputs} {f} flat above few =
     }
   where
     inputs-below : Below inputs (upFrom 0 inputs)
-    inputs-below =
-        record {
-          are = below-run inputs;
-          all = λ x l. in-run 0 inputs x (omega arith);
-        }
+    inputs-below = record { are = below-run inputs; all = λ x l. in-run 0 inputs x (omega arith) }
 
 pub flat-accepted :
     (ms : List Module) (number : ℕ) (m : Module)

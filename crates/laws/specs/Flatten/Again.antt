@@ -26,7 +26,8 @@ use Rattle.laws.specs.Flatten.Shape.{Flat, flat-shape}
 record Mirrors (n : ℕ) (env : Env ℕ) : Type 0 where
   same : (x : ℕ) → x < n → look 0 x env ≡ x
 
-lookAll-mirrors : {n : ℕ} {env : Env ℕ} → Mirrors n env → (nets : List ℕ) → ((x : ℕ) → x ∈ nets → x < n) → lookAll 0 nets env ≡ nets
+lookAll-mirrors :
+    {n : ℕ} {env : Env ℕ} → Mirrors n env → (nets : List ℕ) → ((x : ℕ) → x ∈ nets → x < n) → lookAll 0 nets env ≡ nets
 unfolding lookAll
 lookAll-mirrors m [] below = refl
 lookAll-mirrors m (x ∷ nets) below =
@@ -51,8 +52,7 @@ pairs-mirror (net ∷ nets) x i = go (eqb x net) refl i (pairs-mirror nets x)
     go false e (there i) rest = rest i
 
 inputs-mirror : (inputs : ℕ) → Mirrors inputs (pairs 0 (upFrom 0 inputs) (upFrom 0 inputs))
-inputs-mirror inputs =
-    record { same = λ x l. pairs-mirror (upFrom 0 inputs) x (in-run 0 inputs x (omega arith)) }
+inputs-mirror inputs = record { same = λ x l. pairs-mirror (upFrom 0 inputs) x (in-run 0 inputs x (omega arith)) }
 
 -- A gate on nets that stand for themselves is set down as it is.
 gate-again :
@@ -81,7 +81,7 @@ body-again {n} later front (more {o = o} {os = os} g rest) m =
     (let w = body-again later (front ++ (o ∷ [])) rest (mirrors-further m) in
     record { gates = w .gates ∙ append-assoc front (o ∷ []) os; nets = w .nets })
 
-pub flat-again : {inputs : ℕ} (f : Module) → Flat inputs f → flatModule (f ∷ []) (f .number) inputs ≡ f
+flat-again : {inputs : ℕ} (f : Module) → Flat inputs f → flatModule (f ∷ []) (f .number) inputs ≡ f
 unfolding flatModule place placeModule
 flat-again {inputs} f flat =
     let start : Mirrors inputs (pairs 0 (f .inputs) (f .inputs)) = rw (flat .inputs-are) (inputs-mirror inputs) in

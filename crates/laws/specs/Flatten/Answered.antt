@@ -1,7 +1,7 @@
--- The call of flattening. It is answered exactly when none of its refusals applies; and wherever it is answered, the written bytes are a
--- file that the check accepts, of one module that is the same module.
+-- The call of flattening. It is answered exactly when none of its refusals applies; and wherever it is answered, the written
+-- bytes are a file that the check accepts, of one module that is the same module.
 use Prim.Native.Nat.{ℕ, _+_, _≤_}
-use mathlib.Core.Path.{_≡_}
+use mathlib.Core.Path.{_≡_, sym, subst, _∙_}
 use mathlib.Core.List.{List, [], _∷_}
 use lib.Dec.{leb}
 use lib.ListN.{length}
@@ -15,7 +15,7 @@ use Rattle.meaning.specs.Figures.{gateCount, room}
 use Rattle.meaning.specs.Flattening.{flatModule}
 use Rattle.meaning.specs.Calls.{Written, answer, onFile, flatFile, flattening}
 use Rattle.laws.specs.Exactness.{exactness}
-use Rattle.laws.specs.Calls.{file-met, module-met, demand-met}
+use Rattle.laws.specs.Calls.{file-met, module-met, demand-met, same-answer}
 use Rattle.laws.specs.Flatten.Same.{SameModule, flat-is-same}
 use Rattle.laws.specs.Flatten.Within.{flat-reads, flat-passes}
 use Rattle.laws.specs.Flatten.Again.{flat-of-flat}
@@ -79,13 +79,13 @@ pub record Flattened (ms : List Module) (number : ℕ) (m : Module) (bytes : Lis
   pub same : SameModule ms number m flat
   pub again : flatFile (flat ∷ []) number flat ≡ bytes
 
-pub flattening-flattens :
+answerable-flattens :
     (file : List ℕ) (number scratch out : ℕ)
     → Bytes file
     → (a : Answerable file number scratch out)
     → Flattened (a .ms) number (a .m) (writes a .bytes)
 unfolding flatFile
-flattening-flattens file number scratch out bytes a =
+answerable-flattens file number scratch out bytes a =
     let within = exactness file bytes (a .ms) (a .reads) .within in
     let same = flat-is-same (a .ms) number (a .m) (a .accepted) (a .found) in
     record {
@@ -95,3 +95,14 @@ flattening-flattens file number scratch out bytes a =
       same = same;
       again = rw (same .inputs, flat-of-flat (a .ms) number (a .m) (a .accepted) (a .found));
     }
+
+-- Wherever flattening is answered, what is written is the flattened module.
+pub flattening-flattens :
+    (file : List ℕ) (number scratch out : ℕ) (w : Written)
+    → Bytes file
+    → flattening file number scratch out ≡ answer w
+    → (a : Answerable file number scratch out) × (writes a ≡ w) × Flattened (a .ms) number (a .m) (w .bytes)
+flattening-flattens file number scratch out w bytes h =
+    let a = only-answered file number scratch out w h in
+    let same = same-answer (sym (answered a) ∙ h) in
+    (a, same, subst (λ (u : Written). Flattened (a .ms) number (a .m) (u .bytes)) same (answerable-flattens file number scratch out bytes a))

@@ -7,11 +7,17 @@ use lib.ListN.{length, length-append}
 use borrow.Author.Tests.{ltb-true}
 use Rattle.meaning.specs.Syntax.{Occurrence, Module}
 use Rattle.meaning.specs.Layout.{each, numberBytes, encode}
+use Rattle.meaning.specs.Boxlist.{box, assoc}
+use Rattle.meaning.specs.Verdict.{good, fileVerdict}
+use Rattle.meaning.specs.Figures.{gateCount}
+use Rattle.meaning.specs.Flattening.{flatModule}
 use Rattle.laws.specs.Arity.{arity-within}
 use Rattle.laws.specs.Written.{netsBytes, occurrenceBytes, moduleBytes}
 use Rattle.laws.specs.Written.{bytes-of-nets, bytes-of-occurrence, bytes-of-module, bytes-of-file}
+use Rattle.laws.specs.Adder.Nets.{length-upFrom}
 use Rattle.laws.specs.Adder.Bytes.{most-count, low-count}
 use Rattle.laws.specs.Flatten.Wired.{GateAt, Wired, done, more}
+use Rattle.laws.specs.Flatten.Shape.{flat-shape, outputCount-of-flat, length-of-flat}
 
 numbers-length : (ns : List ℕ) → length (each numberBytes ns) ≤ 2 * length ns
 unfolding each
@@ -48,7 +54,7 @@ bytes-of-one : (f : Module) → encode (f ∷ []) ≡ numberBytes 1 ++ moduleByt
 unfolding each
 bytes-of-one f = bytes-of-file (f ∷ []) ∙ rw append-nil
 
-pub bytes-of-wired :
+bytes-of-wired :
     {n k : ℕ} (f : Module)
     → Wired n (f .occurrences) k
     → length (encode (f ∷ [])) ≤ 9 + 2 * length (f .inputs) + 2 * length (f .outputs) + 13 * length (f .occurrences)
@@ -66,3 +72,19 @@ bytes-of-wired f w =
       most-count (length (f .occurrences)),
       gates-length w,
     )))
+
+pub bytes-of-flat :
+    (ms : List Module) (number : ℕ) (m : Module)
+    → fileVerdict ms ≡ good
+    → assoc number ms ≡ box m
+    → length (encode (flatModule ms number (length (m .inputs)) ∷ []))
+    ≤ 9 + 2 * length (m .inputs) + 2 * length (m .outputs) + 13 * gateCount ms number
+unfolding flatModule
+bytes-of-flat ms number m accepted found =
+    omega (
+      arith,
+      bytes-of-wired (flatModule ms number (length (m .inputs))) (flat-shape ms number m accepted found .wired),
+      length-upFrom 0 (length (m .inputs)),
+      outputCount-of-flat ms number m accepted found,
+      length-of-flat ms number m accepted found,
+    )

@@ -45,7 +45,9 @@ module _ (weight : ℕ → ℕ) where
         go :
             (t : Bool)
             → isGate number ≡ t
-            → Adds b (cond t (placeGate number nets b) (place ms number nets b)) (cond t (weight number) (gateWeight weight ms number))
+            → Adds b
+            (cond t (placeGate number nets b) (place ms number nets b))
+            (cond t (weight number) (gateWeight weight ms number))
         go true g = record { adds = weight-append other (b .gates) _ ∙ rw (g, add-zero) }
         go false g = below
 

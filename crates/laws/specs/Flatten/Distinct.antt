@@ -1,5 +1,5 @@
--- The outputs of what was placed are new nets, all different: an output is a driven net, and each driven net stands for the net that
--- a gate of its own drives.
+-- The outputs of what was placed are new nets, all different: an output is a driven net, and each driven net stands for the net
+-- that a gate of its own drives.
 use Prim.Native.Nat.{ℕ, suc, _≤_}
 use mathlib.Core.Path.{_≡_, refl, sym, subst, _∙_}
 use mathlib.Core.Bool.{Bool}
@@ -22,7 +22,7 @@ use Rattle.laws.specs.Flatten.Numbered.{Between}
 use Rattle.laws.specs.Flatten.Environments.{look-given, look-apart, look-other}
 use Rattle.laws.specs.Flatten.Matching.{in-front}
 
--- What was placed from a board on: its nets are new, and none is listed twice.
+-- What was placed from a board on has so many nets; they are new, and none is listed twice.
 pub record New (a : Board) (p : Placed) (count : ℕ) : Type 0 where
   pub grown : a .next ≤ p .board .next
   pub between : (x : ℕ) → x ∈ p .nets → Between (a .next) (p .board .next) x
@@ -31,7 +31,11 @@ pub record New (a : Board) (p : Placed) (count : ℕ) : Type 0 where
 
 -- The modules of a list are placed so.
 pub record NewModules (ms : List Module) : Type 0 where
-  pub new : (number : ℕ) {m : Module} → Stands number m ms → (nets : List ℕ) (b : Board) → New b (place ms number nets b) (length (m .outputs))
+  pub new :
+      (number : ℕ) {m : Module}
+      → Stands number m ms
+      → (nets : List ℕ) (b : Board)
+      → New b (place ms number nets b) (length (m .outputs))
 
 reference-new :
     {ms : List Module} {o : Occurrence} (nets : List ℕ) (b : Board)
@@ -39,13 +43,7 @@ reference-new :
     → Reference ms o
     → New b (placeReferred (place ms) (o .refers) nets b) (length (o .drives))
 reference-new nets b later (toGate g takes drives) =
-    rw g
-    (record {
-      grown = omega arith;
-      between = one;
-      once = twice-one;
-      counted = drives;
-    })
+    rw g (record { grown = omega arith; between = one; once = twice-one; counted = drives })
   where
     one : (x : ℕ) → x ∈ (b .next ∷ []) → Between (b .next) (suc (b .next)) x
     one x (here e) = omega arith

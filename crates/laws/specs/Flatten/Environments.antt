@@ -1,5 +1,5 @@
--- Nets given to as many others: each of those reads as one of them, no two as the same where none is listed twice, and any other net
--- reads as before.
+-- Nets given to as many others: each of those reads as one of them, no two as the same where none is listed twice, and any other
+-- net reads as before.
 use Prim.Native.Nat.{ℕ}
 use mathlib.Core.Path.{_≡_, refl, sym, _∙_}
 use mathlib.Core.Bool.{Bool, true, false, cond}

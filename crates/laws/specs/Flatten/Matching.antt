@@ -1,6 +1,6 @@
--- Nets of the board beside values. `Is b net v` says in which sense a net stands for a value on a board, and `Fine b` what else holds
--- of the board. An environment of nets matches one of values where the nets of all signals stand for the signals' values; giving nets
--- and values to more signals keeps that, and so does a board on which everything is kept.
+-- Nets of the board beside values. `Is b net v` says in which sense a net stands for a value on a board, and `Fine b` what else
+-- holds of the board. An environment of nets matches one of values where the nets of all signals stand for the signals' values;
+-- giving nets and values to more signals keeps that, and so does a board on which everything is kept.
 use Prim.Native.Nat.{ℕ}
 use mathlib.Core.Path.{_≡_, refl}
 use mathlib.Core.Bool.{Bool, true, false, cond}
@@ -28,8 +28,8 @@ module _ {A : Type 0} {Fine : Board → Type 0} {Is : Board → ℕ → A → Ty
   kept-on h k = record { fine = λ f. k .fine (h .fine f); nets = λ net v i. k .nets net v (h .nets net v i) }
 
 -- The nets of these signals stand for their values.
-pub record Matches {A : Type 0} (unset : A) (Is : Board → ℕ → A → Type 0) (b : Board) (signals : List ℕ) (nets : Env ℕ) (env : Env A)
-    : Type 0 where
+pub record Matches {A : Type 0} (unset : A) (Is : Board → ℕ → A → Type 0)
+    (b : Board) (signals : List ℕ) (nets : Env ℕ) (env : Env A) : Type 0 where
   pub at : (x : ℕ) → x ∈ signals → Is b (look 0 x nets) (look unset x env)
 
 module _ {A : Type 0} {unset : A} {Is : Board → ℕ → A → Type 0} where

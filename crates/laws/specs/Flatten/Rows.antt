@@ -1,5 +1,5 @@
--- The row of document 01 that concerns flattening: adder 1 flattens to the bytes printed there. And so does the call on its 67 bytes,
--- with as much scratch and output as it needs, so that a flattener that always refuses is shut out.
+-- The row of document 01 that concerns flattening: adder 1 flattens to the bytes printed there. And so does the call on its 67
+-- bytes, with as much scratch and output as it needs, so that a flattener that always refuses is shut out.
 use Prim.Native.Nat.{ℕ}
 use mathlib.Core.Path.{_≡_, refl}
 use mathlib.Core.List.{List, [], _∷_}
@@ -31,7 +31,8 @@ flat-adder = refl
 pub flat-adder-call : flattening adderBytes 18 17 40 ≡ answer (record { bytes = flatAdderBytes; cleared = 17 })
 unfolding
     flattening onFile flatFile
-    fileVerdict modulesVerdict moduleVerdict bodyVerdict occurrenceVerdict sizesVerdict assoc member disjoint duplicates subset arityOkp
+    fileVerdict modulesVerdict moduleVerdict bodyVerdict occurrenceVerdict sizesVerdict
+    assoc member disjoint duplicates subset arityOkp
     driven netCount bodySize expandedSize gate gates gateCount gateWeight bodyWeight room largestReferred
     adder rippleAdder adderCells upFrom
 flat-adder-call = rw (reads-as-adder, flat-adder)

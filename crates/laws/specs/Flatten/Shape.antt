@@ -1,5 +1,6 @@
--- The shape of a flattened module: inputs 0, 1, 2 and so on, gates that each drive the next number, and outputs that are driven nets,
--- all different. The module that flattening gives has it, with as many gates as the module reaches and as many outputs as it has.
+-- The shape of a flattened module: inputs 0, 1, 2 and so on, gates that each drive the next number, and outputs that are driven
+-- nets, all different. The module that flattening gives has it, with as many gates as the module reaches and as many outputs as
+-- it has.
 use Prim.Native.Nat.{ℕ, _+_}
 use mathlib.Core.Path.{_≡_, refl, sym, _∙_}
 use mathlib.Core.List.{List, [], _∷_}
@@ -48,8 +49,8 @@ module _ (ms : List Module) (number : ℕ) (m : Module) (accepted : fileVerdict 
   pub outputCount-of-flat : length (flatModule ms number (length (m .inputs)) .outputs) ≡ length (m .outputs)
   unfolding flatModule
   outputCount-of-flat =
-      place-new (good-accepted ms accepted) .new number (stands number ms found) _ (record { next = length (m .inputs); gates = [] })
-      .counted
+      let board : Board = record { next = length (m .inputs); gates = [] } in
+      place-new (good-accepted ms accepted) .new number (stands number ms found) _ board .counted
 
   -- It has as many occurrences as the module reaches gates,
   pub length-of-flat : length (flatModule ms number (length (m .inputs)) .occurrences) ≡ gateCount ms number

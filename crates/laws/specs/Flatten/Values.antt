@@ -1,6 +1,6 @@
 -- The flattened module gives what the module gives, for any interpreter whose gates each give one value: on three values, unknown
--- ones too, and on arrivals. A net of the board stands for the value that it reads as once the gates so far have run; the nets below
--- the next number read the same ever after.
+-- ones too, and on arrivals. A net of the board stands for the value that it reads as once the gates so far have run; the nets
+-- below the next number read the same ever after.
 use Prim.Native.Nat.{ℕ, _+_, _<_}
 use mathlib.Core.Path.{_≡_, refl, ap, ap₂, _∙_}
 use mathlib.Core.Bool.{true, false}

@@ -1,6 +1,6 @@
--- Flattening beside evaluation: where setting down a gate keeps what holds of the board and gives a net that stands for the gate's
--- value, placing a module of an accepted list does so too. Nets that stand for values lead to nets that stand for what the run of the
--- module gives.
+-- Flattening beside evaluation: where setting down a gate keeps what holds of the board and gives a net that stands for the
+-- gate's value, placing a module of an accepted list does so too. Nets that stand for values lead to nets that stand for what the
+-- run of the module gives.
 use Prim.Native.Nat.{ℕ, suc}
 use mathlib.Core.Path.{_≡_, refl, sym, ap, _∙_}
 use mathlib.Core.Bool.{true}
@@ -23,8 +23,8 @@ abbrev pub single : {A : Type 0} → (ℕ → List A → A) → Meaning A
 single value kind vs = value kind vs ∷ []
 
 -- What was placed stands for these values, and everything is kept.
-pub record Shows {A : Type 0} (Fine : Board → Type 0) (Is : Board → ℕ → A → Type 0) (a : Board) (p : Placed) (vs : List A)
-    : Type 0 where
+pub record Shows {A : Type 0} (Fine : Board → Type 0) (Is : Board → ℕ → A → Type 0)
+    (a : Board) (p : Placed) (vs : List A) : Type 0 where
   pub kept : Kept Fine Is a (p .board)
   pub outputs : Forall₂ (Is (p .board)) (p .nets) vs
 

@@ -1,5 +1,5 @@
--- What the gates of a flattened module look like: each drives the next number, on as many nets below it as its kind takes. Placing
--- a module of an accepted list on such a board gives such a board.
+-- What the gates of a flattened module look like: each drives the next number, on as many nets below it as its kind takes.
+-- Placing a module of an accepted list on such a board gives such a board.
 use Prim.Native.Nat.{ℕ, suc, _+_, _<_}
 use mathlib.Core.Path.{_≡_, refl}
 use mathlib.Core.Bool.{true}

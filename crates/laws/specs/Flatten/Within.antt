@@ -1,5 +1,5 @@
 -- A flattened file is within the ceilings, so that what is written of it reads back and is accepted.
-use Prim.Native.Nat.{ℕ, _+_, _*_, _≤_, _<_}
+use Prim.Native.Nat.{ℕ, _+_, _≤_, _<_}
 use mathlib.Core.Path.{_≡_, refl, ap, _∙_}
 use mathlib.Core.List.{List, [], _∷_}
 use native.Mathlib.Omega.{arith}
@@ -26,11 +26,16 @@ use Rattle.laws.specs.Adder.Nets.{length-upFrom}
 use Rattle.laws.specs.Flatten.Numbered.{below-run}
 use Rattle.laws.specs.Flatten.Wired.{GateAt, Wired, done, more as then, next-of-wired}
 use Rattle.laws.specs.Flatten.Shape.{flat-shape, outputCount-of-flat, length-of-flat}
-use Rattle.laws.specs.Flatten.Bytes.{bytes-of-wired}
+use Rattle.laws.specs.Flatten.Bytes.{bytes-of-flat}
 use Rattle.laws.specs.Flatten.Accepted.{flat-accepted}
 
 -- As many nets as a list may have, all below a number that is small.
-nets-within : (n : ℕ) (nets : List ℕ) → n ≤ mostModuleNets → length nets ≤ mostNets → ((x : ℕ) → x ∈ nets → x < n) → NetsWithin nets
+nets-within :
+    (n : ℕ) (nets : List ℕ)
+    → n ≤ mostModuleNets
+    → length nets ≤ mostNets
+    → ((x : ℕ) → x ∈ nets → x < n)
+    → NetsWithin nets
 nets-within n nets low count below = record { count = count; numbers = numbers nets below }
   where
     numbers : (xs : List ℕ) → ((x : ℕ) → x ∈ xs → x < n) → All Small xs
@@ -53,19 +58,6 @@ module _ (ms : List Module) (number : ℕ) (m : Module) (accepted : fileVerdict 
     (within : Within ms) (few : length (m .inputs) + gateCount ms number ≤ mostModuleNets) where
   abbrev flat : Module
   flat = flatModule ms number (length (m .inputs))
-
-  pub bytes-of-flat :
-      length (encode (flatModule ms number (length (m .inputs)) ∷ []))
-      ≤ 9 + 2 * length (m .inputs) + 2 * length (m .outputs) + 13 * gateCount ms number
-  unfolding flatModule
-  bytes-of-flat =
-      omega (
-        arith,
-        bytes-of-wired flat (flat-shape ms number m accepted found .wired),
-        length-upFrom 0 (length (m .inputs)),
-        outputCount-of-flat ms number m accepted found,
-        length-of-flat ms number m accepted found,
-      )
 
   flat-within : ModuleWithin flat
   unfolding flatModule
@@ -93,11 +85,12 @@ module _ (ms : List Module) (number : ℕ) (m : Module) (accepted : fileVerdict 
       let own = found-within number m within found in
       record {
         modules = record { count = omega arith; modules = more flat-within none };
-        bytes = omega (arith, bytes-of-flat, own .outputs .count);
+        bytes = omega (arith, bytes-of-flat ms number m accepted found, own .outputs .count);
       }
 
   -- The written bytes are a file that holds the flattened module,
-  pub flat-reads : read (encode (flatModule ms number (length (m .inputs)) ∷ [])) ≡ holds (flatModule ms number (length (m .inputs)) ∷ [])
+  pub flat-reads :
+      read (encode (flatModule ms number (length (m .inputs)) ∷ [])) ≡ holds (flatModule ms number (length (m .inputs)) ∷ [])
   flat-reads = round-trip _ flat-file-within
 
   -- and the check accepts it.
