@@ -95,6 +95,8 @@ impl Seen {
     }
 }
 
+const UNKNOWN: u32 = 2;
+
 // A result that one argument can force; where none did it is unknown with an unknown among them, and the opposite without.
 fn settled(forced: bool, unknown: bool, to: bool) -> u32
     ensures { λ r. ⌜ r ≡ code (settled forced unknown to) ⌝ }
@@ -102,7 +104,7 @@ fn settled(forced: bool, unknown: bool, to: bool) -> u32
     if forced {
         to as u32
     } else if unknown {
-        2
+        UNKNOWN
     } else {
         !to as u32
     }
