@@ -1,10 +1,10 @@
--- What is seen of a list of arguments, and the value that a rule gives to it, is the rule's Boolean function by fillings: for any
--- number of arguments, since each is looked at once and the order does not matter.
+-- What a rule gives to what is seen of a list of arguments is the rule's Boolean function by fillings. It holds for any number of
+-- arguments: what is seen does not depend on their order, and each argument changes it as the gate of two arguments would.
 use Prim.Native.Nat.{ℕ}
-use mathlib.Core.Bool.{Bool, true, false, not, cond}
+use mathlib.Core.Bool.{Bool, true, false, not}
 use mathlib.Core.List.{List, [], _∷_, map, foldr}
 use mathlib.Core.Path.{_≡_, refl, ap, sym, _∙_}
-use Rattle.meaning.specs.Values.{Val, known, un, value, code, byFillings}
+use Rattle.meaning.specs.Values.{Val, known, un, value, byFillings}
 use Rattle.meaning.specs.Gates.{one, two, B-AND, B-OR, B-XOR}
 use Rattle.laws.specs.Folds.{after, fold-step}
 use Rattle.gates.specs.Seen.{nothing, see, seeAll, settled, resultOf}
@@ -40,7 +40,7 @@ unfolding seeAll
 see-late s v [] = refl
 see-late s v (x ∷ xs) = ap (λ t. seeAll t xs) (see-swap s v (value x)) ∙ see-late (see s (value x)) v xs
 
--- What a rule gives to what is seen changes with each argument as the gate of two would have it.
+-- What a rule gives to what is seen, after one argument more, is the gate of two on that argument and what it gave before.
 Steps : (Bool → Bool → Bool) → Rule → Seen → Type 0
 Steps f rule s =
     (resultOf rule (see s (known false)) ≡ byFillings (two f .function) (known false ∷ resultOf rule s ∷ []))

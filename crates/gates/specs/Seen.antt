@@ -7,6 +7,7 @@ use Rattle.gates.specs.declared.Rule.{Rule}
 use Rattle.gates.specs.declared.Rule.the-variants.{And, Nand, Or, Nor, Xor, Eqv}
 use Rattle.gates.specs.declared.Seen.{Seen}
 
+-- Before the first argument.
 abbrev pub nothing : Seen
 nothing = record { zero = false; one = false; even = true; unknown = false }
 
