@@ -19,3 +19,4 @@ pub mod Adder
 pub mod Figures
 pub mod Flattening
 pub mod Calls
+pub mod Listing
