@@ -11,5 +11,6 @@ pub mod Verdict
 pub mod Evaluation
 pub mod Heval
 pub mod Adder
+pub mod Counter
 pub mod Figures
 pub mod Flattening
