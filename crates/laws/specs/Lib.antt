@@ -7,3 +7,9 @@ pub mod Refusals
 pub mod Evaluation
 pub mod Heval
 pub mod Adder
+pub mod NetRows
+pub mod Leading
+pub mod Digits
+pub mod CounterValues
+pub mod CounterChoice
+pub mod CounterBlocks

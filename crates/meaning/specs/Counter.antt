@@ -71,6 +71,7 @@ joinBlock j =
     let high = low + suc j in
     let ands = high + suc j in
     let ors = ands + j in
+    let top = ors + j in
     record {
       number = 33 + j;
       inputs = upFrom 0 low;
@@ -79,7 +80,7 @@ joinBlock j =
           record { drives = upFrom low (suc j); refers = blockNumber j; takes = upFrom 0 (2 ^ j) }
           ∷ record { drives = upFrom high (suc j); refers = blockNumber j; takes = upFrom (2 ^ j) (2 ^ j) }
           ∷ (choose (high + j) high low ands ors j
-          ++ (gateOn (ors + j + 1) AND (high + j) (low + j) ∷ gateOn (ors + j) XOR (high + j) (ors + j + 1) ∷ []));
+          ++ (gateOn (suc top) AND (high + j) (low + j) ∷ gateOn top XOR (high + j) (suc top) ∷ []));
     }
 
 -- The blocks up to a level, the largest first.
