@@ -1,77 +1,150 @@
 -- What the blocks of a counter answer, by one induction over the level.
-use Prim.Native.Nat.{ℕ, zero, suc, _+_, _*_, _^_, _≤_, _<_}
-use mathlib.Core.Path.{_≡_, refl, ap, ap₂, _∙_}
-use mathlib.Core.Bool.{Bool, true, false}
+use Prim.Native.Nat.{ℕ, zero, suc, _+_, _*_, _^_, _≤_}
+use mathlib.Core.Path.{_≡_, refl, ap, _∙_}
+use mathlib.Core.Bool.{Bool, true, false, cond}
 use mathlib.Core.List.{List, [], _∷_, _++_}
 use native.Mathlib.Omega.{arith}
-use lib.ListN.{length, length-append}
-use Rattle.meaning.specs.Values.{Val, known, un}
-use Rattle.meaning.specs.Gates.{gateValue}
-use Rattle.meaning.specs.Evaluation.{Env, Meaning, look, lookAll, pairs, apply, walk, runModule, run, gateOutputs}
-use Rattle.meaning.specs.Adder.{upFrom}
-use Rattle.meaning.specs.Counter.{AND, XOR, gateOn, choose, blockNumber, joinBlock, blocks}
-use Rattle.laws.specs.NetRows.{Outside, before, behind, Holds, nothing, value, Keeps, look-bound, look-other, holds-at, holds-one, holds-left, holds-right, holds-both, holds-kept, keeps-given, keeps-bound, holds-driven, walk-append}
-use Rattle.laws.specs.CounterValues.{andVal, orVal, xorVal, chosen, length-chosen}
-use Rattle.laws.specs.CounterChoice.{ran, choose-keeps-row, choose-holds}
+use native.Mathlib.Nat.{pow-suc}
+use lib.Dec.{eqb}
+use lib.ListN.{length, take, drop, length-append, take-append-drop, length-take, length-drop}
+use borrow.Author.Tests.{eqb-true, eqb-false, eq-eqb, ne-eqb, le-ltb}
+use Rattle.meaning.specs.Syntax.{Module}
+use Rattle.meaning.specs.Values.{Val, known, un, byFillings}
+use Rattle.meaning.specs.Gates.{gate, gates, gateValue}
+use Rattle.meaning.specs.Adder.{upFrom, binary}
+use Rattle.meaning.specs.Evaluation.{Meaning, look, lookAll, pairs, apply, walk, runModule, run, gateOutputs}
+use Rattle.meaning.specs.Counter.{NOT, NOR, blockNumber, pairBlock, joinBlock, block, blocks}
+use Rattle.laws.specs.NetRows.{look-row, holds-inputs}
+use Rattle.laws.specs.Leading.{Lead, lead, lead-append}
+use Rattle.laws.specs.CounterValues.{Answers, counts, nothing, anything, andVal, xorVal, chosen, join-blocks, length-answers, length-joined}
+use Rattle.laws.specs.CounterJoin.{join-walk}
 
 abbrev none : Val
 none = known false
 
--- The last two gates of a block, after its other count bits.
-top-holds : (later : Meaning Val) (top high low : ℕ) (env : Env Val) {first : ℕ} (bits : List Val) {eh el : Val} → high < top → low < top
-    → look none high env ≡ eh → look none low env ≡ el → Holds none env first bits → first + length bits ≡ top
-    → Holds none (walk none gateOutputs later (gateOn (suc top) AND high low ∷ gateOn top XOR high (suc top) ∷ []) env) first
-    (bits ++ (xorVal eh (andVal eh el) ∷ andVal eh el ∷ []))
-unfolding walk pairs lookAll andVal xorVal
-top-holds later top high low env bits {eh} {el} hf lf he le held ends =
-    let empty = andVal (look none high env) (look none low env) in
-    let first : Env Val = record { net = suc top; value = empty } ∷ env in
-    let bit = xorVal (look none high first) (look none (suc top) first) in
-    let kept : Keeps none top (suc (suc top)) env (record { net = top; value = bit } ∷ first) =
-        keeps-bound top bit (omega arith) (omega arith)
-        (keeps-bound (suc top) empty (omega arith) (omega arith) (record { kept = λ net o. refl }))
-    in
-    let empty-is : look none (suc top) first ≡ andVal eh el = cc (look-bound none (suc top) empty env) in
-    let high-is : look none high first ≡ eh = cc (look-other none high (suc top) empty env (λ e. omega arith)) in
-    holds-both bits _ (holds-kept kept (before (omega arith)) held)
-    (holds-at (omega arith)
-    (value (look-bound none top bit first ∙ ap₂ xorVal high-is empty-is)
-    (value (look-other none (suc top) top bit first (λ e. omega arith) ∙ empty-is) nothing)))
+-- What a block of level j gives: its count bits and last whether it is empty.
+pub record Answered (j : ℕ) (known-bits : Lead) (outs : List Val) : Type 0 where
+  pub bits : List Val
+  pub empty : Val
+  pub are : outs ≡ bits ++ (empty ∷ [])
+  pub answers : Answers j known-bits bits empty
 
-join-walk : (later : Meaning Val) (j : ℕ) (xs ys ls hs : List Val) (el eh : Val) (env : Env Val) → length xs ≡ 2 ^ j → length ys ≡ 2 ^ j
-    → Holds none env 0 (xs ++ ys) → apply gateOutputs later (blockNumber j) xs ≡ ls ++ (el ∷ []) → length ls ≡ j
-    → apply gateOutputs later (blockNumber j) ys ≡ hs ++ (eh ∷ []) → length hs ≡ j
-    → Holds none (walk none gateOutputs later (joinBlock j .occurrences) env) (2 * 2 ^ j + suc j + suc j + j)
-    (chosen eh hs ls ++ (xorVal eh (andVal eh el) ∷ andVal eh el ∷ []))
-unfolding joinBlock walk pairs lookAll
-join-walk later j xs ys ls hs el eh env nx ny inputs lows nl highs nh =
-    let low = 2 * 2 ^ j in
-    let high = low + suc j in
-    let ands = high + suc j in
-    let ors = ands + j in
-    let first = pairs none (upFrom low (suc j)) (apply gateOutputs later (blockNumber j) (lookAll none (upFrom 0 (2 ^ j)) env)) ++ env in
-    let second = pairs none (upFrom high (suc j)) (apply gateOutputs later (blockNumber j) (lookAll none (upFrom (2 ^ j) (2 ^ j)) first)) ++ first in
-    let third = ran later (high + j) high low ands ors j second in
-    let keeps-first : Keeps none low (low + suc j) env first = keeps-given low (suc j) _ env in
-    let keeps-second : Keeps none high (high + suc j) first second = keeps-given high (suc j) _ first in
-    let keeps-third : Keeps none ands (ors + j) second third = choose-keeps-row later j (high + j) high low ands ors second (omega arith) in
-    let low-first : Holds none first low (ls ++ (el ∷ [])) =
-        holds-driven gateOutputs later (blockNumber j) low (2 ^ j) (suc j) (holds-left xs ys inputs) nx lows (omega (arith, length-append ls (el ∷ [])))
+-- A number means the block of level j if on 2^j bits it gives what a block does.
+pub record MeansBlock (later : Meaning Val) (j : ℕ) : Type 0 where
+  pub gives : (xs : List Val) → length xs ≡ 2 ^ j → Answered j (lead xs) (apply gateOutputs later (blockNumber j) xs)
+
+-- One bit, and two.
+bit-answers : (x : Val) → Answers 0 (lead (x ∷ [])) [] (gateValue NOT (x ∷ []))
+unfolding lead gateValue gate gates byFillings binary
+bit-answers (known true) = counts [] refl refl
+bit-answers (known false) = nothing
+bit-answers un = anything refl
+
+one-bit : (later : Meaning Val) → MeansBlock later 0
+unfolding blockNumber
+one-bit later = record { gives = go }
+  where
+    go : (xs : List Val) → length xs ≡ 1 → Answered 0 (lead xs) (gateValue NOT xs ∷ [])
+    go [] n = absurd (omega arith)
+    go (x ∷ y ∷ xs) n = absurd (omega arith)
+    go (x ∷ []) n = record { bits = []; empty = gateValue NOT (x ∷ []); are = refl; answers = bit-answers x }
+
+pair-answers : (x y : Val) → Answers 1 (lead (x ∷ y ∷ [])) (gateValue NOR (y ∷ gateValue NOR (x ∷ y ∷ []) ∷ []) ∷ []) (gateValue NOR (x ∷ y ∷ []))
+unfolding lead gateValue gate gates byFillings binary
+pair-answers (known true) (known true) = counts (false ∷ []) refl refl
+pair-answers (known false) (known true) = counts (false ∷ []) refl refl
+pair-answers un (known true) = counts (false ∷ []) refl refl
+pair-answers (known true) (known false) = counts (true ∷ []) refl refl
+pair-answers (known false) (known false) = nothing
+pair-answers un (known false) = anything refl
+pair-answers x un = anything refl
+
+two-bits : (later : Meaning Val) (xs : List Val) → length xs ≡ 2 → Answered 1 (lead xs) (runModule none gateOutputs later pairBlock xs)
+unfolding runModule walk pairs lookAll look
+two-bits later [] n = absurd (omega arith)
+two-bits later (x ∷ []) n = absurd (omega arith)
+two-bits later (x ∷ y ∷ z ∷ xs) n = absurd (omega arith)
+two-bits later (x ∷ y ∷ []) n = record { bits = _; empty = _; are = refl; answers = pair-answers x y }
+
+-- Two halves.
+halves : (later : Meaning Val) (j : ℕ) → MeansBlock later j → (xs ys : List Val) → length xs ≡ 2 ^ j → length ys ≡ 2 ^ j
+    → Answered (suc j) (lead (xs ++ ys)) (runModule none gateOutputs later (joinBlock j) (xs ++ ys))
+unfolding runModule joinBlock
+halves later j half xs ys nx ny =
+    let low = half .gives xs nx in
+    let high = half .gives ys ny in
+    let bits = chosen (high .empty) (high .bits) (low .bits) ++ (xorVal (high .empty) (andVal (high .empty) (low .empty)) ∷ []) in
+    let empty = andVal (high .empty) (low .empty) in
+    let size : length (bits ++ (empty ∷ [])) ≡ j + 2 =
+    omega (arith, length-append bits (empty ∷ []), length-answers (join-blocks (low .answers) (high .answers)))
     in
-    let ys-first : Holds none first (2 ^ j) ys =
-        holds-kept keeps-first (before (omega arith)) (holds-at (omega arith) (holds-right xs ys inputs))
-    in
-    let high-second : Holds none second high (hs ++ (eh ∷ [])) =
-        holds-driven gateOutputs later (blockNumber j) high (2 ^ j) (suc j) ys-first ny highs (omega (arith, length-append hs (eh ∷ [])))
-    in
-    let low-second : Holds none second low (ls ++ (el ∷ [])) =
-        holds-kept keeps-second (before (omega (arith, length-append ls (el ∷ [])))) low-first
-    in
-    let eh-second : look none (high + j) second ≡ eh = holds-one (holds-at (omega arith) (holds-right hs (eh ∷ []) high-second)) in
-    rw (walk-append none gateOutputs later (choose (high + j) high low ands ors j))
-    (top-holds later (ors + j) (high + j) (low + j) third (chosen eh hs ls) (omega arith) (omega arith)
-    (keeps-third .kept (high + j) (before (omega arith)) ∙ eh-second)
-    (keeps-third .kept (low + j) (before (omega arith)) ∙ holds-one (holds-at (omega arith) (holds-right ls (el ∷ []) low-second)))
-    (rw nh at (choose-holds later (high + j) high low ands ors second eh hs ls (omega arith) eh-second (before (omega arith))
-    (holds-left hs (eh ∷ []) high-second) (omega arith) (holds-left ls (el ∷ []) low-second) (omega arith) (omega arith)))
-    (omega (arith, length-chosen eh hs ls)))
+    let inputs : length (xs ++ ys) ≡ 2 * 2 ^ j = omega (arith, length-append xs ys) in
+    record {
+      bits = bits;
+      empty = empty;
+      are =
+          look-row (j + 2) size
+          (join-walk later j xs ys (low .bits) (high .bits) (low .empty) (high .empty) _ nx ny (rw inputs at (holds-inputs {none = none} (xs ++ ys)))
+          (low .are) (length-answers (low .answers)) (high .are) (length-answers (high .answers)));
+      answers = rw (lead-append xs ys, ny) (join-blocks (low .answers) (high .answers));
+    }
+
+block-answered : (later : Meaning Val) (j : ℕ) → MeansBlock later j → (xs : List Val) → length xs ≡ 2 ^ suc j
+    → Answered (suc j) (lead xs) (runModule none gateOutputs later (block j) xs)
+unfolding block
+block-answered later zero half xs n = two-bits later xs n
+block-answered later (suc j) half xs n =
+    let q = 2 ^ suc j in
+    rw (take-append-drop q xs) at
+    (halves later (suc j) half (take q xs) (drop q xs) (omega (arith, length-take q xs, pow-suc 2 (suc j)))
+    (omega (arith, length-drop q xs, pow-suc 2 (suc j))))
+
+block-number : (j : ℕ) → block j .number ≡ 33 + j
+unfolding block joinBlock
+block-number zero = refl
+block-number (suc j) = refl
+
+-- A number finds the first module that has it.
+run-first : (m : Module) (ms : List Module) (number : ℕ) (vs : List Val) → number ≡ m .number
+    → run none gateOutputs (m ∷ ms) number vs ≡ runModule none gateOutputs (run none gateOutputs ms) m vs
+unfolding run
+run-first m ms number vs e = rw (eq-eqb number (m .number) e)
+
+run-later : (m : Module) (ms : List Module) (number : ℕ) (vs : List Val) → (number ≡ m .number → ⊥)
+    → run none gateOutputs (m ∷ ms) number vs ≡ run none gateOutputs ms number vs
+unfolding run
+run-later m ms number vs e = rw (ne-eqb number (m .number) e)
+
+refer-block : (later : Meaning Val) (j : ℕ) (vs : List Val) → apply gateOutputs later (blockNumber (suc j)) vs ≡ later (33 + j) vs
+unfolding blockNumber
+refer-block later j vs = rw (le-ltb (33 + j) 16 (omega arith))
+
+-- Every level up to the largest of the blocks.
+next-level : (k : ℕ) → ((i : ℕ) → i ≤ k → MeansBlock (run none gateOutputs (blocks k)) i) → (j : ℕ) → j ≤ suc k
+    → MeansBlock (run none gateOutputs (block k ∷ blocks k)) j
+next-level k smaller zero h = one-bit _
+next-level k smaller (suc j) h =
+    record { gives = λ xs n. rw (refer-block (run none gateOutputs (block k ∷ blocks k)) j xs) (go (eqb j k) refl xs n) }
+  where
+    go : (same : Bool) → eqb j k ≡ same → (xs : List Val) → length xs ≡ 2 ^ suc j
+        → Answered (suc j) (lead xs) (run none gateOutputs (block k ∷ blocks k) (33 + j) xs)
+    go true e xs n =
+        let same = eqb-true j k e in
+        rw (run-first (block k) (blocks k) (33 + j) xs (omega (arith, block-number k)), same)
+        (block-answered (run none gateOutputs (blocks k)) k (smaller k (omega arith)) xs (rw same at n))
+    go false e xs n =
+        let other = eqb-false j k e in
+        rw (
+          run-later (block k) (blocks k) (33 + j) xs (λ f. other (omega (arith, block-number k))),
+          ← refer-block (run none gateOutputs (blocks k)) j xs,
+        )
+        (smaller (suc j) (omega arith) .gives xs n)
+
+first-level : (later : Meaning Val) (j : ℕ) → j ≤ 0 → MeansBlock later j
+first-level later zero h = one-bit later
+first-level later (suc j) h = absurd (omega arith)
+
+pub blocks-answer : (k j : ℕ) → j ≤ k → MeansBlock (run none gateOutputs (blocks k)) j
+unfolding blocks
+blocks-answer zero j h = first-level (run none gateOutputs []) j h
+blocks-answer (suc k) j h = next-level k (blocks-answer k) j h

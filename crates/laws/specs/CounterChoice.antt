@@ -10,7 +10,7 @@ use Rattle.meaning.specs.Values.{Val, known}
 use Rattle.meaning.specs.Gates.{gateValue}
 use Rattle.meaning.specs.Evaluation.{Env, Meaning, look, lookAll, pairs, walk, gateOutputs}
 use Rattle.meaning.specs.Counter.{OR, AND, choose}
-use Rattle.laws.specs.NetRows.{Outside, before, behind, outside-part, outside-apart, Holds, nothing, value, Keeps, look-bound, look-other, holds-kept, keeps-bound}
+use Rattle.laws.specs.NetRows.{Outside, before, behind, outside-part, outside-apart, Holds, end, value, Keeps, look-bound, look-other, holds-kept, keeps-bound}
 use Rattle.laws.specs.CounterValues.{andVal, orVal, chosen}
 
 abbrev none : Val
@@ -33,9 +33,11 @@ module _ (later : Meaning Val) where
 
   pub choose-keeps-row : (n e h l a o : ℕ) (env : Env Val) → a + n ≤ o → Keeps none a (o + n) env (ran e h l a o n env)
   choose-keeps-row n e h l a o env fit =
-      record { kept = λ net out. choose-keeps n e h l a o env net
-        (outside-part net 1 a (a + n) (omega arith) (omega arith) (omega arith) (omega arith) out)
-        (outside-part net 1 o (o + n) (omega arith) (omega arith) (omega arith) (omega arith) out) }
+      record {
+        kept = λ net out. choose-keeps n e h l a o env net
+            (outside-part net 1 a (a + n) (omega arith) (omega arith) (omega arith) (omega arith) out)
+            (outside-part net 1 o (o + n) (omega arith) (omega arith) (omega arith) (omega arith) out);
+      }
 
   pub choose-holds : (e h l a o : ℕ) (env : Env Val) (v : Val) (hs ls : List Val) → length hs ≡ length ls
       → look none e env ≡ v → Outside e 1 a (o + length hs)
@@ -43,7 +45,7 @@ module _ (later : Meaning Val) where
       → Holds none env l ls → l + length ls ≤ a → a + length hs ≤ o
       → Holds none (ran e h l a o (length hs) env) o (chosen v hs ls)
   unfolding walk choose pairs lookAll chosen andVal orVal
-  choose-holds e h l a o env v [] [] same is out nothing hf nothing lf fit = nothing
+  choose-holds e h l a o env v [] [] same is out end hf end lf fit = end
   choose-holds e h l a o env v [] (y ∷ ls) same is out hh hf lh lf fit = absurd (omega arith)
   choose-holds e h l a o env v (x ∷ hs) [] same is out hh hf lh lf fit = absurd (omega arith)
   choose-holds e h l a o env v (x ∷ hs) (y ∷ ls) same is out (value hx hh) hf (value ly lh) lf fit =
@@ -52,7 +54,7 @@ module _ (later : Meaning Val) where
       let bit = orVal (look none h first) (look none a first) in
       let second : Env Val = record { net = o; value = bit } ∷ first in
       let kept : Keeps none a (suc o) env second =
-          keeps-bound o bit (omega arith) (omega arith) (keeps-bound a both (omega arith) (omega arith) (record { kept = λ net p. refl }))
+      keeps-bound o bit (omega arith) (omega arith) (keeps-bound a both (omega arith) (omega arith) (record { kept = λ net p. refl }))
       in
       let chosen-bit : bit ≡ orVal x (andVal v y) = cc (look-other none h a both env (λ e. omega arith), look-bound none a both env) in
       value

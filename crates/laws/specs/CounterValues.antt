@@ -64,7 +64,7 @@ length-chosen e [] ls = refl
 length-chosen e (h ∷ hs) [] = refl
 length-chosen e (h ∷ hs) (l ∷ ls) = ap suc (length-chosen e hs ls)
 
-length-joined : (e : Val) (hs ls : List Val) (top : Val) → length (chosen e hs ls ++ (top ∷ [])) ≡ suc (length hs)
+pub length-joined : (e : Val) (hs ls : List Val) (top : Val) → length (chosen e hs ls ++ (top ∷ [])) ≡ suc (length hs)
 length-joined e hs ls top = omega (arith, length-append (chosen e hs ls) (top ∷ []), length-chosen e hs ls)
 
 pub chosen-append : (e : Val) (hs more ls : List Val) → length hs ≡ length ls → chosen e (hs ++ more) ls ≡ chosen e hs ls ++ more
@@ -118,15 +118,19 @@ one-on-top : (j room : ℕ) (bs : List Bool) → j ≡ length bs + room
     → Topped j (chosen (known true) (replicate j (known false)) (map known bs) ++ (known true ∷ [])) (2 ^ j + binary bs)
 one-on-top j room bs fits =
     let full : length (bs ++ replicate room false) ≡ j =
-        omega (arith, length-append bs (replicate room false), length-replicate room false)
+    omega (arith, length-append bs (replicate room false), length-replicate room false)
     in
     record {
       bits = bs ++ replicate room false ++ (true ∷ []);
       size = length-top (bs ++ replicate room false) true full;
       reads = rw (binary-one-above (bs ++ replicate room false), binary-zeros-above bs room, full) (omega arith);
       values =
-          rw (chosen-open j room (map known bs) (omega (arith, length-map bs known)), map-append known (bs ++ replicate room false) (true ∷ []),
-          map-append known bs (replicate room false), map-known-zeros room);
+          rw (
+            chosen-open j room (map known bs) (omega (arith, length-map bs known)),
+            map-append known (bs ++ replicate room false) (true ∷ []),
+            map-append known bs (replicate room false),
+            map-known-zeros room,
+          );
     }
 
 zero-on-top : {j : ℕ} (bs : List Bool) (ls : List Val) → length bs ≡ j
@@ -149,9 +153,14 @@ join-blocks {j} (counts bs n b) nothing =
     let t = one-on-top j 0 bs (omega arith) in
     rw (and-open (known false), xor-known true false, t .values) (counts (t .bits) (t .size) (t .reads ∙ ap (λ (z : ℕ). 2 ^ j + z) b))
 join-blocks {j} nothing nothing =
-    rw (and-open (known true), xor-known true true,
-    chosen-open j 0 (replicate j (known false)) (omega (arith, length-replicate j (known false))),
-    append-nil (replicate j (known false)), replicate-append-replicate j 1 (known false), add-one j)
+    rw (
+      and-open (known true),
+      xor-known true true,
+      chosen-open j 0 (replicate j (known false)) (omega (arith, length-replicate j (known false))),
+      append-nil (replicate j (known false)),
+      replicate-append-replicate j 1 (known false),
+      add-one j,
+    )
     nothing
 join-blocks {j} {ls = ls} {el = el} (anything n) nothing =
     anything (length-joined (known true) (replicate j (known false)) ls (xorVal (known true) (andVal (known true) el)) ∙ ap suc (length-replicate j (known false)))

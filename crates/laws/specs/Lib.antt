@@ -12,4 +12,5 @@ pub mod Leading
 pub mod Digits
 pub mod CounterValues
 pub mod CounterChoice
+pub mod CounterJoin
 pub mod CounterBlocks

@@ -55,7 +55,7 @@ outside-apart other f p (behind h) e = omega arith
 
 -- From a net on, the environment holds these values.
 pub data Holds {A : Type 0} (none : A) (env : Env A) : ℕ → List A → Type 0 where
-  nothing : {net : ℕ} → Holds none env net []
+  end : {net : ℕ} → Holds none env net []
   value : {net : ℕ} {v : A} {vs : List A} → look none net env ≡ v → Holds none env (suc net) vs → Holds none env net (v ∷ vs)
 
 -- Outside the nets from one on and before another, two environments hold the same.
@@ -70,13 +70,16 @@ module _ {A : Type 0} {none : A} where
   holds-one (value e rest) = e
 
   -- What a row holds is what looking its nets up gives.
-  pub look-row : {env : Env A} {net : ℕ} {vs : List A} → Holds none env net vs → lookAll none (upFrom net (length vs)) env ≡ vs
+  pub look-row : {env : Env A} {net : ℕ} {vs : List A} (count : ℕ) → length vs ≡ count → Holds none env net vs
+      → lookAll none (upFrom net count) env ≡ vs
   unfolding lookAll upFrom
-  look-row nothing = refl
-  look-row (value {v = v} e rest) = cc (e, look-row rest)
+  look-row zero n end = refl
+  look-row (suc count) n end = absurd (omega arith)
+  look-row zero n (value e rest) = absurd (omega arith)
+  look-row (suc count) n (value e rest) = cc (e, look-row count (omega arith) rest)
 
   pub holds-left : {env : Env A} {net : ℕ} (xs ys : List A) → Holds none env net (xs ++ ys) → Holds none env net xs
-  holds-left [] ys h = nothing
+  holds-left [] ys h = end
   holds-left (x ∷ xs) ys (value e rest) = value e (holds-left xs ys rest)
 
   pub holds-right : {env : Env A} {net : ℕ} (xs ys : List A) → Holds none env net (xs ++ ys) → Holds none env (net + length xs) ys
@@ -100,7 +103,7 @@ module _ {A : Type 0} {none : A} where
 
   pub holds-kept : {from past : ℕ} {old new : Env A} {net : ℕ} {vs : List A} → Keeps none from past old new
       → Outside net (length vs) from past → Holds none old net vs → Holds none new net vs
-  holds-kept k o nothing = nothing
+  holds-kept k o end = end
   holds-kept {from} {past} {net = net} k o (value {vs = vs} e rest) =
       value (k .kept net (outside-part net 1 from past (omega arith) (omega arith) (omega arith) (omega arith) o) ∙ e)
       (holds-kept k (outside-part (suc net) (length vs) from past (omega arith) (omega arith) (omega arith) (omega arith) o) rest)
@@ -124,7 +127,7 @@ module _ {A : Type 0} {none : A} where
 
   pub holds-given : (env : Env A) (net : ℕ) (vs : List A) → Holds none (pairs none (upFrom net (length vs)) vs ++ env) net vs
   unfolding pairs upFrom
-  holds-given env net [] = nothing
+  holds-given env net [] = end
   holds-given env net (v ∷ vs) =
       value (look-bound none net v _)
       (holds-kept (keeps-bound {from = net} {past = suc net} net v (omega arith) (omega arith) (record { kept = λ other o. refl }))
@@ -138,4 +141,4 @@ pub holds-driven : {A : Type 0} {none : A} {env : Env A} (gateMeaning later : Me
     (to takes drives : ℕ) → Holds none env from vs → length vs ≡ takes → apply gateMeaning later number vs ≡ ws → length ws ≡ drives
     → Holds none (pairs none (upFrom to drives) (apply gateMeaning later number (lookAll none (upFrom from takes) env)) ++ env) to ws
 holds-driven {none = none} {env} gateMeaning later number {ws = ws} to takes drives h n e m =
-    rw (← n, look-row h, e, ← m) (holds-given env to ws)
+    rw (look-row takes n h, e, ← m) (holds-given env to ws)

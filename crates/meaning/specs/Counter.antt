@@ -83,11 +83,14 @@ joinBlock j =
           ++ (gateOn (suc top) AND (high + j) (low + j) ∷ gateOn top XOR (high + j) (suc top) ∷ []));
     }
 
--- The blocks up to a level, the largest first.
+-- The block of level j + 1, and the blocks up to a level, the largest first.
+unfoldable pub block : ℕ → Module
+block zero = pairBlock
+block (suc j) = joinBlock (suc j)
+
 unfoldable pub blocks : ℕ → List Module
 blocks zero = []
-blocks (suc zero) = pairBlock ∷ []
-blocks (suc (suc j)) = joinBlock (suc j) ∷ blocks (suc j)
+blocks (suc j) = block j ∷ blocks j
 
 -- The binary digits of a number, low first, up to its highest 1; at most as many as said, and n has at most n.
 unfoldable pub digitsWithin : (most n : ℕ) → List Bool
