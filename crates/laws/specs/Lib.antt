@@ -35,10 +35,4 @@ pub mod Heval
 pub mod WrongEvaluators
 pub mod EvaluationRows
 pub mod Adder
-pub mod NetRows
-pub mod Leading
-pub mod Digits
-pub mod CounterValues
-pub mod CounterChoice
-pub mod CounterJoin
-pub mod CounterBlocks
+pub mod Counter

@@ -5,15 +5,10 @@ use mathlib.Core.Path.{_≡_, refl, ap, _∙_}
 use mathlib.Core.List.{List, [], _∷_, _++_, append-nil}
 use native.Mathlib.Omega.{arith}
 use lib.ListN.{length}
-use borrow.Author.Tests.{eq-eqb, ne-eqb}
 use Rattle.meaning.specs.Syntax.{Occurrence}
 use Rattle.meaning.specs.Evaluation.{Env, Meaning, look, lookAll, pairs, apply, walk}
 use Rattle.meaning.specs.Adder.{upFrom}
-
-pub length-upFrom : (first count : ℕ) → length (upFrom first count) ≡ count
-unfolding upFrom
-length-upFrom first zero = refl
-length-upFrom first (suc n) = ap suc (length-upFrom (suc first) n)
+use Rattle.laws.specs.Adder.Nets.{look-here, look-past}
 
 pub pairs-append : {A : Type 0} (none : A) (ns ms : List ℕ) (xs ys : List A) → length ns ≡ length xs
     → pairs none (ns ++ ms) (xs ++ ys) ≡ pairs none ns xs ++ pairs none ms ys
@@ -28,16 +23,6 @@ pub walk-append : {A : Type 0} (none : A) (gateMeaning later : Meaning A) (os ps
 unfolding walk
 walk-append none gateMeaning later [] ps env = refl
 walk-append none gateMeaning later (o ∷ os) ps env = walk-append none gateMeaning later os ps _
-
--- A net just bound, and another.
-pub look-bound : {A : Type 0} (none : A) (net : ℕ) (v : A) (env : Env A) → look none net (record { net = net; value = v } ∷ env) ≡ v
-unfolding look
-look-bound none net v env = rw (eq-eqb net net refl)
-
-pub look-other : {A : Type 0} (none : A) (net bound : ℕ) (v : A) (env : Env A) → (net ≡ bound → ⊥)
-    → look none net (record { net = bound; value = v } ∷ env) ≡ look none net env
-unfolding look
-look-other none net bound v env apart = rw (ne-eqb net bound apart)
 
 -- A net, or a row of so many, lies outside the nets from one on and before another.
 pub data Outside (net count from past : ℕ) : Type 0 where
@@ -112,7 +97,7 @@ module _ {A : Type 0} {none : A} where
   pub keeps-bound : {from past : ℕ} {old new : Env A} (net : ℕ) (v : A) → from ≤ net → net < past → Keeps none from past old new
       → Keeps none from past old (record { net = net; value = v } ∷ new)
   keeps-bound {new = new} net v f p k =
-      record { kept = λ other o. look-other none other net v new (outside-apart net f p o) ∙ k .kept other o }
+      record { kept = λ other o. look-past none other net v new (outside-apart net f p o) ∙ k .kept other o }
 
   pub keeps-given : (from count : ℕ) (vs : List A) (env : Env A)
       → Keeps none from (from + count) env (pairs none (upFrom from count) vs ++ env)
@@ -129,7 +114,7 @@ module _ {A : Type 0} {none : A} where
   unfolding pairs upFrom
   holds-given env net [] = end
   holds-given env net (v ∷ vs) =
-      value (look-bound none net v _)
+      value (look-here none net v _)
       (holds-kept (keeps-bound {from = net} {past = suc net} net v (omega arith) (omega arith) (record { kept = λ other o. refl }))
       (behind (omega arith)) (holds-given env (suc net) vs))
 

@@ -14,10 +14,10 @@ use Rattle.meaning.specs.Gates.{gate, gates, gateValue}
 use Rattle.meaning.specs.Adder.{upFrom, binary}
 use Rattle.meaning.specs.Evaluation.{Meaning, look, lookAll, pairs, apply, walk, runModule, run, gateOutputs}
 use Rattle.meaning.specs.Counter.{NOT, NOR, blockNumber, pairBlock, joinBlock, block, blocks}
-use Rattle.laws.specs.NetRows.{look-row, holds-inputs}
-use Rattle.laws.specs.Leading.{Lead, lead, lead-append}
-use Rattle.laws.specs.CounterValues.{Answers, counts, nothing, anything, andVal, xorVal, chosen, join-blocks, length-answers, length-joined}
-use Rattle.laws.specs.CounterJoin.{join-walk}
+use Rattle.laws.specs.Counter.Nets.{look-row, holds-inputs}
+use Rattle.laws.specs.Counter.Leading.{Lead, lead, lead-append}
+use Rattle.laws.specs.Counter.Values.{Answers, counts, nothing, anything, andVal, xorVal, chosen, join-blocks, length-answers, length-joined}
+use Rattle.laws.specs.Counter.Join.{join-walk}
 
 abbrev none : Val
 none = known false

@@ -10,8 +10,9 @@ use Rattle.meaning.specs.Values.{Val, known}
 use Rattle.meaning.specs.Gates.{gateValue}
 use Rattle.meaning.specs.Evaluation.{Env, Meaning, look, lookAll, pairs, walk, gateOutputs}
 use Rattle.meaning.specs.Counter.{OR, AND, choose}
-use Rattle.laws.specs.NetRows.{Outside, before, behind, outside-part, outside-apart, Holds, end, value, Keeps, look-bound, look-other, holds-kept, keeps-bound}
-use Rattle.laws.specs.CounterValues.{andVal, orVal, chosen}
+use Rattle.laws.specs.Adder.Nets.{look-here, look-past}
+use Rattle.laws.specs.Counter.Nets.{Outside, before, behind, outside-part, outside-apart, Holds, end, value, Keeps, holds-kept, keeps-bound}
+use Rattle.laws.specs.Counter.Values.{andVal, orVal, chosen}
 
 abbrev none : Val
 none = known false
@@ -28,8 +29,8 @@ module _ (later : Meaning Val) where
       choose-keeps n e (suc h) (suc l) (suc a) (suc o) _ net
       (outside-part net 1 (suc a) (suc a + n) (omega arith) (omega arith) (omega arith) (omega arith) p)
       (outside-part net 1 (suc o) (suc o + n) (omega arith) (omega arith) (omega arith) (omega arith) q)
-      ∙ (look-other none net o _ _ (outside-apart o (omega arith) (omega arith) q)
-      ∙ look-other none net a _ env (outside-apart a (omega arith) (omega arith) p))
+      ∙ (look-past none net o _ _ (outside-apart o (omega arith) (omega arith) q)
+      ∙ look-past none net a _ env (outside-apart a (omega arith) (omega arith) p))
 
   pub choose-keeps-row : (n e h l a o : ℕ) (env : Env Val) → a + n ≤ o → Keeps none a (o + n) env (ran e h l a o n env)
   choose-keeps-row n e h l a o env fit =
@@ -56,10 +57,10 @@ module _ (later : Meaning Val) where
       let kept : Keeps none a (suc o) env second =
       keeps-bound o bit (omega arith) (omega arith) (keeps-bound a both (omega arith) (omega arith) (record { kept = λ net p. refl }))
       in
-      let chosen-bit : bit ≡ orVal x (andVal v y) = cc (look-other none h a both env (λ e. omega arith), look-bound none a both env) in
+      let chosen-bit : bit ≡ orVal x (andVal v y) = cc (look-past none h a both env (λ e. omega arith), look-here none a both env) in
       value
       (choose-keeps (length hs) e (suc h) (suc l) (suc a) (suc o) second o (behind (omega arith)) (before (omega arith))
-      ∙ (look-bound none o bit first ∙ chosen-bit))
+      ∙ (look-here none o bit first ∙ chosen-bit))
       (choose-holds e (suc h) (suc l) (suc a) (suc o) second v hs ls (omega arith)
       (kept .kept e (outside-part e 1 a (suc o) (omega arith) (omega arith) (omega arith) (omega arith) out) ∙ is)
       (outside-part e 1 (suc a) (suc o + length hs) (omega arith) (omega arith) (omega arith) (omega arith) out)

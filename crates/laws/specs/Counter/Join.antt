@@ -11,9 +11,10 @@ use Rattle.meaning.specs.Gates.{gate, gates, gateValue}
 use Rattle.meaning.specs.Evaluation.{Env, Meaning, look, lookAll, pairs, apply, walk, runModule, run, gateOutputs}
 use Rattle.meaning.specs.Adder.{upFrom}
 use Rattle.meaning.specs.Counter.{NOT, AND, XOR, gateOn, pairBlock, choose, blockNumber, joinBlock, blocks}
-use Rattle.laws.specs.NetRows.{Outside, before, behind, Holds, end, value, Keeps, look-bound, look-other, holds-at, holds-one, holds-left, holds-right, holds-both, holds-kept, keeps-given, keeps-bound, holds-driven, walk-append}
-use Rattle.laws.specs.CounterValues.{andVal, orVal, xorVal, chosen, length-chosen}
-use Rattle.laws.specs.CounterChoice.{ran, choose-keeps-row, choose-holds}
+use Rattle.laws.specs.Adder.Nets.{look-here, look-past}
+use Rattle.laws.specs.Counter.Nets.{Outside, before, behind, Holds, end, value, Keeps, holds-at, holds-one, holds-left, holds-right, holds-both, holds-kept, keeps-given, keeps-bound, holds-driven, walk-append}
+use Rattle.laws.specs.Counter.Values.{andVal, orVal, xorVal, chosen, length-chosen}
+use Rattle.laws.specs.Counter.Choice.{ran, choose-keeps-row, choose-holds}
 
 abbrev none : Val
 none = known false
@@ -32,13 +33,13 @@ top-holds later top high low env bits {eh} {el} hf lf he le held ends =
     keeps-bound top bit (omega arith) (omega arith)
     (keeps-bound (suc top) empty (omega arith) (omega arith) (record { kept = λ net o. refl }))
     in
-    let empty-is : look none (suc top) first ≡ andVal eh el = cc (look-bound none (suc top) empty env) in
-    let high-is : look none high first ≡ eh = cc (look-other none high (suc top) empty env (λ e. omega arith)) in
+    let empty-is : look none (suc top) first ≡ andVal eh el = cc (look-here none (suc top) empty env) in
+    let high-is : look none high first ≡ eh = cc (look-past none high (suc top) empty env (λ e. omega arith)) in
     rw (append-snoc bits (xorVal eh (andVal eh el)) (andVal eh el ∷ []))
     (holds-both bits (xorVal eh (andVal eh el) ∷ andVal eh el ∷ []) (holds-kept kept (before (omega arith)) held)
     (holds-at (omega arith)
-    (value (look-bound none top bit first ∙ ap₂ xorVal high-is empty-is)
-    (value (look-other none (suc top) top bit first (λ e. omega arith) ∙ empty-is) end))))
+    (value (look-here none top bit first ∙ ap₂ xorVal high-is empty-is)
+    (value (look-past none (suc top) top bit first (λ e. omega arith) ∙ empty-is) end))))
 
 pub join-walk : (later : Meaning Val) (j : ℕ) (xs ys ls hs : List Val) (el eh : Val) (env : Env Val) → length xs ≡ 2 ^ j → length ys ≡ 2 ^ j
     → Holds none env 0 (xs ++ ys) → apply gateOutputs later (blockNumber j) xs ≡ ls ++ (el ∷ []) → length ls ≡ j

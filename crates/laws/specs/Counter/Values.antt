@@ -11,8 +11,8 @@ use Rattle.meaning.specs.Values.{Val, known, un, byFillings}
 use Rattle.meaning.specs.Gates.{B-XOR, gate, gates, gateValue}
 use Rattle.meaning.specs.Adder.{binary}
 use Rattle.meaning.specs.Counter.{OR, XOR, AND}
-use Rattle.laws.specs.Leading.{Lead, found, empty, unsure, over, map-known-zeros}
-use Rattle.laws.specs.Digits.{binary-zeros-above, binary-one-above}
+use Rattle.laws.specs.Counter.Leading.{Lead, found, empty, unsure, over, map-known-zeros}
+use Rattle.laws.specs.Counter.Digits.{binary-zeros-above, binary-one-above}
 
 -- The gates of a join on known arguments.
 unfoldable pub andVal : Val → Val → Val
