@@ -8,3 +8,4 @@ pub mod Values
 pub mod Choice
 pub mod Join
 pub mod Blocks
+pub mod Parts

@@ -84,7 +84,7 @@ halves later j half xs ys nx ny =
       empty = empty;
       are =
           look-row (j + 2) size
-          (join-walk later j xs ys (low .bits) (high .bits) (low .empty) (high .empty) _ nx ny (rw inputs at (holds-inputs {none = none} (xs ++ ys)))
+          (join-walk later j xs ys (low .bits) (high .bits) (low .empty) (high .empty) _ nx ny (holds-inputs (2 * 2 ^ j) (xs ++ ys) inputs)
           (low .are) (length-answers (low .answers)) (high .are) (length-answers (high .answers)));
       answers = rw (lead-append xs ys, ny) (join-blocks (low .answers) (high .answers));
     }

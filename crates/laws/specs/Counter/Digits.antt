@@ -36,6 +36,15 @@ unfolding binary
 binary-below [] = omega arith
 binary-below (b ∷ bs) = omega (arith, binary-below bs, bit-most b, pow-suc 2 (length bs))
 
+-- What a digit at a level is worth.
+pub worth-0 : (j : ℕ) (ds : List Bool) → 2 ^ j * binary (false ∷ ds) ≡ 2 ^ suc j * binary ds
+unfolding binary
+worth-0 j ds = rw (pow-suc 2 j) (omega arith)
+
+pub worth-1 : (j : ℕ) (ds : List Bool) → 2 ^ j * binary (true ∷ ds) ≡ 2 ^ j + 2 ^ suc j * binary ds
+unfolding binary
+worth-1 j ds = rw (pow-suc 2 j) (omega arith)
+
 -- The digits of a number read as the number, and no shorter list of bits does.
 low-digit : (n : ℕ) → bit (eqb (n % 2) 1) ≡ n % 2
 low-digit n = go (eqb (n % 2) 1) refl
@@ -72,3 +81,35 @@ length-within (suc k) n c h = go (eqb n 0) refl c h (length-within k (n / 2))
 pub digits-fewest : (n c : ℕ) → n < 2 ^ c → length (digits n) ≤ c
 unfolding digits
 digits-fewest n c h = length-within n n c h
+
+-- The digits of a level and above, of which the highest is 1. With each digit 1 the count of bits becomes one more than its level, so
+-- that at the end it is as many as there are digits.
+pub data HighestOne : (count level : ℕ) → List Bool → Type 0 where
+  done : {j : ℕ} → HighestOne j j []
+  digit-0 : {count j : ℕ} {ds : List Bool} → HighestOne count (suc j) ds → HighestOne count j (false ∷ ds)
+  digit-1 : {count j : ℕ} {ds : List Bool} → HighestOne (suc j) (suc j) ds → HighestOne count j (true ∷ ds)
+
+digits-of-zero : (most : ℕ) → digitsWithin most 0 ≡ []
+unfolding digitsWithin
+digits-of-zero zero = refl
+digits-of-zero (suc k) = refl
+
+highest-within : (most n count j : ℕ) → 1 ≤ n → n ≤ most → HighestOne count j (digitsWithin most n)
+unfolding digitsWithin
+highest-within zero n count j some h = absurd (omega arith)
+highest-within (suc k) n count j some h =
+    rw (ne-eqb n 0 (omega arith))
+    (go (eqb (n % 2) 1) refl (λ half count j. highest-within k (n / 2) count j half (omega arith)))
+  where
+    last : (m : ℕ) → (1 ≤ m → HighestOne (suc j) (suc j) (digitsWithin k m)) → HighestOne (suc j) (suc j) (digitsWithin k m)
+    last zero further = rw (digits-of-zero k) done
+    last (suc m) further = further (omega arith)
+
+    go : (b : Bool) → eqb (n % 2) 1 ≡ b → (1 ≤ n / 2 → (count j : ℕ) → HighestOne count j (digitsWithin k (n / 2)))
+        → HighestOne count j (b ∷ digitsWithin k (n / 2))
+    go true e further = digit-1 (last (n / 2) (λ half. further half (suc j) (suc j)))
+    go false e further = digit-0 (further (omega (arith, eqb-false (n % 2) 1 e)) count (suc j))
+
+pub highest-digit : (n : ℕ) → 1 ≤ n → HighestOne 0 0 (digits n)
+unfolding digits
+highest-digit n some = highest-within n n 0 0 some (omega arith)

@@ -110,20 +110,23 @@ module _ {A : Type 0} {none : A} where
       keeps-bound from v (omega arith) (omega arith)
       (keeps-within from (from + suc n) (omega arith) (omega arith) (keeps-given (suc from) n vs env))
 
-  pub holds-given : (env : Env A) (net : ℕ) (vs : List A) → Holds none (pairs none (upFrom net (length vs)) vs ++ env) net vs
+  pub holds-given : (env : Env A) (net count : ℕ) (vs : List A) → length vs ≡ count
+      → Holds none (pairs none (upFrom net count) vs ++ env) net vs
   unfolding pairs upFrom
-  holds-given env net [] = end
-  holds-given env net (v ∷ vs) =
+  holds-given env net zero [] n = end
+  holds-given env net zero (v ∷ vs) n = absurd (omega arith)
+  holds-given env net (suc count) [] n = absurd (omega arith)
+  holds-given env net (suc count) (v ∷ vs) n =
       value (look-here none net v _)
       (holds-kept (keeps-bound {from = net} {past = suc net} net v (omega arith) (omega arith) (record { kept = λ other o. refl }))
-      (behind (omega arith)) (holds-given env (suc net) vs))
+      (behind (omega arith)) (holds-given env (suc net) count vs (omega arith)))
 
-  pub holds-inputs : (vs : List A) → Holds none (pairs none (upFrom 0 (length vs)) vs) 0 vs
-  holds-inputs vs = rw append-nil at (holds-given [] 0 vs)
+  pub holds-inputs : (count : ℕ) (vs : List A) → length vs ≡ count → Holds none (pairs none (upFrom 0 count) vs) 0 vs
+  holds-inputs count vs n = rw append-nil at (holds-given [] 0 count vs n)
 
 -- A reference that takes a row of nets and drives a row.
 pub holds-driven : {A : Type 0} {none : A} {env : Env A} (gateMeaning later : Meaning A) (number : ℕ) {from : ℕ} {vs ws : List A}
     (to takes drives : ℕ) → Holds none env from vs → length vs ≡ takes → apply gateMeaning later number vs ≡ ws → length ws ≡ drives
     → Holds none (pairs none (upFrom to drives) (apply gateMeaning later number (lookAll none (upFrom from takes) env)) ++ env) to ws
-holds-driven {none = none} {env} gateMeaning later number {ws = ws} to takes drives h n e m =
-    rw (look-row takes n h, e, ← m) (holds-given env to ws)
+holds-driven {env = env} gateMeaning later number {ws = ws} to takes drives h n e m =
+    rw (look-row takes n h, e) (holds-given env to drives ws m)
