@@ -9,3 +9,4 @@ pub mod Choice
 pub mod Join
 pub mod Blocks
 pub mod Parts
+pub mod Outputs

@@ -105,7 +105,7 @@ block-number zero = refl
 block-number (suc j) = refl
 
 -- A number finds the first module that has it.
-run-first : (m : Module) (ms : List Module) (number : ℕ) (vs : List Val) → number ≡ m .number
+pub run-first : (m : Module) (ms : List Module) (number : ℕ) (vs : List Val) → number ≡ m .number
     → run none gateOutputs (m ∷ ms) number vs ≡ runModule none gateOutputs (run none gateOutputs ms) m vs
 unfolding run
 run-first m ms number vs e = rw (eq-eqb number (m .number) e)

@@ -81,11 +81,11 @@ pub leading-known : (bs : List Bool) → Leading (map known bs) (leadingZeros bs
 unfolding leadingZeros
 leading-known bs = rw (reverse-reverse bs, zero-add) at (high-first (reverse bs) 0)
 
-lead-zeros : (n : ℕ) → lead (replicate n (known false)) ≡ empty
+pub lead-zeros : (n : ℕ) → lead (replicate n (known false)) ≡ empty
 unfolding lead
 lead-zeros zero = refl
 lead-zeros (suc n) = rw (lead-zeros n)
 
-lead-one : (below : List Val) (n : ℕ) → lead (below ++ (known true ∷ replicate n (known false))) ≡ found n
+pub lead-one : (below : List Val) (n : ℕ) → lead (below ++ (known true ∷ replicate n (known false))) ≡ found n
 unfolding lead
 lead-one below n = rw (lead-append below (known true ∷ replicate n (known false)), lead-zeros n, length-replicate n (known false))
