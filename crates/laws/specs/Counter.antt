@@ -10,3 +10,6 @@ pub mod Join
 pub mod Blocks
 pub mod Parts
 pub mod Outputs
+-- Its file.
+pub mod Widths
+pub mod File

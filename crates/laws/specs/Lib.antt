@@ -35,4 +35,5 @@ pub mod Heval
 pub mod WrongEvaluators
 pub mod EvaluationRows
 pub mod Adder
+pub mod WithinTests
 pub mod Counter
