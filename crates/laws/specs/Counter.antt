@@ -13,3 +13,8 @@ pub mod Outputs
 -- Its file.
 pub mod Widths
 pub mod File
+-- Its figures.
+pub mod Table
+pub mod Figures
+-- What went wrong once.
+pub mod Rows
