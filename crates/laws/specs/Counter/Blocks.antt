@@ -1,7 +1,7 @@
 -- What the blocks of a counter answer, by one induction over the level.
 use Prim.Native.Nat.{ℕ, zero, suc, _+_, _*_, _^_, _≤_}
-use mathlib.Core.Path.{_≡_, refl, ap, _∙_}
-use mathlib.Core.Bool.{Bool, true, false, cond}
+use mathlib.Core.Path.{_≡_, refl}
+use mathlib.Core.Bool.{Bool, true, false}
 use mathlib.Core.List.{List, [], _∷_, _++_}
 use native.Mathlib.Omega.{arith}
 use native.Mathlib.Nat.{pow-suc}
@@ -11,12 +11,12 @@ use borrow.Author.Tests.{eqb-true, eqb-false, eq-eqb, ne-eqb, le-ltb}
 use Rattle.meaning.specs.Syntax.{Module}
 use Rattle.meaning.specs.Values.{Val, known, un, byFillings}
 use Rattle.meaning.specs.Gates.{gate, gates, gateValue}
-use Rattle.meaning.specs.Adder.{upFrom, binary}
+use Rattle.meaning.specs.Adder.{binary}
 use Rattle.meaning.specs.Evaluation.{Meaning, look, lookAll, pairs, apply, walk, runModule, run, gateOutputs}
 use Rattle.meaning.specs.Counter.{NOT, NOR, blockNumber, pairBlock, joinBlock, block, blocks}
 use Rattle.laws.specs.Counter.Nets.{look-row, holds-inputs}
 use Rattle.laws.specs.Counter.Leading.{Lead, lead, lead-append}
-use Rattle.laws.specs.Counter.Values.{Answers, counts, nothing, anything, andVal, xorVal, chosen, join-blocks, length-answers, length-joined}
+use Rattle.laws.specs.Counter.Values.{Answers, counts, nothing, anything, andVal, xorVal, chosen, join-blocks, length-answers}
 use Rattle.laws.specs.Counter.Join.{join-walk}
 
 abbrev none : Val

@@ -1,15 +1,14 @@
 -- The row of gates that chooses count bits, run in any environment: on its last nets it leaves the chosen bits, and of the other
 -- nets only those of its ANDs have changed.
 use Prim.Native.Nat.{ℕ, zero, suc, _+_, _≤_}
-use mathlib.Core.Path.{_≡_, refl, ap, _∙_}
-use mathlib.Core.Bool.{Bool, true, false}
-use mathlib.Core.List.{List, [], _∷_, _++_}
+use mathlib.Core.Path.{_≡_, refl, _∙_}
+use mathlib.Core.Bool.{false}
+use mathlib.Core.List.{List, [], _∷_}
 use native.Mathlib.Omega.{arith}
 use lib.ListN.{length}
 use Rattle.meaning.specs.Values.{Val, known}
-use Rattle.meaning.specs.Gates.{gateValue}
 use Rattle.meaning.specs.Evaluation.{Env, Meaning, look, lookAll, pairs, walk, gateOutputs}
-use Rattle.meaning.specs.Counter.{OR, AND, choose}
+use Rattle.meaning.specs.Counter.{choose}
 use Rattle.laws.specs.Adder.Nets.{look-here, look-past}
 use Rattle.laws.specs.Counter.Nets.{Outside, before, behind, outside-part, outside-apart, Holds, end, value, Keeps, holds-kept, keeps-bound}
 use Rattle.laws.specs.Counter.Values.{andVal, orVal, chosen}

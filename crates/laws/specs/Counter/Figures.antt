@@ -1,14 +1,14 @@
 -- The counter's figures: at every width number 32, as many inputs as bits and as many outputs as the width has binary digits, the
 -- fewest that can write it; at each width from 1 to 64 gates of one and two inputs only, at most 4n of them, and a delay of at most
 -- twice the levels of a tree over the bits.
-use Prim.Native.Nat.{ℕ, suc, _+_, _*_, _-_, _^_, _≤_, _<_, max}
-use mathlib.Core.Path.{_≡_, refl, _∙_}
+use Prim.Native.Nat.{ℕ, _*_, _-_, _^_, _≤_, _<_, max}
+use mathlib.Core.Path.{_≡_, refl}
 use mathlib.Core.Bool.{Bool, true, false, _||_}
 use mathlib.Core.List.{List}
 use native.Mathlib.Omega.{arith}
 use lib.Dec.{leb}
 use lib.ListN.{length}
-use borrow.Author.Tests.{leb-true, leb-false}
+use borrow.Author.Tests.{leb-true}
 use Rattle.meaning.specs.Lists.{All}
 use Rattle.meaning.specs.Syntax.{Occurrence, Module}
 use Rattle.meaning.specs.Gates.{gate, gates}

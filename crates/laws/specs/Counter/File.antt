@@ -3,7 +3,6 @@
 use Prim.Native.Nat.{ℕ, _≤_}
 use mathlib.Core.Path.{_≡_, refl, ap, _∙_}
 use mathlib.Core.Bool.{Bool, true, false}
-use mathlib.Core.List.{List}
 use Rattle.meaning.specs.Lists.{All}
 use Rattle.meaning.specs.Gates.{gate, gates}
 use Rattle.meaning.specs.Layout.{each, occurrenceNumbers, moduleNumbers, fileNumbers, numberBytes, encode}

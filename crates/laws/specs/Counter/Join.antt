@@ -1,19 +1,18 @@
 -- The block of two halves, run on any values: what its outputs hold in terms of what its halves answer.
-use Prim.Native.Nat.{ℕ, zero, suc, _+_, _*_, _^_, _≤_, _<_}
-use mathlib.Core.Path.{_≡_, refl, ap, ap₂, _∙_}
-use mathlib.Core.Bool.{Bool, true, false}
+use Prim.Native.Nat.{ℕ, suc, _+_, _*_, _^_, _<_}
+use mathlib.Core.Path.{_≡_, refl, ap₂, _∙_}
+use mathlib.Core.Bool.{false}
 use mathlib.Core.List.{List, [], _∷_, _++_}
 use native.Mathlib.Omega.{arith}
 use lib.Seq.{append-snoc}
 use lib.ListN.{length, length-append}
-use Rattle.meaning.specs.Values.{Val, known, un, byFillings}
-use Rattle.meaning.specs.Gates.{gate, gates, gateValue}
-use Rattle.meaning.specs.Evaluation.{Env, Meaning, look, lookAll, pairs, apply, walk, runModule, run, gateOutputs}
+use Rattle.meaning.specs.Values.{Val, known}
+use Rattle.meaning.specs.Evaluation.{Env, Meaning, look, lookAll, pairs, apply, walk, gateOutputs}
 use Rattle.meaning.specs.Adder.{upFrom}
-use Rattle.meaning.specs.Counter.{NOT, AND, XOR, gateOn, pairBlock, choose, blockNumber, joinBlock, blocks}
+use Rattle.meaning.specs.Counter.{AND, XOR, gateOn, choose, blockNumber, joinBlock}
 use Rattle.laws.specs.Adder.Nets.{look-here, look-past}
-use Rattle.laws.specs.Counter.Nets.{Outside, before, behind, Holds, end, value, Keeps, holds-at, holds-one, holds-left, holds-right, holds-both, holds-kept, keeps-given, keeps-bound, holds-driven, walk-append}
-use Rattle.laws.specs.Counter.Values.{andVal, orVal, xorVal, chosen, length-chosen}
+use Rattle.laws.specs.Counter.Nets.{before, Holds, end, value, Keeps, holds-at, holds-one, holds-left, holds-right, holds-both, holds-kept, keeps-given, keeps-bound, holds-driven, walk-append}
+use Rattle.laws.specs.Counter.Values.{andVal, xorVal, chosen, length-chosen}
 use Rattle.laws.specs.Counter.Choice.{ran, choose-keeps-row, choose-holds}
 
 abbrev none : Val

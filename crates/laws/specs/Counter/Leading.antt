@@ -1,7 +1,7 @@
 -- Leading zeros of bits of which some are unknown. They are known as soon as the highest 1 is known and every bit above it,
 -- whatever lies below, or if all bits are known to be 0.
 use Prim.Native.Nat.{ℕ, zero, suc, _+_}
-use mathlib.Core.Path.{_≡_, refl, ap, _∙_}
+use mathlib.Core.Path.{_≡_, refl, ap}
 use mathlib.Core.Bool.{Bool, true, false}
 use mathlib.Core.List.{List, [], _∷_, _++_, map, map-append, reverse, reverseAux, reverseAux-eq, reverse-reverse}
 use native.Mathlib.Nat.{add-zero, zero-add, add-suc, suc-add}
@@ -40,11 +40,6 @@ over n low unsure = unsure
 over n (found zeros) empty = found (n + zeros)
 over n unsure empty = unsure
 over n empty empty = empty
-
-over-empty : (low : Lead) → over 0 low empty ≡ low
-over-empty (found zeros) = ap found (omega arith)
-over-empty empty = refl
-over-empty unsure = refl
 
 pub lead-append : (low high : List Val) → lead (low ++ high) ≡ over (length high) (lead low) (lead high)
 unfolding lead

@@ -1,7 +1,7 @@
 -- Nets numbered in a row, and the values that an environment holds on them: what an occurrence gives to the nets it drives, and
 -- what it leaves as it was. For values of any kind.
 use Prim.Native.Nat.{ℕ, zero, suc, _+_, _≤_, _<_}
-use mathlib.Core.Path.{_≡_, refl, ap, _∙_}
+use mathlib.Core.Path.{_≡_, refl, _∙_}
 use mathlib.Core.List.{List, [], _∷_, _++_, append-nil}
 use native.Mathlib.Omega.{arith}
 use lib.ListN.{length}

@@ -1,6 +1,6 @@
 -- What the counter yields, for every width from 1 on: as soon as the leading zeros are known they stand on its outputs, in binary, low
 -- first, on as many outputs as the width has binary digits. So do the leading zeros of known bits.
-use Prim.Native.Nat.{ℕ, zero, suc, _+_, _-_, _^_, _*_, _≤_}
+use Prim.Native.Nat.{ℕ, _-_, _≤_}
 use mathlib.Core.Path.{_≡_, refl, _∙_}
 use mathlib.Core.Bool.{Bool, true, false}
 use mathlib.Core.List.{List, [], _∷_, _++_, map}

@@ -1,20 +1,19 @@
 -- Module 32, run on any values: part after part, from the low end, what stands so far answers the count over its bits.
-use Prim.Native.Nat.{ℕ, zero, suc, _+_, _*_, _-_, _^_, _≤_, _<_}
-use mathlib.Core.Path.{_≡_, refl, ap, _∙_}
+use Prim.Native.Nat.{ℕ, suc, _+_, _*_, _-_, _^_, _≤_}
+use mathlib.Core.Path.{_≡_, _∙_}
 use mathlib.Core.Bool.{Bool, true, false}
 use mathlib.Core.List.{List, [], _∷_, _++_, append-assoc, append-nil}
-use native.Mathlib.Nat.{add-zero, add-suc, suc-add, pow-suc}
+use native.Mathlib.Nat.{add-zero, add-suc, suc-add}
 use native.Mathlib.Omega.{arith}
 use lib.ListN.{length, take, drop, length-append, length-take, length-drop, take-append-drop}
-use lib.Seq.{append-snoc}
 use Rattle.meaning.specs.Values.{Val, known}
-use Rattle.meaning.specs.Evaluation.{Env, Meaning, look, lookAll, pairs, apply, walk, gateOutputs}
+use Rattle.meaning.specs.Evaluation.{Env, Meaning, lookAll, pairs, apply, walk, gateOutputs}
 use Rattle.meaning.specs.Adder.{upFrom, binary}
 use Rattle.meaning.specs.Counter.{choose, blockNumber, joinParts, lastCount}
 use Rattle.laws.specs.Adder.Nets.{length-upFrom}
-use Rattle.laws.specs.Counter.Nets.{Outside, before, behind, Holds, Keeps, holds-at, holds-one, holds-left, holds-right, holds-both, holds-kept, keeps-both, keeps-within, keeps-given, holds-given, look-row, pairs-append, walk-append}
+use Rattle.laws.specs.Counter.Nets.{before, behind, Holds, Keeps, holds-at, holds-one, holds-left, holds-right, holds-both, holds-kept, keeps-both, keeps-within, keeps-given, holds-given, look-row, pairs-append, walk-append}
 use Rattle.laws.specs.Counter.Digits.{worth-0, worth-1, HighestOne, done, digit-0, digit-1}
-use Rattle.laws.specs.Counter.Leading.{Lead, lead, lead-append}
+use Rattle.laws.specs.Counter.Leading.{lead, lead-append}
 use Rattle.laws.specs.Counter.Values.{Counts, chosen, chosen-append, length-chosen, length-answers, length-counts, join-counter}
 use Rattle.laws.specs.Counter.Choice.{ran, choose-keeps-row, choose-holds}
 use Rattle.laws.specs.Counter.Blocks.{Answered, MeansBlock}

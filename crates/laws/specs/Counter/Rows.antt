@@ -1,6 +1,6 @@
 -- The release that went wrong cannot be written: of value 1 the counter of width 32 yields 31 and that of width 64 yields 63, of
 -- value 0 they yield 32 and 64.
-use Prim.Native.Nat.{ℕ, _≤_}
+use Prim.Native.Nat.{ℕ}
 use mathlib.Core.Path.{_≡_, refl}
 use mathlib.Core.Bool.{Bool, true, false, _&&_, and-eq-true-iff}
 use mathlib.Core.List.{List, [], _∷_, map}

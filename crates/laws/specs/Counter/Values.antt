@@ -64,7 +64,7 @@ length-chosen e [] ls = refl
 length-chosen e (h ∷ hs) [] = refl
 length-chosen e (h ∷ hs) (l ∷ ls) = ap suc (length-chosen e hs ls)
 
-pub length-joined : (e : Val) (hs ls : List Val) (top : Val) → length (chosen e hs ls ++ (top ∷ [])) ≡ suc (length hs)
+length-joined : (e : Val) (hs ls : List Val) (top : Val) → length (chosen e hs ls ++ (top ∷ [])) ≡ suc (length hs)
 length-joined e hs ls top = omega (arith, length-append (chosen e hs ls) (top ∷ []), length-chosen e hs ls)
 
 pub chosen-append : (e : Val) (hs more ls : List Val) → length hs ≡ length ls → chosen e (hs ++ more) ls ≡ chosen e hs ls ++ more
