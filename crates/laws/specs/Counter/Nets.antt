@@ -29,10 +29,18 @@ pub data Outside (net count from past : ℕ) : Type 0 where
   before : net + count ≤ from → Outside net count from past
   behind : past ≤ net → Outside net count from past
 
-pub outside-part : {net count from past : ℕ} (net′ count′ from′ past′ : ℕ) → net ≤ net′ → net′ + count′ ≤ net + count → from ≤ from′
-    → past′ ≤ past → Outside net count from past → Outside net′ count′ from′ past′
-outside-part net′ count′ from′ past′ a b c d (before h) = before (omega arith)
-outside-part net′ count′ from′ past′ a b c d (behind h) = behind (omega arith)
+pub outside-less : {net count from past : ℕ} (from′ past′ : ℕ) → from ≤ from′ → past′ ≤ past → Outside net count from past
+    → Outside net count from′ past′
+outside-less from′ past′ f p (before h) = before (omega arith)
+outside-less from′ past′ f p (behind h) = behind (omega arith)
+
+outside-first : {net from past : ℕ} (count : ℕ) → Outside net (suc count) from past → Outside net 1 from past
+outside-first count (before h) = before (omega arith)
+outside-first count (behind h) = behind h
+
+outside-rest : {net from past : ℕ} (count : ℕ) → Outside net (suc count) from past → Outside (suc net) count from past
+outside-rest count (before h) = before (omega arith)
+outside-rest count (behind h) = behind (omega arith)
 
 pub outside-apart : {net from past : ℕ} (other : ℕ) → from ≤ other → other < past → Outside net 1 from past → net ≡ other → ⊥
 outside-apart other f p (before h) e = omega arith
@@ -81,17 +89,16 @@ module _ {A : Type 0} {none : A} where
       → Keeps none from past old new
   keeps-both k l = record { kept = λ net o. l .kept net o ∙ k .kept net o }
 
-  pub keeps-within : {from past : ℕ} {old new : Env A} (from′ past′ : ℕ) → from′ ≤ from → past ≤ past′ → Keeps none from past old new
-      → Keeps none from′ past′ old new
+  pub keeps-within : {from past : ℕ} {old new : Env A} (from′ past′ : ℕ) → from′ ≤ from → past ≤ past′
+      → Keeps none from past old new → Keeps none from′ past′ old new
   keeps-within {from} {past} from′ past′ f p k =
-      record { kept = λ net o. k .kept net (outside-part net 1 from past (omega arith) (omega arith) f p o) }
+      record { kept = λ net o. k .kept net (outside-less from past f p o) }
 
   pub holds-kept : {from past : ℕ} {old new : Env A} {net : ℕ} {vs : List A} → Keeps none from past old new
       → Outside net (length vs) from past → Holds none old net vs → Holds none new net vs
   holds-kept k o end = end
-  holds-kept {from} {past} {net = net} k o (value {vs = vs} e rest) =
-      value (k .kept net (outside-part net 1 from past (omega arith) (omega arith) (omega arith) (omega arith) o) ∙ e)
-      (holds-kept k (outside-part (suc net) (length vs) from past (omega arith) (omega arith) (omega arith) (omega arith) o) rest)
+  holds-kept {net = net} k o (value {vs = vs} e rest) =
+      value (k .kept net (outside-first (length vs) o) ∙ e) (holds-kept k (outside-rest (length vs) o) rest)
 
   -- Nets given values hold them, and others keep theirs.
   pub keeps-bound : {from past : ℕ} {old new : Env A} (net : ℕ) (v : A) → from ≤ net → net < past → Keeps none from past old new
@@ -127,6 +134,8 @@ module _ {A : Type 0} {none : A} where
 -- A reference that takes a row of nets and drives a row.
 pub holds-driven : {A : Type 0} {none : A} {env : Env A} (gateMeaning later : Meaning A) (number : ℕ) {from : ℕ} {vs ws : List A}
     (to takes drives : ℕ) → Holds none env from vs → length vs ≡ takes → apply gateMeaning later number vs ≡ ws → length ws ≡ drives
-    → Holds none (pairs none (upFrom to drives) (apply gateMeaning later number (lookAll none (upFrom from takes) env)) ++ env) to ws
+    → Holds none
+    (pairs none (upFrom to drives) (apply gateMeaning later number (lookAll none (upFrom from takes) env)) ++ env)
+    to ws
 holds-driven {env = env} gateMeaning later number {ws = ws} to takes drives h n e m =
     rw (look-row takes n h, e) (holds-given env to drives ws m)

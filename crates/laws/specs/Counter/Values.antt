@@ -14,7 +14,11 @@ use Rattle.meaning.specs.Counter.{OR, XOR, AND}
 use Rattle.laws.specs.Counter.Leading.{Lead, found, empty, unsure, over, map-known-zeros}
 use Rattle.laws.specs.Counter.Digits.{binary-zeros-above, binary-one-above}
 
--- The gates of a join on known arguments.
+-- What a net reads as in evaluation that nothing gave a value.
+abbrev pub unset : Val
+unset = known false
+
+-- The gates of a join, and what they make of known arguments.
 unfoldable pub andVal : Val → Val → Val
 andVal a b = gateValue AND (a ∷ b ∷ [])
 
