@@ -8,6 +8,7 @@ pub mod Values
 pub mod Choice
 pub mod Join
 pub mod Blocks
+pub mod Part
 pub mod Parts
 pub mod Outputs
 -- Its file.
@@ -16,5 +17,5 @@ pub mod File
 -- Its figures.
 pub mod Table
 pub mod Figures
--- What went wrong once.
+-- What is printed of it.
 pub mod Rows

@@ -1,7 +1,7 @@
--- The written leading-zero counter of width n (docs/COUNTER.md draws it): module 32, which the bits enter, and the blocks it is made
--- of, modules 33 and on. A block of level j counts 2^j bits. It answers the count of zeros above their highest 1 in j bits, low
--- first, each of them 0 when the block is empty, and last "empty". Read as one number of j + 1 bits that is the leading zeros
--- of 2^j bits.
+-- The written leading-zero counter of width n (docs/COUNTER.md draws it): module 32, which the bits enter, and the blocks that it is
+-- made of, modules 33 and on. The block of level j counts 2^j bits: it answers the zeros above their highest 1 in j count bits, low
+-- first, all 0 where there is no 1, and last "empty", which says that there is none. Read as one number of j + 1 bits that is
+-- the leading zeros of 2^j bits.
 use Prim.Native.Nat.{ℕ, zero, suc, _+_, _*_, _-_, _^_, _/_, _%_}
 use mathlib.Core.Bool.{Bool, true, false, cond}
 use mathlib.Core.List.{List, [], _∷_, _++_, reverse}
@@ -10,7 +10,7 @@ use lib.ListN.{length}
 use Rattle.meaning.specs.Syntax.{Occurrence, Module}
 use Rattle.meaning.specs.Adder.{upFrom}
 
--- What a counter counts. The zeros that stand first in a list:
+-- What a counter counts: the zeros that stand first in a list,
 unfoldable pub zerosFirst : List Bool → ℕ
 zerosFirst [] = 0
 zerosFirst (true ∷ bs) = 0
@@ -39,8 +39,8 @@ AND = 10
 abbrev pub NOR : ℕ
 NOR = 13
 
--- Count bits of a high and a low part, as many as said, one after the other: the high one, or the low one where the high part is
--- empty. High count bits are 0 there, so that each is OR(high, AND(empty, low)).
+-- Count bits of a high and a low part, one bit after the other: the high part's, or the low one's where the high part is empty. There
+-- the high part's are 0, so that each is OR(high, AND(empty, low)).
 unfoldable pub choose : (empty high low ands ors count : ℕ) → List Occurrence
 choose empty high low ands ors zero = []
 choose empty high low ands ors (suc n) =
@@ -48,12 +48,12 @@ choose empty high low ands ors (suc n) =
     ∷ gateOn ors OR high ands
     ∷ choose empty (suc high) (suc low) (suc ands) (suc ors) n
 
--- The number that refers to the block of a level. One bit is empty when it is not 1, so that block is the gate B-NOT.
+-- The number that refers to the block of a level. One bit has no count bits and is empty when it is not 1: that block is B-NOT.
 unfoldable pub blockNumber : ℕ → ℕ
 blockNumber zero = NOT
 blockNumber (suc j) = 33 + j
 
--- The block of level 1: two bits are empty when neither is 1, and the count is 1 when they are not, yet the high one is 0.
+-- The block of level 1: two bits are empty when neither is 1, and their count is 1 when the high one is 0 and they are not empty.
 abbrev pub pairBlock : Module
 pairBlock =
     record {
@@ -63,8 +63,8 @@ pairBlock =
       occurrences = gateOn 3 NOR 0 1 ∷ gateOn 2 NOR 1 3 ∷ [];
     }
 
--- The block of level j + 1 from two of level j, on the low and on the high half of its bits. It is empty when both are, and the
--- top count bit is 1 when the high half is empty and the block is not.
+-- The block of level j + 1 from two of level j, on the low and on the high half of its bits. It is empty when both halves are, and
+-- its top count bit is 1 when the high half is empty and the block is not.
 unfoldable pub joinBlock : ℕ → Module
 joinBlock j =
     let low = 2 * 2 ^ j in
@@ -100,9 +100,10 @@ digitsWithin (suc k) n = cond (eqb n 0) [] (eqb (n % 2) 1 ∷ digitsWithin k (n 
 unfoldable pub digits : ℕ → List Bool
 digits n = digitsWithin n n
 
--- The bits of a word of width n are cut by the digits of n, from the low end: a digit 1 at level j takes the next 2^j bits as a
--- block. What stands below it answers `count` bits on the nets from `below` on, and is shorter than 2^j: so the count over both
--- is the block's, or 2^j more than the count below where the block is empty. `bits` is how many bits stand below.
+-- The parts of a word of width n, from the low end: for each digit 1 of n, at level j, the next 2^j bits are a block. The `bits` bits
+-- below it are fewer, and are counted in `count` bits on the nets from `below` on. So over both the count is the block's or, where
+-- the block is empty, 2^j more than the count below. The block's count bits from `count` on and its "empty" pass as they are: they
+-- lie on the nets of the new count, behind the ORs.
 unfoldable pub joinParts : (level bits count below : ℕ) → (digits : List Bool) → List Occurrence
 joinParts j bits count below [] = []
 joinParts j bits count below (false ∷ ds) = joinParts (suc j) bits count below ds
@@ -110,7 +111,11 @@ joinParts j bits count below (true ∷ ds) =
     let high = below + count in
     let ands = high + count in
     let ors = ands + count in
-    record { drives = upFrom high count ++ upFrom (ors + count) (suc j - count); refers = blockNumber j; takes = upFrom bits (2 ^ j) }
+    record {
+      drives = upFrom high count ++ upFrom (ors + count) (suc j - count);
+      refers = blockNumber j;
+      takes = upFrom bits (2 ^ j);
+    }
     ∷ (choose (ors + j) high below ands ors count ++ joinParts (suc j) (bits + 2 ^ j) (suc j) ors ds)
 
 -- The first net of the last count.
@@ -119,7 +124,7 @@ lastCount j count below [] = below
 lastCount j count below (false ∷ ds) = lastCount (suc j) count below ds
 lastCount j count below (true ∷ ds) = lastCount (suc j) (suc j) (below + count + count + count) ds
 
--- Module 32: inputs 0 to n - 1, low bit first; outputs, low first, are the last count, as many as n has binary digits.
+-- Module 32: inputs 0 to n - 1, low bit first; its outputs are the last count, low bit first, as many as n has binary digits.
 unfoldable pub counterModule : ℕ → Module
 counterModule n =
     record {

@@ -52,11 +52,11 @@ module _ (later : Meaning Val) where
       let bit = orVal (look unset h first) (look unset a first) in
       let second : Env Val = record { net = o; value = bit } ∷ first in
       let kept : Keeps unset a (suc o) env second =
-          keeps-bound o bit (omega arith) (omega arith)
-          (keeps-bound a both (omega arith) (omega arith) (record { kept = λ net p. refl }))
+      keeps-bound o bit (omega arith) (omega arith)
+      (keeps-bound a both (omega arith) (omega arith) (record { kept = λ net p. refl }))
       in
       let chosen-bit : bit ≡ orVal x (andVal v y) =
-          cc (look-past unset h a both env (λ e. omega arith), look-here unset a both env)
+      cc (look-past unset h a both env (λ e. omega arith), look-here unset a both env)
       in
       value
       (choose-keeps (length hs) e (suc h) (suc l) (suc a) (suc o) second o (behind (omega arith)) (before (omega arith))

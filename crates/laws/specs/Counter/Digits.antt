@@ -82,8 +82,8 @@ pub digits-fewest : (n c : ℕ) → n < 2 ^ c → length (digits n) ≤ c
 unfolding digits
 digits-fewest n c h = length-within n n c h
 
--- The digits of a level and above, of which the highest is 1. With each digit 1 the count of bits becomes one more than its level, so
--- that at the end it is as many as there are digits.
+-- The digits of a level and above, of which the highest is 1. With each digit 1 the count of bits becomes one more than its
+-- level, so that at the end it is as many as there are digits.
 pub data HighestOne : (count level : ℕ) → List Bool → Type 0 where
   done : {j : ℕ} → HighestOne j j []
   digit-0 : {count j : ℕ} {ds : List Bool} → HighestOne count (suc j) ds → HighestOne count j (false ∷ ds)

@@ -51,7 +51,8 @@ abbrev narrowModule : Module → Bool
 narrowModule m = every isNarrow (m .occurrences)
 
 narrow-by-test : (o : Occurrence) → isNarrow o ≡ true → Narrow o
-narrow-by-test o passed = record { narrow = λ isGate. leb-true (gate (o .refers) .arity) 2 (go isGate (leb 16 (o .refers)) refl passed) }
+narrow-by-test o passed =
+    record { narrow = λ isGate. leb-true (gate (o .refers) .arity) 2 (go isGate (leb 16 (o .refers)) refl passed) }
   where
     go : o .refers < 16 → (module-number : Bool) → leb 16 (o .refers) ≡ module-number
         → (module-number || leb (gate (o .refers) .arity) 2) ≡ true → leb (gate (o .refers) .arity) 2 ≡ true
@@ -60,7 +61,8 @@ narrow-by-test o passed = record { narrow = λ isGate. leb-true (gate (o .refers
 
 every-narrow : everyWidth (λ n. every narrowModule (counter n)) 64 ≡ true
 unfolding
-    everyWidth gate gates upFrom choose blockNumber joinBlock block blocks digitsWithin digits joinParts lastCount counterModule counter
+    everyWidth gate gates upFrom choose blockNumber joinBlock block blocks digitsWithin digits joinParts lastCount counterModule
+    counter
 every-narrow = refl
 
 pub counter-narrow : (n : ℕ) → 1 ≤ n → n ≤ 64 → All (λ m. All Narrow (m .occurrences)) (counter n)

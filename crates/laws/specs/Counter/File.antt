@@ -29,20 +29,21 @@ is-good (refused number place) passed = cc
 
 every-accepted : everyWidth (λ n. isGood (fileVerdict (counter n))) 64 ≡ true
 unfolding
-    everyWidth isGood fileVerdict modulesVerdict sizesVerdict moduleVerdict bodyVerdict occurrenceVerdict member disjoint duplicates subset assoc
-    arityOkp driven netCount bodySize expandedSize gate gates upFrom choose blockNumber joinBlock block blocks digitsWithin digits joinParts
-    lastCount counterModule counter
+    everyWidth isGood fileVerdict modulesVerdict sizesVerdict moduleVerdict bodyVerdict occurrenceVerdict member disjoint duplicates
+    subset assoc arityOkp driven netCount bodySize expandedSize gate gates upFrom choose blockNumber joinBlock block blocks digitsWithin
+    digits joinParts lastCount counterModule counter
 every-accepted = refl
 
 every-within : everyWidth (λ n. smallFile (counter n)) 64 ≡ true
 unfolding
-    everyWidth smallFile smallModule smallOccurrence fewNets smallNumber encode fileNumbers moduleNumbers occurrenceNumbers each numberBytes
-    upFrom choose blockNumber joinBlock block blocks digitsWithin digits joinParts lastCount counterModule counter
+    everyWidth smallFile smallModule smallOccurrence fewNets smallNumber encode fileNumbers moduleNumbers occurrenceNumbers each
+    numberBytes upFrom choose blockNumber joinBlock block blocks digitsWithin digits joinParts lastCount counterModule counter
 every-within = refl
 
 -- The check accepts the counter of each width from 1 to 64.
 pub counter-accepted : (n : ℕ) → 1 ≤ n → n ≤ 64 → fileVerdict (counter n) ≡ good
-counter-accepted n some most = is-good (fileVerdict (counter n)) (at-width (λ n. isGood (fileVerdict (counter n))) 64 every-accepted n some most)
+counter-accepted n some most =
+    is-good (fileVerdict (counter n)) (at-width (λ n. isGood (fileVerdict (counter n))) 64 every-accepted n some most)
 
 pub counter-within : (n : ℕ) → 1 ≤ n → n ≤ 64 → Within (counter n)
 counter-within n some most = file-within (counter n) (at-width (λ n. smallFile (counter n)) 64 every-within n some most)

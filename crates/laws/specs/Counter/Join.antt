@@ -16,7 +16,8 @@ use Rattle.laws.specs.Counter.Choice.{ran, choose-keeps-row, choose-hold
 
 -- The last two gates of a block, after its other count bits.
 top-holds : (later : Meaning Val) (top high low : ℕ) (env : Env Val) {first : ℕ} (bits : List Val) {eh el : Val}
-    → high < top → low < top → look unset high env ≡ eh → look unset low env ≡ el → Holds unset env first bits → first + length bits ≡ top
+    → high < top → low < top → look unset high env ≡ eh → look unset low env ≡ el
+    → Holds unset env first bits → first + length bits ≡ top
     → Holds unset (walk unset gateOutputs later (gateOn (suc top) AND high low ∷ gateOn top XOR high (suc top) ∷ []) env) first
     (bits ++ (xorVal eh (andVal eh el) ∷ []) ++ (andVal eh el ∷ []))
 unfolding walk pairs lookAll andVal xorVal
@@ -64,7 +65,8 @@ module _ (later : Meaning Val) (j : ℕ) (env : Env Val) where
 
   abbrev second : Env Val
   second =
-      pairs unset (upFrom high (suc j)) (apply gateOutputs later (blockNumber j) (lookAll unset (upFrom (2 ^ j) (2 ^ j)) first)) ++ first
+      pairs unset (upFrom high (suc j)) (apply gateOutputs later (blockNumber j) (lookAll unset (upFrom (2 ^ j) (2 ^ j)) first))
+      ++ first
 
   abbrev third : Env Val
   third = ran later (high + j) high low ands ors j second
@@ -72,10 +74,12 @@ module _ (later : Meaning Val) (j : ℕ) (env : Env Val) where
   keeps-third : Keeps unset ands (ors + j) second third
   keeps-third = choose-keeps-row later j (high + j) high low ands ors second (omega arith)
 
-  module _ {xs ys ls hs : List Val} {el eh : Val} (halves : Halves later j xs ys ls hs el eh) (inputs : Holds unset env 0 (xs ++ ys)) where
+  module _ {xs ys ls hs : List Val} {el eh : Val} (halves : Halves later j xs ys ls hs el eh)
+      (inputs : Holds unset env 0 (xs ++ ys)) where
     low-first : Holds unset first low (ls ++ (el ∷ []))
     low-first =
-        holds-driven gateOutputs later (blockNumber j) low (2 ^ j) (suc j) (holds-left xs ys inputs) (halves .low-bits) (halves .low-answer)
+        holds-driven gateOutputs later (blockNumber j) low (2 ^ j) (suc j) (holds-left xs ys inputs) (halves .low-bits)
+        (halves .low-answer)
         (omega (arith, length-append ls (el ∷ [])))
 
     ys-first : Holds unset first (2 ^ j) ys

@@ -51,7 +51,8 @@ lead-append [] high = go (lead high)
     go unsure = refl
 lead-append (v ∷ low) high = rw (lead-append low high, length-append low high) (go v (lead low) (lead high))
   where
-    go : (v : Val) (l h : Lead) → under v (length low + length high) (over (length high) l h) ≡ over (length high) (under v (length low) l) h
+    go : (v : Val) (l h : Lead)
+        → under v (length low + length high) (over (length high) l h) ≡ over (length high) (under v (length low) l) h
     go v l (found zeros) = refl
     go v l unsure = refl
     go v (found zeros) empty = refl
@@ -69,7 +70,8 @@ high-first : (bs : List Bool) (n : ℕ) → Leading (map known (reverseAux bs (r
 unfolding zerosFirst
 high-first [] n = rw (map-known-zeros n, add-zero n) (none n)
 high-first (true ∷ bs) n =
-    rw (reverseAux-eq bs (true ∷ replicate n false), map-append known (reverse bs), map-known-zeros n, add-zero n) (one (map known (reverse bs)) n)
+    rw (reverseAux-eq bs (true ∷ replicate n false), map-append known (reverse bs), map-known-zeros n, add-zero n)
+    (one (map known (reverse bs)) n)
 high-first (false ∷ bs) n = rw (add-suc n (zerosFirst bs), ← suc-add n (zerosFirst bs)) (high-first bs (suc n))
 
 pub leading-known : (bs : List Bool) → Leading (map known bs) (leadingZeros bs)

@@ -16,7 +16,8 @@ use Rattle.laws.specs.Counter.Digits.{binary-digits, highest-digit}
 use Rattle.laws.specs.Counter.Leading.{Leading, one, none, found, empty, lead, lead-one, lead-zeros, leading-known}
 use Rattle.laws.specs.Counter.Values.{Counts, counts, nothing, length-counts}
 use Rattle.laws.specs.Counter.Blocks.{run-first, blocks-answer}
-use Rattle.laws.specs.Counter.Parts.{Stands, parts}
+use Rattle.laws.specs.Counter.Part.{Stands}
+use Rattle.laws.specs.Counter.Parts.{parts}
 
 -- Outputs that are known, and read as a number of leading zeros of n bits.
 pub record Counted (n zeros : ℕ) (outputs : List Val) : Type 0 where
@@ -38,14 +39,15 @@ counter-answers n some vs full =
     let k = length (digits n) - 1 in
     rw (run-first (counterModule n) (blocks k) 32 vs refl)
     (read-off (length (digits n)) n (zero-add (length (digits n))) full
-    (parts (run (known false) gateOutputs (blocks k)) k (blocks-answer k) (highest-digit n some) 0 n [] vs _ (omega arith) (omega arith)
-    (omega (arith, binary-digits n)) (holds-inputs n vs full) (omega arith)
+    (parts (run (known false) gateOutputs (blocks k)) k (blocks-answer k) (highest-digit n some) 0 n [] vs _
+    (omega arith) (omega arith) (omega (arith, binary-digits n)) (holds-inputs n vs full) (omega arith)
     (record { outs = []; held = end; answer = nothing [] refl refl })))
 
 reads-found : {n width zeros : ℕ} {outs : List Val} → Counts (length (digits n)) width (found zeros) outs → Counted n zeros outs
 reads-found (counts bs size reads) = record { bits = bs; count = size; reads = reads; known-bits = refl }
 
-reads-empty : {n width zeros : ℕ} {outs : List Val} → width ≡ zeros → Counts (length (digits n)) width empty outs → Counted n zeros outs
+reads-empty : {n width zeros : ℕ} {outs : List Val} → width ≡ zeros → Counts (length (digits n)) width empty outs
+    → Counted n zeros outs
 reads-empty same (nothing bs size reads) = record { bits = bs; count = size; reads = reads ∙ same; known-bits = refl }
 
 -- Known early: where the highest 1 and every bit above it are known, all outputs are known, whatever lies below.
@@ -58,5 +60,6 @@ counter-known-early n some (none zeros) full =
     (rw (lead-zeros zeros) at (counter-answers n some (replicate zeros (known false)) full))
 
 -- On known bits the outputs are the leading zeros.
-pub counter-on-known : (n : ℕ) → 1 ≤ n → (bs : List Bool) → length bs ≡ n → Counted n (leadingZeros bs) (evaluate (counter n) 32 (map known bs))
+pub counter-on-known : (n : ℕ) → 1 ≤ n → (bs : List Bool) → length bs ≡ n
+    → Counted n (leadingZeros bs) (evaluate (counter n) 32 (map known bs))
 counter-on-known n some bs full = counter-known-early n some (leading-known bs) (length-map bs known ∙ full)

@@ -1,5 +1,5 @@
--- The release that went wrong cannot be written: of value 1 the counter of width 32 yields 31 and that of width 64 yields 63, of
--- value 0 they yield 32 and 64.
+-- What is printed of counters. The release that went wrong cannot be written: of value 1 the counter of width 32 yields 31 and that
+-- of width 64 yields 63, of value 0 they yield 32 and 64. And the bytes of width 3.
 use Prim.Native.Nat.{ℕ}
 use mathlib.Core.Path.{_≡_, refl}
 use mathlib.Core.Bool.{Bool, true, false, _&&_, and-eq-true-iff}
@@ -10,7 +10,9 @@ use borrow.Author.Tests.{leb-true, eqb-true}
 use Rattle.meaning.specs.Lists.{All}
 use Rattle.meaning.specs.Values.{known}
 use Rattle.meaning.specs.Evaluation.{evaluate}
-use Rattle.meaning.specs.Counter.{zerosFirst, leadingZeros, counter}
+use Rattle.meaning.specs.Layout.{each, occurrenceNumbers, moduleNumbers, fileNumbers, numberBytes, encode}
+use Rattle.meaning.specs.Adder.{upFrom}
+use Rattle.meaning.specs.Counter.{zerosFirst, leadingZeros, choose, blockNumber, joinBlock, block, blocks, digitsWithin, digits, joinParts, lastCount, counterModule, counter}
 use Rattle.laws.specs.Adder.ByTest.{all-by-test}
 use Rattle.laws.specs.Counter.Outputs.{Counted, counter-on-known}
 
@@ -47,3 +49,13 @@ right-yields r passed =
 pub rows-yield : All Yields rows
 unfolding isRight leadingZeros zerosFirst
 rows-yield = all-by-test isRight right-yields rows refl
+
+-- Width 3, whole, in hexadecimal, 54 bytes, as docs/COUNTER.md prints it.
+pub bytes-at-width-3 : encode (counter 3)
+    ≡ 0x02 ∷ 0x20 ∷ 0x03 ∷ 0x00 ∷ 0x01 ∷ 0x02 ∷ 0x02 ∷ 0x06 ∷ 0x07 ∷ 0x04 ∷ 0x01 ∷ 0x03 ∷ 0x01 ∷ 0x01 ∷ 0x00 ∷ 0x02 ∷ 0x04 ∷ 0x07
+    ∷ 0x21 ∷ 0x02 ∷ 0x01 ∷ 0x02 ∷ 0x01 ∷ 0x05 ∷ 0x0A ∷ 0x02 ∷ 0x07 ∷ 0x03 ∷ 0x01 ∷ 0x06 ∷ 0x05 ∷ 0x02 ∷ 0x04 ∷ 0x05 ∷ 0x21 ∷ 0x02
+    ∷ 0x00 ∷ 0x01 ∷ 0x02 ∷ 0x02 ∷ 0x03 ∷ 0x02 ∷ 0x01 ∷ 0x03 ∷ 0x0D ∷ 0x02 ∷ 0x00 ∷ 0x01 ∷ 0x01 ∷ 0x02 ∷ 0x0D ∷ 0x02 ∷ 0x01 ∷ 0x03 ∷ []
+unfolding
+    encode fileNumbers moduleNumbers occurrenceNumbers each numberBytes upFrom choose blockNumber joinBlock block blocks digitsWithin
+    digits joinParts lastCount counterModule counter
+bytes-at-width-3 = refl

@@ -108,7 +108,8 @@ length-answers (counts bs n b) = length-map bs known ∙ n
 length-answers {j} nothing = length-replicate j (known false)
 length-answers (anything n) = n
 
--- A count under a 1 at place j, and one under a 0: what comes out where the high part of j count bits is empty, and where it is not.
+-- A count under a 1 at place j, and one under a 0: what comes out where the high part of j count bits is empty, and where it is
+-- not.
 record Topped (j : ℕ) (out : List Val) (number : ℕ) : Type 0 where
   bits : List Bool
   size : length bits ≡ suc j
@@ -155,7 +156,8 @@ join-blocks {ls = ls} {el = el} low (counts bs n b) =
     rw (and-shut el, xor-known false false, t .values) (counts (t .bits) (t .size) (t .reads ∙ b))
 join-blocks {j} (counts bs n b) nothing =
     let t = one-on-top j 0 bs (omega arith) in
-    rw (and-open (known false), xor-known true false, t .values) (counts (t .bits) (t .size) (t .reads ∙ ap (λ (z : ℕ). 2 ^ j + z) b))
+    rw (and-open (known false), xor-known true false, t .values)
+    (counts (t .bits) (t .size) (t .reads ∙ ap (λ (z : ℕ). 2 ^ j + z) b))
 join-blocks {j} nothing nothing =
     rw (
       and-open (known true),
@@ -167,8 +169,11 @@ join-blocks {j} nothing nothing =
     )
     nothing
 join-blocks {j} {ls = ls} {el = el} (anything n) nothing =
-    anything (length-joined (known true) (replicate j (known false)) ls (xorVal (known true) (andVal (known true) el)) ∙ ap suc (length-replicate j (known false)))
-join-blocks {ls = ls} {hs = hs} {el = el} {eh = eh} low (anything n) = anything (length-joined eh hs ls (xorVal eh (andVal eh el)) ∙ ap suc n)
+    anything
+    (length-joined (known true) (replicate j (known false)) ls (xorVal (known true) (andVal (known true) el))
+    ∙ ap suc (length-replicate j (known false)))
+join-blocks {ls = ls} {hs = hs} {el = el} {eh = eh} low (anything n) =
+    anything (length-joined eh hs ls (xorVal eh (andVal eh el)) ∙ ap suc n)
 
 -- What the counter over so many bits answers in n outputs.
 pub data Counts (n width : ℕ) : Lead → List Val → Type 0 where
@@ -182,8 +187,8 @@ length-counts (nothing bs n b) = length-map bs known ∙ n
 length-counts (anything n) = n
 
 -- A block above a shorter counter.
-pub join-counter : {n width j : ℕ} {low high : Lead} {ls hs : List Val} {e : Val} → n ≤ j → Counts n width low ls → Answers j high hs e
-    → Counts (suc j) (width + 2 ^ j) (over (2 ^ j) low high) (chosen e hs ls ++ (e ∷ []))
+pub join-counter : {n width j : ℕ} {low high : Lead} {ls hs : List Val} {e : Val} → n ≤ j → Counts n width low ls
+    → Answers j high hs e → Counts (suc j) (width + 2 ^ j) (over (2 ^ j) low high) (chosen e hs ls ++ (e ∷ []))
 join-counter {ls = ls} short low (counts bs n b) =
     let t = zero-on-top bs ls n in
     rw (t .values) (counts (t .bits) (t .size) (t .reads ∙ b))
