@@ -36,7 +36,11 @@ unfolding binary
 binary-below [] = omega arith
 binary-below (b ∷ bs) = omega (arith, binary-below bs, bit-most b, pow-suc 2 (length bs))
 
--- What a digit at a level is worth.
+-- What the digits from a level on are worth.
+pub worth-none : (j : ℕ) → 2 ^ j * binary [] ≡ 0
+unfolding binary
+worth-none j = omega arith
+
 pub worth-0 : (j : ℕ) (ds : List Bool) → 2 ^ j * binary (false ∷ ds) ≡ 2 ^ suc j * binary ds
 unfolding binary
 worth-0 j ds = rw (pow-suc 2 j) (omega arith)

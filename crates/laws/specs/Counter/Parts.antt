@@ -11,7 +11,7 @@ use Rattle.meaning.specs.Evaluation.{Env, Meaning, walk, gateOutputs}
 use Rattle.meaning.specs.Adder.{binary}
 use Rattle.meaning.specs.Counter.{choose, joinParts, lastCount}
 use Rattle.laws.specs.Counter.Nets.{before, Holds, holds-at, holds-left, holds-right, holds-kept, walk-append}
-use Rattle.laws.specs.Counter.Digits.{worth-0, worth-1, HighestOne, done, digit-0, digit-1}
+use Rattle.laws.specs.Counter.Digits.{worth-none, worth-0, worth-1, HighestOne, done, digit-0, digit-1}
 use Rattle.laws.specs.Counter.Values.{unset}
 use Rattle.laws.specs.Counter.Blocks.{MeansBlock}
 use Rattle.laws.specs.Counter.Part.{Stands, afterPart, keeps-part, part}
@@ -36,10 +36,11 @@ pub parts : (later : Meaning Val) (k : ℕ) → ((j : ℕ) → j ≤ k → Means
     → Stands count below lows env
     → Stands (j + length ds) (lastCount j count below ds) (lows ++ xs)
     (walk unset gateOutputs later (joinParts j bits count below ds) env)
-unfolding lastCount joinParts walk binary
+unfolding lastCount joinParts walk
 parts later k means (done {j = j}) bits below lows [] env levels short size held fits stands =
     rw (append-nil lows, add-zero j) stands
-parts later k means (done {j = j}) bits below lows (x ∷ xs) env levels short size held fits stands = absurd (omega arith)
+parts later k means (done {j = j}) bits below lows (x ∷ xs) env levels short size held fits stands =
+    absurd (omega (arith, worth-none j))
 parts later k means (digit-0 {count = count} {j = j} {ds = ds} highest) bits below lows xs env levels short size held fits stands =
     rw (add-suc j (length ds), ← suc-add j (length ds))
     (parts later k means highest bits below lows xs env (omega arith) (omega arith) (size ∙ worth-0 j ds) held fits stands)
