@@ -1,8 +1,11 @@
--- The counter's file at each width from 1 to 64: the check accepts it, it is within the ceilings, so that reading its bytes gives it
--- back, and the check accepts those.
+-- The counter's file at each width from 1 to 64: the check accepts it; its numbers are few, and within the ceilings; so reading its
+-- bytes gives it back, and the check accepts those.
 use Prim.Native.Nat.{ℕ, _≤_}
 use mathlib.Core.Path.{_≡_, refl, ap, _∙_}
 use mathlib.Core.Bool.{Bool, true, false}
+use lib.Dec.{leb}
+use lib.ListN.{length}
+use borrow.Author.Tests.{leb-true}
 use Rattle.meaning.specs.Lists.{All}
 use Rattle.meaning.specs.Gates.{gate, gates}
 use Rattle.meaning.specs.Layout.{each, occurrenceNumbers, moduleNumbers, fileNumbers, numberBytes, encode}
@@ -40,6 +43,12 @@ unfolding
     numberBytes upFrom choose blockNumber joinBlock block blocks digitsWithin digits joinParts lastCount counterModule counter
 every-within = refl
 
+every-short : everyWidth (λ n. leb (length (fileNumbers (counter n))) 773) 64 ≡ true
+unfolding
+    everyWidth fileNumbers moduleNumbers occurrenceNumbers each upFrom choose blockNumber joinBlock block blocks digitsWithin digits
+    joinParts lastCount counterModule counter
+every-short = refl
+
 -- The check accepts the counter of each width from 1 to 64.
 pub counter-accepted : (n : ℕ) → 1 ≤ n → n ≤ 64 → fileVerdict (counter n) ≡ good
 counter-accepted n some most =
@@ -50,6 +59,11 @@ counter-within n some most = file-within (counter n) (at-width (λ n. smallFile 
 
 pub counter-numbers-small : (n : ℕ) → 1 ≤ n → n ≤ 64 → All Small (fileNumbers (counter n))
 counter-numbers-small n some most = numbers-small (counter n) (counter-within n some most .modules)
+
+pub counter-numbers-few : (n : ℕ) → 1 ≤ n → n ≤ 64 → length (fileNumbers (counter n)) ≤ 773
+counter-numbers-few n some most =
+    leb-true (length (fileNumbers (counter n))) 773
+    (at-width (λ n. leb (length (fileNumbers (counter n))) 773) 64 every-short n some most)
 
 pub counter-read-back : (n : ℕ) → 1 ≤ n → n ≤ 64 → read (encode (counter n)) ≡ holds (counter n)
 counter-read-back n some most = round-trip (counter n) (counter-within n some most)

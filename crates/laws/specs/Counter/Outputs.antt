@@ -41,7 +41,7 @@ counter-answers n some vs full =
     (read-off (length (digits n)) n (zero-add (length (digits n))) full
     (parts (run (known false) gateOutputs (blocks k)) k (blocks-answer k) (highest-digit n some) 0 n [] vs _
     (omega arith) (omega arith) (omega (arith, binary-digits n)) (holds-inputs n vs full) (omega arith)
-    (record { outs = []; held = end; answer = nothing [] refl refl })))
+    (record { outs = []; held = end; answer = nothing [] refl refl }) .stands))
 
 reads-found : {n width zeros : ℕ} {outs : List Val} → Counts (length (digits n)) width (found zeros) outs → Counted n zeros outs
 reads-found (counts bs size reads) = record { bits = bs; count = size; reads = reads; known-bits = refl }
