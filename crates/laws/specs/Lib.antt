@@ -39,3 +39,5 @@ pub mod Calls
 pub mod Adder
 pub mod Flatten
 pub mod Figures
+pub mod WithinTests
+pub mod Counter
