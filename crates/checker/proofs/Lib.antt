@@ -8,3 +8,4 @@ pub mod Judgement
 pub mod Laying
 pub mod Resolving
 pub mod Setting
+pub mod Stepping
