@@ -9,3 +9,4 @@ pub mod Laying
 pub mod Resolving
 pub mod Setting
 pub mod Stepping
+pub mod Walking
