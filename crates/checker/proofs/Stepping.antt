@@ -9,27 +9,17 @@ use Rattle.meaning.specs.Layout.{occurrenceNumbers}
 use Rattle.meaning.specs.Verdict.{good, occurrenceVerdict}
 use Rattle.nets.specs.Slots.{Knows, slotOf}
 use Rattle.nets.specs.Bounds.{below-more}
-use Rattle.nets.specs.Members.{disjoint-same, subset-same}
 use Rattle.image.specs.Stands.{Stands}
 use Rattle.image.specs.Laid.{laid}
 use Rattle.image.specs.Pieces.{occurrence-at}
-use Rattle.image.specs.Resolved.{referTo, resolveOccurrence}
+use Rattle.image.specs.Resolved.{resolveOccurrence}
 use Rattle.checker.specs.Scene.{Scene, Same, Writable}
 use Rattle.checker.specs.Occurrences.{Judged, Written}
 use Rattle.checker.specs.Bodies.{StepReady, Advanced, Stepped}
 use Rattle.checker.specs.declared.references.Reference.{Reference}
 use Rattle.checker.specs.declared.references.Reference.the-variants as reference
 use Rattle.checker.specs.declared.bodies.Walked.the-variants as walked
-use Rattle.checker.proofs.Progress.{FineNets, fine-nets}
-
--- What is fine against some signals is fine against the same nets.
-fine-against : {o : Occurrence} (nets signals : List ℕ) → Same nets signals → FineNets o signals → FineNets o nets
-fine-against {o} nets signals same f =
-    record {
-      distinct = f .distinct;
-      fresh = disjoint-same nets signals (same .same) (o .drives) ∙ f .fresh;
-      bound = subset-same nets signals (same .same) (o .takes) ∙ f .bound;
-    }
+use Rattle.checker.proofs.Fine.{fine-nets, fine-against}
 
 -- With the judgement r of the occurrence at a place.
 module _
@@ -78,7 +68,7 @@ module _
             → (occurrenceVerdict k o signals (s .later) ≡ good) × Advanced (s .ms) o nets at base image slots′ marks′ image′ next (filled + driven)
         steps s o nets signals stands knows count same =
             let verdict = judged e .judges s o nets signals stands knows same in
-            let f = fine-against nets signals same (fine-nets k o signals (s .later) (verdict .0)) in
+            let f = fine-against same (fine-nets k o signals (s .later) (verdict .0)) in
             let set = w .written o nets stands knows count (f .distinct) (f .fresh) (f .bound) in
             let p = occurrence-at o stands in (
               verdict .0,

@@ -1,12 +1,10 @@
 -- The walk over all occurrences of a module, turn by turn: what holds before each, and what its ways out say.
 use Prim.Native.Nat.{ℕ, _+_, _≤_, _<_}
 use mathlib.Core.Path.{_≡_, refl, sym, subst, _∙_}
-use mathlib.Core.List.{List, _++_}
+use mathlib.Core.List.{List}
 use native.Mathlib.Omega.{arith}
 use lib.ListN.{length, length-append}
-use Rattle.meaning.specs.Syntax.{Module}
 use Rattle.meaning.specs.Layout.{each, occurrenceNumbers}
-use Rattle.meaning.specs.Limits.{driven}
 use Rattle.meaning.specs.Verdict.{occurrenceVerdict}
 use Rattle.nets.specs.Slots.{Knows, Below}
 use Rattle.image.specs.Stands.{Stands}
@@ -15,7 +13,7 @@ use Rattle.checker.specs.Scene.{Scene, Tables}
 use Rattle.checker.specs.Bodies.{Placed, StepReady, Stepped, Steps, BodyReady, BodyChecked}
 use Rattle.checker.specs.declared.bodies.Walked.{Walked}
 use Rattle.checker.specs.declared.bodies.Walked.the-variants.{Fine, Broken}
-use Rattle.checker.proofs.Progress.{Progress, Current, begin, current, stop, advance, finish}
+use Rattle.checker.proofs.Progress.{Progress, Current, nets, begin, current, stop, advance, finish}
 
 -- A scene whose occurrences, so many, stand at the place where the walk begins, with a table that knows its inputs.
 pub record Course (numbers starts first slots : List ℕ) (base k from count inputs : ℕ) : Type 0 where
@@ -35,7 +33,6 @@ module _
       pub slotsLong : length slots ≡ length slots₀
       pub marksLong : length marks ≡ length marks₀
       pub imageLong : length image ≡ length image₀
-      pub turn : i ≤ count
       pub progress :
           (g : Course numbers starts first slots₀ base k from count inputs)
           → Progress numbers (g .scene .ms) (g .scene .m) (g .scene .later) k from i count at filled base image₀ slots image
@@ -54,7 +51,6 @@ module _ {numbers starts first slots₀ : List ℕ} {base k from count inputs : 
         slotsLong = refl;
         marksLong = refl;
         imageLong = refl;
-        turn = omega arith;
         progress = λ g.
             begin numbers (g .scene .ms) (g .scene .m) (g .scene .later) k from count inputs base slots₀ image₀ (g .stands) (g .all) (g .knows) (g .wide);
       }
@@ -76,19 +72,15 @@ module _ {numbers starts first slots₀ : List ℕ} {base k from count inputs : 
         abbrev here : (g : Course numbers starts first slots₀ base k from count inputs) → Current (w .progress g)
         here g = current (w .progress g) more
 
-        abbrev nets : Course numbers starts first slots₀ base k from count inputs → List ℕ
-        nets g = g .scene .m .inputs ++ driven (w .progress g .finished)
-
         -- It is there to be checked.
-        pub step-ready : BodyReady numbers starts first slots₀ base k from count inputs marks₀ image₀ → StepReady numbers starts first slots base k at filled marks image
-        step-ready h =
-            let g = course h in
+        pub step-ready : Course numbers starts first slots₀ base k from count inputs → StepReady numbers starts first slots base k at filled marks image
+        step-ready g =
             record {
-              scene = h .scene;
+              scene = g .scene;
               placed = w .placed;
               o = here g .o;
               stands = here g .stands;
-              nets = nets g;
+              nets = nets (w .progress g);
               knows = w .progress g .knows;
               count = w .progress g .wide;
             }
@@ -96,13 +88,13 @@ module _ {numbers starts first slots₀ : List ℕ} {base k from count inputs : 
         module _ {slots′ marks′ image′ : List ℕ} {r : Walked} (step : Stepped numbers starts first slots base k at filled image slots′ marks′ image′ r) where
           stepped :
               {q : Walked} → r ≡ q → (g : Course numbers starts first slots₀ base k from count inputs)
-              → Steps q (occurrenceVerdict k (here g .o) (w .progress g .signals) (g .scene .later)) k (g .scene .ms) (here g .o) (nets g) at base image slots′ marks′ image′
+              → Steps q (occurrenceVerdict k (here g .o) (w .progress g .signals) (g .scene .later)) k (g .scene .ms) (here g .o) (nets (w .progress g)) at base image slots′ marks′ image′
           stepped e g =
               let p = w .progress g in
               subst
-              (λ (q : Walked). Steps q (occurrenceVerdict k (here g .o) (p .signals) (g .scene .later)) k (g .scene .ms) (here g .o) (nets g) at base image slots′ marks′ image′)
+              (λ (q : Walked). Steps q (occurrenceVerdict k (here g .o) (p .signals) (g .scene .later)) k (g .scene .ms) (here g .o) (nets (w .progress g)) at base image slots′ marks′ image′)
               e
-              (step .steps (g .scene) (here g .o) (nets g) (p .signals) (here g .stands) (p .knows) (p .wide) (p .same))
+              (step .steps (g .scene) (here g .o) (nets (w .progress g)) (p .signals) (here g .stands) (p .knows) (p .wide) (p .same))
 
           -- It breaks a rule.
           pub walk-stops : {rule : ℕ} → r ≡ Broken rule → BodyChecked numbers starts first slots₀ base k from count inputs image₀ slots′ marks′ image′ (Broken rule)
@@ -115,11 +107,10 @@ module _ {numbers starts first slots₀ : List ℕ} {base k from count inputs : 
 
           -- It is fine: the next turn's.
           pub walk-goes-on :
-              {next filled′ : ℕ} → BodyReady numbers starts first slots₀ base k from count inputs marks₀ image₀ → r ≡ Fine next filled′
+              {next filled′ : ℕ} → Course numbers starts first slots₀ base k from count inputs → r ≡ Fine next filled′
               → length slots′ ≡ length slots → length marks′ ≡ length marks → length image′ ≡ length image
               → Walking numbers starts first k from count base inputs slots₀ marks₀ image₀ slots′ marks′ image′ next filled′ (i + 1)
-          walk-goes-on {next} {filled′} h e slotsLong marksLong imageLong =
-              let own = course h in
+          walk-goes-on {next} {filled′} own e slotsLong marksLong imageLong =
               let a = stepped e own .1 in
               let p = w .progress own in
               let o = here own .o in
@@ -127,7 +118,7 @@ module _ {numbers starts first slots₀ : List ℕ} {base k from count inputs : 
                 placed =
                     record {
                       tables = tables (w .placed .tables);
-                      behind = omega (arith, a .behind, a .count, p .wide, length-append (nets own) (o .drives), occurrence-at o (here own .stands) .long, w .placed .behind);
+                      behind = omega (arith, a .behind, a .count, p .wide, length-append (nets p) (o .drives), occurrence-at o (here own .stands) .long, w .placed .behind);
                       marked = a .marked;
                       based = w .placed .based;
                       room = omega (arith, w .placed .room);
@@ -135,7 +126,6 @@ module _ {numbers starts first slots₀ : List ℕ} {base k from count inputs : 
                 slotsLong = slotsLong ∙ w .slotsLong;
                 marksLong = marksLong ∙ w .marksLong;
                 imageLong = imageLong ∙ w .imageLong;
-                turn = omega arith;
                 progress = λ g.
                     let b = stepped e g in
                     advance (w .progress g) (here g) (b .0) (omega (arith, g .stands .within, w .placed .room, w .imageLong)) (b .1);
