@@ -1,0 +1,53 @@
+-- `checker::bodies::check_occurrence` meets its contract: an occurrence that is judged good can be set down, and then the walk has
+-- advanced. Assumes nothing.
+use mathlib.Core.Path.{refl}
+use native.Mathlib.Omega.{arith}
+use borrow.Author.Needs.{needs}
+use Rattle.checker.proofs.Parts.{driven-inside}
+use Rattle.checker.proofs.Stepping.{step-broken, writable, step-fine}
+use Rattle.checker.proofs.bodies.check_occurrence.Statement.{statement}
+use Rattle.checker.proofs.bodies.check_occurrence.Tie as tie
+
+entry-requires : tie.Need-entry-requires
+entry-requires c κs =
+    let p = c .before .before .before .before .before .before .before .before .before .before .before .before .before .before .pre in
+    omega (arith, driven-inside (p .o) (p .stands) refl)
+
+add-nets : tie.Need-add-nets
+add-nets c =
+    let p = c .before .before .before .before .before .before .before .before .before .before .before .before .before .before .before .pre in
+    omega (arith, p .placed, p .placed .tables, driven-inside (p .o) (p .stands) (c .entry .ensures))
+
+write-occurrence-requires : tie.Need-write-occurrence-requires
+write-occurrence-requires c κs =
+    let t = c .before .before .before in
+    let j = t .before .before .before .before .before in
+    writable (j .judge-occurrence .ensures) (t .before .refers .given .1) (j .before .before .before .before .before .before .before .before .before .pre)
+
+returns : tie.Need-returns
+returns c = step-broken (c .before .before .before .before .before .judge-occurrence .ensures) (c .before .rule .given .1)
+
+returns-2 : tie.Need-returns-2
+returns-2 c =
+    let w = c .before .before .before .before in
+    let n = w .before .before .before in
+    step-fine (n .before .before .before .before .before .before .judge-occurrence .ensures) (n .before .before .refers .given .1) (n .entry .ensures)
+    (w .write-occurrence .ensures)
+
+pub check-occurrence-spec : {M : Type 1} → statement M
+check-occurrence-spec =
+    tie.close
+    (tie.spec
+    (λ c κs. search needs)
+    (λ c. search needs)
+    (λ c. search needs)
+    entry-requires
+    add-nets
+    write-occurrence-requires
+    (λ c. search needs)
+    (λ c. search needs)
+    returns
+    (λ c. search needs)
+    (λ c. search needs)
+    (λ c. search needs)
+    returns-2)
