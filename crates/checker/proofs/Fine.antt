@@ -22,7 +22,9 @@ kept : (n p : ℕ) (b : Bool) (v : Verdict) → keep n p b v ≡ good → (b ≡
 kept n p true v e = (refl, e)
 kept n p false v e = let z : _≡_ {A = ℕ} 0 1 = cc in absurd (omega (arith, z))
 
-pub fine-nets : (k : ℕ) (o : Occurrence) (signals : List ℕ) (later : List Module) → occurrenceVerdict k o signals later ≡ good → FineNets o signals
+pub fine-nets :
+    (k : ℕ) (o : Occurrence) (signals : List ℕ) (later : List Module)
+    → occurrenceVerdict k o signals later ≡ good → FineNets o signals
 unfolding occurrenceVerdict
 fine-nets k o signals later e =
     let first = kept 11 k _ _ e in

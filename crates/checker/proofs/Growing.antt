@@ -20,13 +20,16 @@ use Rattle.image.specs.Resolved.{resolveOccurrence, slotIn, netsOf}
 pub driven-append : (os ps : List Occurrence) → driven (os ++ ps) ≡ driven os ++ driven ps
 unfolding driven
 driven-append [] ps = refl
-driven-append (o ∷ os) ps = ap (λ (l : List ℕ). o .drives ++ l) (driven-append os ps) ∙ sym (append-assoc (o .drives) (driven os) (driven ps))
+driven-append (o ∷ os) ps =
+    ap (λ (l : List ℕ). o .drives ++ l) (driven-append os ps) ∙ sym (append-assoc (o .drives) (driven os) (driven ps))
 
 pub driven-snoc : (os : List Occurrence) (o : Occurrence) → driven (os ++ (o ∷ [])) ≡ driven os ++ o .drives
 unfolding driven
 driven-snoc os o = driven-append os (o ∷ []) ∙ ap (λ (l : List ℕ). driven os ++ l) (append-nil (o .drives))
 
-numbers-snoc : (os : List Occurrence) (o : Occurrence) → each occurrenceNumbers (os ++ (o ∷ [])) ≡ each occurrenceNumbers os ++ occurrenceNumbers o
+numbers-snoc :
+    (os : List Occurrence) (o : Occurrence)
+    → each occurrenceNumbers (os ++ (o ∷ [])) ≡ each occurrenceNumbers os ++ occurrenceNumbers o
 unfolding each
 numbers-snoc os o =
     each-append occurrenceNumbers os (o ∷ []) ∙ ap (λ (l : List ℕ). each occurrenceNumbers os ++ l) (append-nil (occurrenceNumbers o))
@@ -40,7 +43,8 @@ length-of-snoc os o = ap length (numbers-snoc os o) ∙ length-append (each occu
 pub laid-snoc :
     (slot refer : ℕ → ℕ) (image : List ℕ) (from : ℕ) (os : List Occurrence) (o : Occurrence) {at : ℕ}
     → at ≡ from + length (each occurrenceNumbers os) → at + length (occurrenceNumbers o) ≤ length image
-    → laid (laid image from (each occurrenceNumbers (map (resolveOccurrence slot refer) os))) at (occurrenceNumbers (resolveOccurrence slot refer o))
+    → laid (laid image from (each occurrenceNumbers (map (resolveOccurrence slot refer) os))) at
+    (occurrenceNumbers (resolveOccurrence slot refer o))
     ≡ laid image from (each occurrenceNumbers (map (resolveOccurrence slot refer) (os ++ (o ∷ []))))
 laid-snoc slot refer image from os o {at} e fits =
     ap (λ (p : ℕ). laid (laid image from before) p piece) place

@@ -24,7 +24,8 @@ use Rattle.checker.proofs.Fine.{fine-nets, fine-against}
 use Rattle.checker.proofs.Growing.{driven-append, driven-snoc, length-of-snoc, laid-snoc, resolved-alike}
 
 pub record Progress
-    (numbers : List ℕ) (ms : List Module) (m : Module) (later : List Module) (k from i count at filled base : ℕ) (image₀ slots image : List ℕ) : Type 0 where
+    (numbers : List ℕ) (ms : List Module) (m : Module) (later : List Module) (k from i count at filled base : ℕ)
+    (image₀ slots image : List ℕ) : Type 0 where
   pub finished : List Occurrence
   pub left : List Occurrence
   pub whole : m .occurrences ≡ finished ++ left
@@ -41,7 +42,8 @@ pub record Progress
 -- Before the first occurrence.
 pub begin :
     (numbers : List ℕ) (ms : List Module) (m : Module) (later : List Module) (k from count inputs base : ℕ) (slots image : List ℕ)
-    → Stands numbers from (each occurrenceNumbers (m .occurrences)) → count ≡ length (m .occurrences) → Knows slots base (m .inputs) → inputs ≡ length (m .inputs)
+    → Stands numbers from (each occurrenceNumbers (m .occurrences)) → count ≡ length (m .occurrences)
+    → Knows slots base (m .inputs) → inputs ≡ length (m .inputs)
     → Progress numbers ms m later k from 0 count from inputs base image slots image
 unfolding driven each
 begin numbers ms m later k from count inputs base slots image stands all knows wide =
@@ -86,7 +88,9 @@ module _
               o = o;
               rest = rest;
               is = e;
-              stands = stands-front (each occurrenceNumbers rest) (subst (λ (l : List Occurrence). Stands numbers at (each occurrenceNumbers l)) e (p .stands));
+              stands =
+                  stands-front (each occurrenceNumbers rest)
+                  (subst (λ (l : List Occurrence). Stands numbers at (each occurrenceNumbers l)) e (p .stands));
             }
 
     -- A broken rule is the verdict on all.
@@ -135,7 +139,8 @@ module _
 
         all-nets : m .inputs ++ driven (p .finished ++ (o ∷ [])) ≡ nets ++ o .drives
         all-nets =
-            ap (λ (l : List ℕ). m .inputs ++ l) (driven-snoc (p .finished) o) ∙ sym (append-assoc (m .inputs) (driven (p .finished)) (o .drives))
+            ap (λ (l : List ℕ). m .inputs ++ l) (driven-snoc (p .finished) o)
+            ∙ sym (append-assoc (m .inputs) (driven (p .finished)) (o .drives))
 
         same : (x : ℕ) → member x (m .inputs ++ driven (p .finished ++ (o ∷ []))) ≡ member x (o .drives ++ p .signals)
         same x =
@@ -155,7 +160,9 @@ module _
         bound : subset (o .takes) nets ≡ true
         bound = fine-against (p .same) (fine-nets k o (p .signals) later good-so-far) .bound
 
-        all-long : length (each occurrenceNumbers (m .occurrences)) ≡ length (each occurrenceNumbers (p .finished ++ (o ∷ []))) + length (each occurrenceNumbers (c .rest))
+        all-long :
+            length (each occurrenceNumbers (m .occurrences))
+            ≡ length (each occurrenceNumbers (p .finished ++ (o ∷ []))) + length (each occurrenceNumbers (c .rest))
         all-long =
             ap (λ (l : List Occurrence). length (each occurrenceNumbers l)) whole
             ∙ ap length (each-append occurrenceNumbers (p .finished ++ (o ∷ [])) (c .rest))
@@ -166,7 +173,8 @@ module _
             a .written
             ∙ ap₂ (λ (im : List ℕ) (r : Occurrence). laid im at (occurrenceNumbers r)) (p .written)
             (resolved-alike (referTo ms) m nets o (driven (c .rest)) module-nets bound)
-            ∙ laid-snoc (slotIn m) (referTo ms) image₀ from (p .finished) o (p .place) (omega (arith, p .place, length-of-snoc (p .finished) o, all-long))
+            ∙ laid-snoc (slotIn m) (referTo ms) image₀ from (p .finished) o (p .place)
+            (omega (arith, p .place, length-of-snoc (p .finished) o, all-long))
 
     -- Behind the last occurrence.
     pub finish : count ≤ i → {marks : List ℕ} → Below (at + 1) marks

@@ -23,7 +23,8 @@ use Rattle.checker.proofs.Fine.{fine-nets, fine-against}
 
 -- With the judgement r of the occurrence at a place.
 module _
-    {numbers starts first slots : List ℕ} {base k at : ℕ} {marks′ : List ℕ} {r : Reference} (j : Judged numbers starts first slots base k at marks′ r)
+    {numbers starts first slots : List ℕ} {base k at : ℕ} {marks′ : List ℕ} {r : Reference}
+    (j : Judged numbers starts first slots base k at marks′ r)
   where
     judged : {q : Reference} → r ≡ q → Judged numbers starts first slots base k at marks′ q
     judged e = subst (λ (q : Reference). Judged numbers starts first slots base k at marks′ q) e j
@@ -63,9 +64,10 @@ module _
     step-fine {refers} {filled} {next} {driven} {image} {slots′} {image′} e d w = record { steps = steps }
       where
         steps :
-            (s : Scene numbers starts first k) (o : Occurrence) (nets signals : List ℕ) → Stands numbers at (occurrenceNumbers o) → Knows slots base nets
-            → filled ≡ length nets → Same nets signals
-            → (occurrenceVerdict k o signals (s .later) ≡ good) × Advanced (s .ms) o nets at base image slots′ marks′ image′ next (filled + driven)
+            (s : Scene numbers starts first k) (o : Occurrence) (nets signals : List ℕ)
+            → Stands numbers at (occurrenceNumbers o) → Knows slots base nets → filled ≡ length nets → Same nets signals
+            → (occurrenceVerdict k o signals (s .later) ≡ good)
+            × Advanced (s .ms) o nets at base image slots′ marks′ image′ next (filled + driven)
         steps s o nets signals stands knows count same =
             let verdict = judged e .judges s o nets signals stands knows same in
             let f = fine-against same (fine-nets k o signals (s .later) (verdict .0)) in
@@ -76,7 +78,10 @@ module _
                 behind = set .2;
                 count = omega (arith, length-append nets (o .drives));
                 knows = set .0;
-                written = set .1 ∙ ap (λ (n : ℕ). laid image at (occurrenceNumbers (resolveOccurrence (λ x. slotOf x (nets ++ o .drives)) (λ x. n) o))) (verdict .1);
+                written =
+                    set .1
+                    ∙ ap (λ (n : ℕ). laid image at (occurrenceNumbers (resolveOccurrence (λ x. slotOf x (nets ++ o .drives)) (λ x. n) o)))
+                    (verdict .1);
                 marked = below-more (next + 1) (omega arith) (j .marked);
               },
             )

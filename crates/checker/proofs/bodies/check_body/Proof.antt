@@ -71,8 +71,8 @@ loop-again c =
     let s = fine c in
     let t = turn s in
     let kept = s .check-occurrence .kept .1 .1 .1 .1 .1 in
-    walk-goes-on (t .before .loop .inv) (t .loop-test .taken) (s .check-occurrence .ensures) (course (entered t .pre)) (c .before .next .given .1) (kept .0)
-    (kept .1 .1 .1 .0) (kept .1 .1 .1 .1 .0)
+    walk-goes-on (t .before .loop .inv) (t .loop-test .taken) (s .check-occurrence .ensures) (course (entered t .pre))
+    (c .before .next .given .1) (kept .0) (kept .1 .1 .1 .0) (kept .1 .1 .1 .1 .0)
 
 returns-2 : tie.Need-returns-2 Inv-loop μ-loop
 returns-2 c = walk-ends (c .before .loop .inv) (c .loop-test .left)
