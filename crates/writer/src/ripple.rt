@@ -1,0 +1,68 @@
+// The ripple adder to order (document 01, 'Written modules').
+ghost use Prim.Native.Nat.{_+_, _*_, _≤_};
+ghost use lib.ListN.{length};
+ghost use Rattle.meaning.specs.Layout.{fileNumbers};
+ghost use Rattle.meaning.specs.Adder.{adder as rippled};
+ghost use Rattle.meaning.specs.Calls.{writing};
+ghost use Rattle.laws.specs.Adder.Numbers.{cellsNumbers};
+ghost use Rattle.encoder.specs.Filled.{Put, Filled};
+ghost use Rattle.writer.specs.Answers.{Answers};
+use crate::answer::Writing;
+use crate::answer::answer;
+use crate::pieces::copy;
+use crate::pieces::run;
+
+// Modules 17 and 16, the full and the half adder, which are the same at each width.
+const LAST_MODULES: [u16; 49] = [
+    17, 3, 0, 1, 2, 2, 3, 4, 3,
+    2, 5, 6, 16, 2, 0, 1,
+    2, 3, 7, 16, 2, 5, 2,
+    1, 4, 5, 2, 6, 7,
+    16, 2, 0, 1, 2, 2, 3, 2,
+    1, 2, 9, 2, 0, 1,
+    1, 3, 10, 2, 0, 1,
+];
+
+// One cell for each bit: it drives a sum and a carry by module 17, on a's bit, b's bit and the carry before.
+fn cells(width: u16, numbers: &mut [u16], at: usize) -> usize
+    requires { ⌜ (width ≤ 64) × (at + 8 * width ≤ length (now numbers)) ⌝ }
+    ensures { λ r. ⌜ Put (cellsNumbers 1 (width + 1) (2 * width + 1) (3 * width + 1) 0 width) (now (numbers .entry)) at (now (numbers .exit)) r ⌝ }
+{
+    let mut at = at;
+    let mut before: u16 = 0;
+    for i in 0..width {
+        let sum = 2 * width + 1 + i;
+        let carry = 3 * width + 1 + i;
+        at = copy(&[2, sum, carry, 17, 3, 1 + i, width + 1 + i, before], numbers, at);
+        before = carry;
+    }
+    at
+}
+
+// The numbers of the whole file, and how many they are.
+fn file(width: u16, numbers: &mut [u16]) -> usize
+    requires { ⌜ (width ≤ 64) × (760 ≤ length (now numbers)) ⌝ }
+    ensures { λ r. ⌜ Filled (fileNumbers (rippled width)) (now (numbers .entry)) (now (numbers .exit)) r ⌝ }
+{
+    let inputs = copy(&[3, 18, 2 * width + 1], numbers, 0);
+    let outputs = run(0, 2 * width + 1, numbers, inputs);
+    let sums = copy(&[width + 1], numbers, outputs);
+    let last = run(2 * width + 1, width, numbers, sums);
+    let bits = copy(&[4 * width, width], numbers, last);
+    let modules = cells(width, numbers, bits);
+    copy(&LAST_MODULES, numbers, modules)
+}
+
+// Writes the adder of a width into `out`: 23 where the width is outside 1 to 64, then 22.
+pub fn adder(width: usize, out: &mut [u8]) -> Writing
+    ensures { λ r. ⌜ Answers (writing rippled width (length (now (out .entry)))) (now (out .entry)) (now (out .exit)) r ⌝ }
+{
+    match width {
+        1..=64 => {
+            let mut numbers = [0u16; 768];
+            let count = file(width as u16, &mut numbers);
+            answer(&numbers[..count], out)
+        }
+        _ => Writing::Refused { number: 23, place: 0 },
+    }
+}
