@@ -77,3 +77,17 @@ module _ {whole before after : List ℕ} {at next : ℕ} where
 
   pub laying-all : Laying whole [] before at after next → Put whole before at after next
   laying-all l = rw (← l .all, append-nil) (l .put)
+
+-- At the front of a list.
+pub laying-front : {whole before after : List ℕ} {next : ℕ} → Laying whole [] before 0 after next → Filled whole before after next
+laying-front l =
+    let put = laying-all l in
+    record { size = omega arith; holds = put .holds }
+
+-- What was laid there is the front of the list.
+module _ {xs before after : List ℕ} {count : ℕ} (f : Filled xs before after count) where
+  pub front-within : count ≤ length after
+  front-within = rw (f .holds, length-append) (omega arith)
+
+  pub take-front : take count after ≡ xs
+  take-front = rw (f .holds) (take-at xs (drop count before) count (sym (f .size)))

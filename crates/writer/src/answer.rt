@@ -17,7 +17,10 @@ pub fn answer(numbers: &[u16], out: &mut [u8]) -> Writing
     ensures { λ r. ⌜ Answers (fitting (each numberBytes (now (numbers .entry))) (length (now (out .entry)))) (now (out .entry)) (now (out .exit)) r ⌝ }
 {
     if out.len() < encoder::needed(numbers) {
-        return Writing::Refused { number: 22, place: 0 };
+        return Writing::Refused {
+            number: 22,
+            place: 0,
+        };
     }
     Writing::Wrote(encoder::write(numbers, out))
 }

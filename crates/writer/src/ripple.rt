@@ -14,13 +14,55 @@ use crate::pieces::run;
 
 // Modules 17 and 16, the full and the half adder, which are the same at each width.
 const LAST_MODULES: [u16; 49] = [
-    17, 3, 0, 1, 2, 2, 3, 4, 3,
-    2, 5, 6, 16, 2, 0, 1,
-    2, 3, 7, 16, 2, 5, 2,
-    1, 4, 5, 2, 6, 7,
-    16, 2, 0, 1, 2, 2, 3, 2,
-    1, 2, 9, 2, 0, 1,
-    1, 3, 10, 2, 0, 1,
+    17,
+    3,
+    0,
+    1,
+    2,
+    2,
+    3,
+    4,
+    3,
+    2,
+    5,
+    6,
+    16,
+    2,
+    0,
+    1,
+    2,
+    3,
+    7,
+    16,
+    2,
+    5,
+    2,
+    1,
+    4,
+    5,
+    2,
+    6,
+    7,
+    16,
+    2,
+    0,
+    1,
+    2,
+    2,
+    3,
+    2,
+    1,
+    2,
+    9,
+    2,
+    0,
+    1,
+    1,
+    3,
+    10,
+    2,
+    0,
+    1,
 ];
 
 // One cell for each bit: it drives a sum and a carry by module 17, on a's bit, b's bit and the carry before.
@@ -29,12 +71,16 @@ fn cells(width: u16, numbers: &mut [u16], at: usize) -> usize
     ensures { λ r. ⌜ Put (cellsNumbers 1 (width + 1) (2 * width + 1) (3 * width + 1) 0 width) (now (numbers .entry)) at (now (numbers .exit)) r ⌝ }
 {
     let mut at = at;
-    let mut before: u16 = 0;
+    let mut carry_in: u16 = 0;
     for i in 0..width {
         let sum = 2 * width + 1 + i;
         let carry = 3 * width + 1 + i;
-        at = copy(&[2, sum, carry, 17, 3, 1 + i, width + 1 + i, before], numbers, at);
-        before = carry;
+        at = copy(
+            &[2, sum, carry, 17, 3, 1 + i, width + 1 + i, carry_in],
+            numbers,
+            at,
+        );
+        carry_in = carry;
     }
     at
 }
@@ -63,6 +109,9 @@ pub fn adder(width: usize, out: &mut [u8]) -> Writing
             let count = file(width as u16, &mut numbers);
             answer(&numbers[..count], out)
         }
-        _ => Writing::Refused { number: 23, place: 0 },
+        _ => Writing::Refused {
+            number: 23,
+            place: 0,
+        },
     }
 }

@@ -1,30 +1,30 @@
+-- `answer::answer` meets its contract: the encoder's count decides 22, and only then a byte is written. Assumes nothing.
+use Prim.Native.Nat.{_≤_, _<_}
+use native.Mathlib.Omega.{arith}
 use borrow.Author.Needs.{needs}
+use lib.ListN.{length}
+use Rattle.meaning.specs.Layout.{each, numberBytes}
+use Rattle.writer.proofs.Answering.{answers-short, answers-file}
 use Rattle.writer.proofs.answer.answer.Statement.{statement}
 use Rattle.writer.proofs.answer.answer.Tie as tie
-use Rattle.writer.proofs.answer.answer.Reads as reads
-use Rattle.writer.proofs.answer.answer.Lts as lts
-use Rattle.encoder.proofs.needed.Reads as needed-reads
-use Rattle.encoder.proofs.write.Reads as write-reads
 
--- src/answer.rt:19:20
-needed-requires : tie.Need-needed-requires
-needed-requires c κs = search needs
-
--- src/answer.rt:20:9
 returns : tie.Need-returns
-returns c = ?
+returns c =
+    let start = c .before .before .before .before .args in
+    answers-short (each numberBytes (start .numbers .now)) (start .out .now) (omega arith)
 
--- src/answer.rt:22:20
+-- Where the buffer is long enough.
+room : (c : tie.Else1)
+    → length (each numberBytes (c .before .before .before .before .args .numbers .now)) ≤ length (c .before .before .before .before .args .out .now)
+room c = omega arith
+
 write-requires : tie.Need-write-requires
-write-requires c κs = search needs
+write-requires c κs = record { small = c .before .before .before .before .before .pre; room = room (c .before) }
 
--- src/answer.rt:15:1
-same-length : tie.Need-same-length
-same-length c = search needs
-
--- src/answer.rt:15:1
 returns-2 : tie.Need-returns-2
-returns-2 c = ?
+returns-2 c =
+    let start = c .before .before .before .before .before .before .before .before .args in
+    answers-file (each numberBytes (start .numbers .now)) (start .out .now) (room (c .before .before .before .before)) (c .before .before .write .ensures)
 
 pub answer-spec : {M : Type 1} → statement M
-answer-spec = tie.close (tie.spec needed-requires returns write-requires same-length returns-2)
+answer-spec = tie.close (tie.spec (λ c κs. search needs) returns write-requires (λ c. search needs) returns-2)
