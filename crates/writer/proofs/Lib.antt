@@ -1,6 +1,7 @@
 -- Facts that the functions' proofs share.
+pub mod Puts
 pub mod Laying
 pub mod Runs
 pub mod Cells
-pub mod Whole
+pub mod Modules
 pub mod Answering

@@ -1,8 +1,8 @@
 // The ripple adder to order (document 01, 'Written modules').
 ghost use Prim.Native.Nat.{_+_, _*_, _≤_};
 ghost use lib.ListN.{length};
-ghost use Rattle.meaning.specs.Layout.{fileNumbers};
-ghost use Rattle.meaning.specs.Adder.{adder as rippled};
+ghost use Rattle.meaning.specs.Layout.{moduleNumbers, fileNumbers};
+ghost use Rattle.meaning.specs.Adder.{adder as adderOf, rippleAdder, fullAdder, halfAdder};
 ghost use Rattle.meaning.specs.Calls.{writing};
 ghost use Rattle.laws.specs.Adder.Numbers.{cellsNumbers};
 ghost use Rattle.encoder.specs.Filled.{Put, Filled};
@@ -12,58 +12,26 @@ use crate::answer::answer;
 use crate::pieces::copy;
 use crate::pieces::run;
 
-// Modules 17 and 16, the full and the half adder, which are the same at each width.
-const LAST_MODULES: [u16; 49] = [
-    17,
-    3,
-    0,
-    1,
-    2,
-    2,
-    3,
-    4,
-    3,
-    2,
-    5,
-    6,
-    16,
-    2,
-    0,
-    1,
-    2,
-    3,
-    7,
-    16,
-    2,
-    5,
-    2,
-    1,
-    4,
-    5,
-    2,
-    6,
-    7,
-    16,
-    2,
-    0,
-    1,
-    2,
-    2,
-    3,
-    2,
-    1,
-    2,
-    9,
-    2,
-    0,
-    1,
-    1,
-    3,
-    10,
-    2,
-    0,
-    1,
-];
+// Module 16, the half adder: sum and carry of two bits.
+fn half_adder(numbers: &mut [u16], at: usize) -> usize
+    requires { ⌜ at + 20 ≤ length (now numbers) ⌝ }
+    ensures { λ r. ⌜ Put (moduleNumbers halfAdder) (now (numbers .entry)) at (now (numbers .exit)) r ⌝ }
+{
+    let sum = copy(&[16, 2, 0, 1, 2, 2, 3, 2], numbers, at);
+    let carry = copy(&[1, 2, 9, 2, 0, 1], numbers, sum);
+    copy(&[1, 3, 10, 2, 0, 1], numbers, carry)
+}
+
+// Module 17, the full adder: two half adders and an OR.
+fn full_adder(numbers: &mut [u16], at: usize) -> usize
+    requires { ⌜ at + 29 ≤ length (now numbers) ⌝ }
+    ensures { λ r. ⌜ Put (moduleNumbers fullAdder) (now (numbers .entry)) at (now (numbers .exit)) r ⌝ }
+{
+    let first = copy(&[17, 3, 0, 1, 2, 2, 3, 4, 3], numbers, at);
+    let second = copy(&[2, 5, 6, 16, 2, 0, 1], numbers, first);
+    let either = copy(&[2, 3, 7, 16, 2, 5, 2], numbers, second);
+    copy(&[1, 4, 5, 2, 6, 7], numbers, either)
+}
 
 // One cell for each bit: it drives a sum and a carry by module 17, on a's bit, b's bit and the carry before.
 fn cells(width: u16, numbers: &mut [u16], at: usize) -> usize
@@ -85,27 +53,37 @@ fn cells(width: u16, numbers: &mut [u16], at: usize) -> usize
     at
 }
 
-// The numbers of the whole file, and how many they are.
-fn file(width: u16, numbers: &mut [u16]) -> usize
-    requires { ⌜ (width ≤ 64) × (760 ≤ length (now numbers)) ⌝ }
-    ensures { λ r. ⌜ Filled (fileNumbers (rippled width)) (now (numbers .entry)) (now (numbers .exit)) r ⌝ }
+// Module 18, the ripple adder: the sums, low first, and the last carry.
+fn ripple_adder(width: u16, numbers: &mut [u16], at: usize) -> usize
+    requires { ⌜ (width ≤ 64) × (at + (11 * width + 6) ≤ length (now numbers)) ⌝ }
+    ensures { λ r. ⌜ Put (moduleNumbers (rippleAdder width)) (now (numbers .entry)) at (now (numbers .exit)) r ⌝ }
 {
-    let inputs = copy(&[3, 18, 2 * width + 1], numbers, 0);
+    let inputs = copy(&[18, 2 * width + 1], numbers, at);
     let outputs = run(0, 2 * width + 1, numbers, inputs);
     let sums = copy(&[width + 1], numbers, outputs);
     let last = run(2 * width + 1, width, numbers, sums);
     let bits = copy(&[4 * width, width], numbers, last);
-    let modules = cells(width, numbers, bits);
-    copy(&LAST_MODULES, numbers, modules)
+    cells(width, numbers, bits)
+}
+
+// The whole file, and how many numbers it has.
+fn file(width: u16, numbers: &mut [u16]) -> usize
+    requires { ⌜ (width ≤ 64) × (760 ≤ length (now numbers)) ⌝ }
+    ensures { λ r. ⌜ Filled (fileNumbers (adderOf width)) (now (numbers .entry)) (now (numbers .exit)) r ⌝ }
+{
+    let first = copy(&[3], numbers, 0);
+    let second = ripple_adder(width, numbers, first);
+    let third = full_adder(numbers, second);
+    half_adder(numbers, third)
 }
 
 // Writes the adder of a width into `out`: 23 where the width is outside 1 to 64, then 22.
 pub fn adder(width: usize, out: &mut [u8]) -> Writing
-    ensures { λ r. ⌜ Answers (writing rippled width (length (now (out .entry)))) (now (out .entry)) (now (out .exit)) r ⌝ }
+    ensures { λ r. ⌜ Answers (writing adderOf width (length (now (out .entry)))) (now (out .entry)) (now (out .exit)) r ⌝ }
 {
     match width {
         1..=64 => {
-            let mut numbers = [0u16; 768];
+            let mut numbers = [0u16; 760];
             let count = file(width as u16, &mut numbers);
             answer(&numbers[..count], out)
         }

@@ -8,7 +8,7 @@ use lib.Seq.{length-take-le}
 use Rattle.meaning.specs.Layout.{fileNumbers, encode}
 use Rattle.meaning.specs.Adder.{adder}
 use Rattle.laws.specs.Adder.Small.{adder-numbers-small}
-use Rattle.writer.proofs.Laying.{front-within, take-front}
+use Rattle.writer.proofs.Puts.{front-within, take-front}
 use Rattle.writer.proofs.Answering.{answers-narrow, answers-wide, writing-fitting}
 use Rattle.writer.proofs.ripple.adder.Statement.{statement}
 use Rattle.writer.proofs.ripple.adder.Tie as tie
