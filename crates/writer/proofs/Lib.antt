@@ -5,3 +5,4 @@ pub mod Runs
 pub mod Cells
 pub mod Modules
 pub mod Answering
+pub mod Promise

@@ -1,5 +1,5 @@
 -- `answer::answer` meets its contract: the encoder's count decides 22, and only then a byte is written. Assumes nothing.
-use Prim.Native.Nat.{_≤_, _<_}
+use Prim.Native.Nat.{_≤_}
 use native.Mathlib.Omega.{arith}
 use borrow.Author.Needs.{needs}
 use lib.ListN.{length}

@@ -38,7 +38,7 @@ cells-requires c κs =
     omega (arith, length-upFrom 0 (2 * n + 1), length-upFrom (2 * n + 1) n)
 
 returns : tie.Need-returns
-returns c = 
+returns c =
     let sixth = c .before .before in
     let fifth = sixth .before .before .before .before in
     let fourth = fifth .before .before .before .before .before in
