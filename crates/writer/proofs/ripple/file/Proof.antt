@@ -34,8 +34,8 @@ file-spec =
     tie.close
     (tie.spec
     (λ c. search needs)
-    (λ c κs. search needs)
-    (λ c κs. search needs)
+    (λ c κs. omega arith)
+    (λ c κs. omega arith)
     full-adder-requires
     half-adder-requires
     (λ c. search needs)

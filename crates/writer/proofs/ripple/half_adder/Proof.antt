@@ -23,10 +23,10 @@ half-adder-spec =
     tie.close
     (tie.spec
     (λ c. search needs)
-    (λ c κs. search needs)
+    (λ c κs. omega arith)
     (λ c. search needs)
-    (λ c κs. search needs)
+    (λ c κs. omega arith)
     (λ c. search needs)
-    (λ c κs. search needs)
+    (λ c κs. omega arith)
     (λ c. search needs)
     returns)

@@ -60,10 +60,10 @@ ripple-adder-spec =
     (λ c. search needs)
     (λ c. search needs)
     (λ c. search needs)
-    (λ c κs. search needs)
+    (λ c κs. omega arith)
     (λ c. search needs)
     (λ c. search needs)
-    (λ c κs. search needs)
+    (λ c κs. omega arith)
     (λ c. search needs)
     (λ c. search needs)
     copy-requires-2
