@@ -1,5 +1,5 @@
-// Orders adders and prints what comes back: the answer, and for short buffers what they then hold. Each byte of a buffer is FF at first,
-// so that what is left as it was can be seen.
+// Orders adders and prints what comes back: the answer, and for short buffers what they then hold. Each byte of a buffer is FF at
+// first, so that what is left as it was can be seen.
 use libc::STDOUT_FILENO;
 use writer::Writing;
 ghost use Prim.Native.Nat.{_<_};

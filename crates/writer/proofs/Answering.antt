@@ -22,7 +22,8 @@ module _ (modules : ℕ → List Module) (width : ℕ) (before : List ℕ) where
   answers-wide high = rw (le-leb 1 width (omega arith), lt-leb width 64 high) (record { is = refl; out = refl })
 
   -- From width 1 to 64 the room in the buffer decides.
-  pub writing-fitting : 1 ≤ width → width ≤ 64 → writing modules width (length before) ≡ fitting (encode (modules width)) (length before)
+  pub writing-fitting : 1 ≤ width → width ≤ 64
+      → writing modules width (length before) ≡ fitting (encode (modules width)) (length before)
   unfolding writing
   writing-fitting some most = rw (le-leb 1 width some, le-leb width 64 most)
 

@@ -6,7 +6,7 @@ use lib.ListN.{length, getD, drop}
 use borrow.Author.Tests.{le-leb}
 use Rattle.meaning.specs.Layout.{each, numberBytes, fileNumbers, encode}
 use Rattle.meaning.specs.Adder.{adder}
-use Rattle.meaning.specs.Calls.{Decision, Written, writing, outAfter}
+use Rattle.meaning.specs.Calls.{Decision, Written, writing}
 use Rattle.writer.specs.declared.answer.Writing.{Writing}
 use Rattle.writer.specs.Answers.{Answers}
 use Rattle.writer.proofs.Answering.{writing-fitting}

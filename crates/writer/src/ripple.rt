@@ -1,10 +1,10 @@
-// The ripple adder to order (document 01, 'Written modules').
+// The ripple adder to order (document 01, 'Written modules'): a function for each of its modules. A place in the list of numbers is
+// named after what is to stand there.
 ghost use Prim.Native.Nat.{_+_, _*_, _≤_};
 ghost use lib.ListN.{length};
-ghost use Rattle.meaning.specs.Layout.{moduleNumbers, fileNumbers};
+ghost use Rattle.meaning.specs.Layout.{each, occurrenceNumbers, moduleNumbers, fileNumbers};
 ghost use Rattle.meaning.specs.Adder.{adder as adderOf, rippleAdder, fullAdder, halfAdder};
 ghost use Rattle.meaning.specs.Calls.{writing};
-ghost use Rattle.laws.specs.Adder.Numbers.{cellsNumbers};
 ghost use Rattle.encoder.specs.Filled.{Put, Filled};
 ghost use Rattle.writer.specs.Answers.{Answers};
 use crate::answer::Writing;
@@ -33,10 +33,10 @@ fn full_adder(numbers: &mut [u16], at: usize) -> usize
     copy(&[1, 4, 5, 2, 6, 7], numbers, either)
 }
 
-// One cell for each bit: it drives a sum and a carry by module 17, on a's bit, b's bit and the carry before.
+// The occurrences of module 18: for each bit a sum and a carry by module 17, on a's bit, b's bit and the carry before.
 fn cells(width: u16, numbers: &mut [u16], at: usize) -> usize
     requires { ⌜ (width ≤ 64) × (at + 8 * width ≤ length (now numbers)) ⌝ }
-    ensures { λ r. ⌜ Put (cellsNumbers 1 (width + 1) (2 * width + 1) (3 * width + 1) 0 width) (now (numbers .entry)) at (now (numbers .exit)) r ⌝ }
+    ensures { λ r. ⌜ Put (each occurrenceNumbers (rippleAdder width .occurrences)) (now (numbers .entry)) at (now (numbers .exit)) r ⌝ }
 {
     let mut at = at;
     let mut carry_in: u16 = 0;
@@ -53,7 +53,7 @@ fn cells(width: u16, numbers: &mut [u16], at: usize) -> usize
     at
 }
 
-// Module 18, the ripple adder: the sums, low first, and the last carry.
+// Module 18, the ripple adder: its outputs are the sums, low first, then the last carry.
 fn ripple_adder(width: u16, numbers: &mut [u16], at: usize) -> usize
     requires { ⌜ (width ≤ 64) × (at + (11 * width + 6) ≤ length (now numbers)) ⌝ }
     ensures { λ r. ⌜ Put (moduleNumbers (rippleAdder width)) (now (numbers .entry)) at (now (numbers .exit)) r ⌝ }

@@ -30,7 +30,8 @@ room : (c : tie.In-loop Inv-loop μ-loop)
     × (c .before .loop .at + 1 ≤ length (c .before .before .args .numbers .now))
 room c =
     let args = c .before .before .args in
-    laying-room (c .before .loop .inv) (_ ∷ []) _ (rest-of-run (args .first) (args .count) (c .before .loop .i) (c .loop-test .taken))
+    laying-room (c .before .loop .inv) (_ ∷ []) _
+    (rest-of-run (args .first) (args .count) (c .before .loop .i) (c .loop-test .taken))
 
 loop-again : tie.Need-loop-again Inv-loop μ-loop
 loop-again c =

@@ -16,6 +16,7 @@ use Rattle.writer.proofs.ripple.adder.Tie as tie
 abbrev start : tie.After-file → tie.Start
 start c = c .before .before .before .before .before
 
+-- The numbers laid out are the file's.
 laid : (c : tie.After-file) → take (c .file .result) (c .file .last .1 .0) ≡ fileNumbers (adder (start c .args .width))
 laid c = take-front (c .file .ensures)
 
@@ -28,13 +29,14 @@ slice-aggregate-answer c = sym (length-take-le _ _ (front-within (c .before .bef
 answer-requires : tie.Need-answer-requires
 answer-requires c κs =
     let after = c .before .before .before in
-    rw (laid after) (adder-numbers-small (start after .args .width) (after .before .before .before .if1 .left) (omega arith))
+    rw (laid after) (adder-numbers-small (start after .args .width) (omega arith) (omega arith))
 
 returns : tie.Need-returns
 unfolding encode
 returns c =
     let after = c .before .before .before .before .before .before in
-    rw (writing-fitting adder (start after .args .width) (start after .args .out .now) (after .before .before .before .if1 .left) (omega arith), ← laid after)
+    let args = start after .args in
+    rw (writing-fitting adder (args .width) (args .out .now) (omega arith) (omega arith), ← laid after)
     (c .before .before .answer .ensures)
 
 returns-2 : tie.Need-returns-2

@@ -1,7 +1,9 @@
--- `ripple::cells` meets its contract. The loop's invariant: the cells that are laid and those that are left make all. Assumes nothing.
+-- `ripple::cells` meets its contract. The loop's invariant: the cells that are laid and those that are left make all.
+-- Assumes nothing.
 use Prim.Native.Nat.{_+_, _*_, _-_}
 use native.Mathlib.Omega.{arith}
 use mathlib.Core.Path.{refl}
+use Rattle.meaning.specs.Adder.{rippleAdder}
 use Rattle.laws.specs.Adder.Numbers.{cellsNumbers, length-of-cellsNumbers}
 use Rattle.writer.proofs.Laying.{Laying, laying-none, laying-length, laying-room, laying-more, laying-all}
 use Rattle.writer.proofs.Cells.{cellsFrom, cellOf, all-cells, rest-of-cells, no-cells}
@@ -28,7 +30,8 @@ copy-requires c κs =
     let n = turn .before .before .before .args .width in
     omega (
       arith,
-      laying-room (loop .inv) (cellOf n (loop .i) (loop .carry-in)) _ (rest-of-cells n (loop .i) (loop .carry-in) (turn .loop-test .taken)),
+      laying-room (loop .inv) (cellOf n (loop .i) (loop .carry-in)) _
+          (rest-of-cells n (loop .i) (loop .carry-in) (turn .loop-test .taken)),
     )
 
 loop-again : tie.Need-loop-again Inv-loop μ-loop
@@ -41,6 +44,7 @@ loop-again c =
     (c .before .before .copy .ensures)
 
 returns : tie.Need-returns Inv-loop μ-loop
+unfolding rippleAdder cellsNumbers
 returns c =
     let loop = c .before .loop in
     laying-all (loop .inv) (no-cells (c .before .before .before .args .width) (loop .i) (loop .carry-in) (c .loop-test .left))

@@ -1,5 +1,5 @@
--- `ripple::file` meets its contract: the count of modules and the modules, put one behind the other, are the file's numbers. Assumes
--- nothing.
+-- `ripple::file` meets its contract: the count of modules and the modules, put one behind the other, are the file's numbers.
+-- Assumes nothing.
 use native.Mathlib.Omega.{arith}
 use borrow.Author.Needs.{needs}
 use mathlib.Core.List.{append-assoc}

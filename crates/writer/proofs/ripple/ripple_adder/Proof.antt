@@ -4,8 +4,9 @@ use native.Mathlib.Omega.{arith}
 use borrow.Author.Needs.{needs}
 use mathlib.Core.List.{append-assoc}
 use lib.ListN.{length}
+use Rattle.meaning.specs.Adder.{rippleAdder}
 use Rattle.laws.specs.Adder.Nets.{length-upFrom}
-use Rattle.laws.specs.Adder.Numbers.{numbers-of-first}
+use Rattle.laws.specs.Adder.Numbers.{cellsNumbers, numbers-of-first}
 use Rattle.writer.proofs.Puts.{put-more}
 use Rattle.writer.proofs.ripple.ripple_adder.Statement.{statement}
 use Rattle.writer.proofs.ripple.ripple_adder.Tie as tie
@@ -38,6 +39,7 @@ cells-requires c κs =
     omega (arith, length-upFrom 0 (2 * n + 1), length-upFrom (2 * n + 1) n)
 
 returns : tie.Need-returns
+unfolding rippleAdder cellsNumbers
 returns c =
     let sixth = c .before .before in
     let fifth = sixth .before .before .before .before in
