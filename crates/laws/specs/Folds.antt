@@ -4,7 +4,7 @@ use Prim.Native.Nat.{ℕ, zero, suc}
 use mathlib.Core.Bool.{Bool, true, false}
 use mathlib.Core.List.{List, [], _∷_, foldr}
 use mathlib.Core.Path.{_≡_, refl, ap, ap₂, _∙_}
-use lib.ListN.{getD, drop}
+use lib.ListN.{length, getD, drop}
 use Rattle.meaning.specs.Values.{Val, known, un, common, byFillings}
 use Rattle.meaning.specs.Gates.{one, two}
 use Rattle.laws.specs.Fillings.{Gives, known-exactly, unknown-exactly}
@@ -47,6 +47,10 @@ constant b vs = known-exactly (λ bs. b) vs b .1 (λ bs r. refl)
 abbrev pub firsts : {A : Type 0} → A → ℕ → List A → List A
 firsts d zero xs = []
 firsts d (suc n) xs = getD xs 0 d ∷ firsts d n (drop 1 xs)
+
+pub firsts-all : {A : Type 0} (d : A) (xs : List A) → firsts d (length xs) xs ≡ xs
+firsts-all d [] = refl
+firsts-all d (x ∷ xs) = ap (_∷_ x) (firsts-all d xs)
 
 -- A function that looks at the first n arguments, missing ones as false.
 pub on-firsts : (f : List Bool → Bool) (n : ℕ) (vs : List Val)
