@@ -1,4 +1,0 @@
--- Facts that the check's proofs cite.
-pub mod Numbers
-pub mod Later
-pub mod Targets

@@ -1,6 +1,0 @@
--- What the check's functions take and answer.
-pub mod Filed
-pub mod Numbering
-pub mod References
-pub mod Scene
-pub mod Occurrences

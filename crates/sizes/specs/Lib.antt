@@ -1,0 +1,2 @@
+-- What measuring a file's modules asks and answers.
+pub mod Measured

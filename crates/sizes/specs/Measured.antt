@@ -1,0 +1,49 @@
+-- Expanded size and room of every module of a file that keeps rules 6 to 16, worked out on its image.
+use Prim.Native.Nat.{ℕ, _+_, _≤_}
+use mathlib.Core.Path.{_≡_}
+use mathlib.Core.List.{List, _∷_}
+use lib.ListN.{length, getD, drop}
+use Rattle.meaning.specs.Syntax.{Module}
+use Rattle.meaning.specs.Boxlist.{F, assoc}
+use Rattle.meaning.specs.Layout.{moduleNumbers}
+use Rattle.meaning.specs.Limits.{netCount, bodySize, expandedSize}
+use Rattle.meaning.specs.Figures.{largestReferred, room}
+use Rattle.meaning.specs.Verdict.{good, refused, sizesVerdict}
+use Rattle.laws.specs.WellFormed.{Body}
+use Rattle.image.specs.Stands.{Stands}
+use Rattle.image.specs.Resolved.{referTo, resolveModule}
+use Rattle.sizes.specs.declared.Sized.{Sized}
+use Rattle.sizes.specs.declared.Sized.the-variants.{Fine, Over}
+
+-- Module m is at position k, the modules `later` come after it.
+abbrev pub At : List Module → ℕ → Module → List Module → Type 0
+At ms k m later = drop k ms ≡ m ∷ later
+
+-- What measuring rests on: the image of a file whose modules keep the rules on occurrences and have numbers of their own.
+pub record Imaged (image starts nets : List ℕ) (ms : List Module) : Type 0 where
+  pub standing : (k : ℕ) (m : Module) (later : List Module) → At ms k m later → Stands image (getD starts k 0) (moduleNumbers (resolveModule (referTo ms) k m))
+  pub body : (k : ℕ) (m : Module) (later : List Module) → At ms k m later → Body later (m .inputs) (m .occurrences)
+  pub unique : (k : ℕ) (m : Module) (later : List Module) → At ms k m later → assoc (m .number) later ≡ F
+  pub counted : (k : ℕ) (m : Module) (later : List Module) → At ms k m later → getD nets k 0 ≡ netCount m
+  pub narrow : (k : ℕ) (m : Module) (later : List Module) → At ms k m later → netCount m ≤ 4096
+
+pub record Measurable (image starts nets : List ℕ) (modules : ℕ) (sizes rooms : List ℕ) : Type 0 where
+  pub ms : List Module
+  pub imaged : Imaged image starts nets ms
+  pub all : modules ≡ length ms
+  pub few : modules ≤ 128
+  pub short : length image ≤ 65535
+  pub startsLong : modules ≤ length starts
+  pub netsLong : modules ≤ length nets
+  pub sizesLong : modules ≤ length sizes
+  pub roomsLong : modules ≤ length rooms
+
+-- The tables say the figures of every module.
+pub record Tabled (ms : List Module) (sizes rooms : List ℕ) : Type 0 where
+  pub size : (k : ℕ) (m : Module) (later : List Module) → At ms k m later → getD sizes k 0 ≡ bodySize (expandedSize later) (m .occurrences)
+  pub room : (k : ℕ) (m : Module) (later : List Module) → At ms k m later → getD rooms k 0 ≡ netCount m + largestReferred (room later) (m .occurrences)
+
+-- What the answer says of a file: rule 17, and the tables where it holds.
+abbrev pub Measures : Sized → (ms : List Module) → (sizes rooms : List ℕ) → Type 0
+Measures Fine ms sizes rooms = (sizesVerdict 0 ms ≡ good) × Tabled ms sizes rooms
+Measures (Over place) ms sizes rooms = sizesVerdict 0 ms ≡ refused 17 place
