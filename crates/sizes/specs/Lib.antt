@@ -1,2 +1,4 @@
--- What measuring a file's modules asks and answers.
+-- What measuring a file's modules asks and answers, and why the figures on the image are those of the file.
+pub mod Walks
+pub mod Turns
 pub mod Measured

@@ -1,12 +1,13 @@
 -- Expanded size and room of every module of a file that keeps rules 6 to 16, worked out on its image.
-use Prim.Native.Nat.{ℕ, _+_, _≤_}
+use Prim.Native.Nat.{ℕ, _+_, _≤_, _<_}
 use mathlib.Core.Path.{_≡_}
 use mathlib.Core.List.{List, _∷_}
 use lib.ListN.{length, getD, drop}
 use Rattle.meaning.specs.Syntax.{Module}
+use Rattle.meaning.specs.Reading.{mostModules, mostBytes}
 use Rattle.meaning.specs.Boxlist.{F, assoc}
 use Rattle.meaning.specs.Layout.{moduleNumbers}
-use Rattle.meaning.specs.Limits.{netCount, bodySize, expandedSize}
+use Rattle.meaning.specs.Limits.{netCount, bodySize, expandedSize, mostModuleNets}
 use Rattle.meaning.specs.Figures.{largestReferred, room}
 use Rattle.meaning.specs.Verdict.{good, refused, sizesVerdict}
 use Rattle.laws.specs.WellFormed.{Body}
@@ -25,25 +26,40 @@ pub record Imaged (image starts nets : List ℕ) (ms : List Module) : Type 0 whe
   pub body : (k : ℕ) (m : Module) (later : List Module) → At ms k m later → Body later (m .inputs) (m .occurrences)
   pub unique : (k : ℕ) (m : Module) (later : List Module) → At ms k m later → assoc (m .number) later ≡ F
   pub counted : (k : ℕ) (m : Module) (later : List Module) → At ms k m later → getD nets k 0 ≡ netCount m
-  pub narrow : (k : ℕ) (m : Module) (later : List Module) → At ms k m later → netCount m ≤ 4096
+  pub narrow : (k : ℕ) (m : Module) (later : List Module) → At ms k m later → netCount m ≤ mostModuleNets
 
-pub record Measurable (image starts nets : List ℕ) (modules : ℕ) (sizes rooms : List ℕ) : Type 0 where
-  pub ms : List Module
-  pub imaged : Imaged image starts nets ms
-  pub all : modules ≡ length ms
-  pub few : modules ≤ 128
-  pub short : length image ≤ 65535
+-- The lists are as long as they must be, and the image no longer than a file.
+pub record Long (image starts nets : List ℕ) (modules : ℕ) (sizes rooms : List ℕ) : Type 0 where
+  pub few : modules ≤ mostModules
+  pub short : length image ≤ mostBytes
   pub startsLong : modules ≤ length starts
   pub netsLong : modules ≤ length nets
   pub sizesLong : modules ≤ length sizes
   pub roomsLong : modules ≤ length rooms
 
--- The tables say the figures of every module.
-pub record Tabled (ms : List Module) (sizes rooms : List ℕ) : Type 0 where
-  pub size : (k : ℕ) (m : Module) (later : List Module) → At ms k m later → getD sizes k 0 ≡ bodySize (expandedSize later) (m .occurrences)
-  pub room : (k : ℕ) (m : Module) (later : List Module) → At ms k m later → getD rooms k 0 ≡ netCount m + largestReferred (room later) (m .occurrences)
+pub record Measurable (image starts nets : List ℕ) (modules : ℕ) (sizes rooms : List ℕ) : Type 0 where
+  pub ms : List Module
+  pub imaged : Imaged image starts nets ms
+  pub all : modules ≡ length ms
+  pub long : Long image starts nets modules sizes rooms
 
--- What the answer says of a file: rule 17, and the tables where it holds.
-abbrev pub Measures : Sized → (ms : List Module) → (sizes rooms : List ℕ) → Type 0
-Measures Fine ms sizes rooms = (sizesVerdict 0 ms ≡ good) × Tabled ms sizes rooms
-Measures (Over place) ms sizes rooms = sizesVerdict 0 ms ≡ refused 17 place
+-- The tables say the figures of every module from a position on.
+pub record Tabled (first : ℕ) (ms : List Module) (sizes rooms : List ℕ) : Type 0 where
+  pub size : (k : ℕ) (m : Module) (later : List Module) → first ≤ k → At ms k m later → getD sizes k 0 ≡ bodySize (expandedSize later) (m .occurrences)
+  pub room : (k : ℕ) (m : Module) (later : List Module) → first ≤ k → At ms k m later → getD rooms k 0 ≡ netCount m + largestReferred (room later) (m .occurrences)
+
+-- What the answer says of the modules from a position on: rule 17, and the tables where it holds.
+abbrev pub Measures : (first : ℕ) → Sized → (ms : List Module) → (sizes rooms : List ℕ) → Type 0
+Measures first Fine ms sizes rooms = (sizesVerdict first (drop first ms) ≡ good) × Tabled first ms sizes rooms
+Measures first (Over place) ms sizes rooms = sizesVerdict first (drop first ms) ≡ refused 17 place
+
+-- The module at position k can be measured: the figures of those behind it are known.
+pub record Ready (image starts nets : List ℕ) (k : ℕ) (sizes rooms : List ℕ) (ms : List Module) : Type 0 where
+  pub imaged : Imaged image starts nets ms
+  pub long : Long image starts nets (length ms) sizes rooms
+  pub inside : k < length ms
+  pub behind : Measures (k + 1) Fine ms sizes rooms
+
+pub record SomeReady (image starts nets : List ℕ) (k : ℕ) (sizes rooms : List ℕ) : Type 0 where
+  pub ms : List Module
+  pub ready : Ready image starts nets k sizes rooms ms
