@@ -1,15 +1,17 @@
 -- Reading a resolved file: a module's nets are a frame, a list of values, one for each slot in the order in which slots are given
 -- values. What an occurrence drives is added at the frame's end, so nothing is looked up by name.
-use Prim.Native.Nat.{ℕ, _+_, _<_, _≤_}
+use Prim.Native.Nat.{ℕ, suc, _+_, _<_, _≤_}
 use mathlib.Core.Path.{_≡_}
-use mathlib.Core.Bool.{true, false, cond}
+use mathlib.Core.Bool.{cond}
 use mathlib.Core.List.{List, [], _∷_, _++_}
 use lib.Dec.{eqb}
 use lib.ListN.{length, getD}
 use Rattle.meaning.specs.Syntax.{Occurrence, Module}
 use Rattle.meaning.specs.Evaluation.{Meaning, apply}
 use Rattle.meaning.specs.Limits.{netCount}
+use Rattle.meaning.specs.Adder.{upFrom}
 use Rattle.laws.specs.WellFormed.{Reference}
+use Rattle.image.specs.Resolved.{netsOf}
 
 -- The values at slots of a frame.
 unfoldable pub readSlots : {A : Type 0} → A → List A → List ℕ → List A
@@ -43,13 +45,18 @@ pub data Framed (later : List Module) : (filled : ℕ) → List Occurrence → T
       → Framed later (filled + length (o .drives)) os
       → Framed later filled (o ∷ os)
 
--- A module at a position, in front of the later ones.
+-- A module at a position, in front of the later ones. Each of its nets is its own slot.
 pub record FrameOk (position : ℕ) (m : Module) (later : List Module) : Type 0 where
   pub numbered : m .number ≡ 16 + position
   pub framed : Framed later (length (m .inputs)) (m .occurrences)
   pub answered : Filled (netCount m) (m .outputs)
   pub nets : netCount m ≤ 4096
+  pub slots : netsOf m ≡ upFrom 0 (netCount m)
 
 pub data FramesOk : (position : ℕ) → List Module → Type 0 where
   none : {position : ℕ} → FramesOk position []
-  some : {position : ℕ} {m : Module} {later : List Module} → FrameOk position m later → FramesOk (1 + position) later → FramesOk position (m ∷ later)
+  some :
+      {position : ℕ} {m : Module} {later : List Module}
+      → FrameOk position m later
+      → FramesOk (suc position) later
+      → FramesOk position (m ∷ later)

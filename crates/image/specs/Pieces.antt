@@ -1,8 +1,8 @@
 -- Where the parts of an occurrence and of a module stand, counted from its first number. A place p is said by an equation, so that
 -- whoever computed it another way can use these facts.
 use Prim.Native.Nat.{ℕ, suc, _+_, _≤_, _<_}
-use mathlib.Core.Path.{_≡_, refl, sym, ap, subst, _∙_}
-use mathlib.Core.List.{List, [], _∷_, _++_}
+use mathlib.Core.Path.{_≡_, sym, ap, subst, _∙_}
+use mathlib.Core.List.{List, _∷_, _++_}
 use native.Mathlib.Omega.{arith}
 use lib.ListN.{length, getD, length-append}
 use Rattle.meaning.specs.Syntax.{Occurrence, Module}
@@ -12,6 +12,16 @@ use Rattle.image.specs.Stands.{Stands, stands-head, stands-skip, stands-
 -- The same piece at a place that was computed another way.
 pub moved : {im : List ℕ} {xs : List ℕ} (a : ℕ) {p : ℕ} → p ≡ a → Stands im a xs → Stands im p xs
 moved {im} {xs} a e s = subst (λ (i : ℕ). Stands im i xs) (sym e) s
+
+pub length-of-occurrence : (o : Occurrence) → length (occurrenceNumbers o) ≡ 3 + length (o .drives) + length (o .takes)
+unfolding occurrenceNumbers
+length-of-occurrence o = simp length-append (omega arith)
+
+pub length-of-module :
+    (m : Module)
+    → length (moduleNumbers m) ≡ 4 + length (m .inputs) + length (m .outputs) + length (each occurrenceNumbers (m .occurrences))
+unfolding moduleNumbers
+length-of-module m = simp length-append (omega arith)
 
 pub record OccurrenceAt (im : List ℕ) (at : ℕ) (o : Occurrence) : Type 0 where
   pub drivenCount : getD im at 0 ≡ length (o .drives)
@@ -31,8 +41,8 @@ occurrence-at {im} {at} o s =
       refers = λ p e. ap (λ (i : ℕ). getD im i 0) e ∙ stands-head reference;
       takenCount = λ p e. stands-head (moved (at + 1 + length (o .drives) + 1) (e ∙ further) taken);
       takes = λ p e. moved (at + 1 + length (o .drives) + 1 + 1) (e ∙ furthest) (stands-tail taken);
-      end = omega (arith, s .within, whole);
-      long = whole;
+      end = omega (arith, s .within, length-of-occurrence o);
+      long = length-of-occurrence o;
     }
   where
     driven : Stands im (at + 1) (o .drives ++ (o .refers ∷ length (o .takes) ∷ o .takes))
@@ -49,9 +59,6 @@ occurrence-at {im} {at} o s =
 
     furthest : at + 3 + length (o .drives) ≡ at + 1 + length (o .drives) + 1 + 1
     furthest = omega arith
-
-    whole : length (length (o .drives) ∷ (o .drives ++ (o .refers ∷ length (o .takes) ∷ o .takes))) ≡ 3 + length (o .drives) + length (o .takes)
-    whole = simp length-append (omega arith)
 
 pub record ModuleAt (im : List ℕ) (at : ℕ) (m : Module) : Type 0 where
   pub inside : at < length im
@@ -77,8 +84,8 @@ module-at {im} {at} m s =
       outputs = λ p e. moved (at + 1 + suc (length (m .inputs)) + 1) (e ∙ fourth) (stands-front bodyNumbers (stands-tail outward));
       occurrenceCount = λ p e. stands-head (moved (at + 1 + suc (length (m .inputs)) + suc (length (m .outputs))) (e ∙ fifth) bodied);
       body = λ p e. moved (at + 1 + suc (length (m .inputs)) + suc (length (m .outputs)) + 1) (e ∙ sixth) (stands-tail bodied);
-      end = omega (arith, s .within, whole);
-      long = whole;
+      end = omega (arith, s .within, length-of-module m);
+      long = length-of-module m;
     }
   where
     bodyNumbers : List ℕ
@@ -110,8 +117,3 @@ module-at {im} {at} m s =
 
     sixth : at + 4 + length (m .inputs) + length (m .outputs) ≡ at + 1 + suc (length (m .inputs)) + suc (length (m .outputs)) + 1
     sixth = omega arith
-
-    whole :
-        length (m .number ∷ ((length (m .inputs) ∷ m .inputs) ++ ((length (m .outputs) ∷ m .outputs) ++ (length (m .occurrences) ∷ each occurrenceNumbers (m .occurrences)))))
-        ≡ 4 + length (m .inputs) + length (m .outputs) + length (each occurrenceNumbers (m .occurrences))
-    whole = simp length-append (omega arith)

@@ -3,14 +3,14 @@
 use Prim.Native.Nat.{ℕ}
 use mathlib.Core.Logic.{_⊎_, inl, inr}
 use mathlib.Core.Path.{_≡_, refl, sym}
-use mathlib.Core.Bool.{true}
+use mathlib.Core.Bool.{true, false}
 use mathlib.Core.List.{List, [], _∷_}
 pub use mathlib.Core.List.{List·Memᴰ·head as here, List·Memᴰ·tail as there, List·Memᴰ·not-nil as in-none}
 pub use mathlib.Core.List.{Memᴰ·append-left as in-left, Memᴰ·append-right as in-right, List·Memᴰ·append-cases as in-either}
 pub use mathlib.Core.List.{Memᴰ·cast as same-in}
 use Rattle.meaning.specs.Members.{_∈_, Twice, again, further, Common, Lacking}
 use Rattle.meaning.specs.Boxlist.{member, disjoint, duplicates, subset}
-use Rattle.laws.specs.Tests.{Tells, tells-true, tells-false, if-true, otherwise}
+use Rattle.laws.specs.Tests.{Tells, tells-true, tells-false, if-true, is-false, otherwise}
 use Rattle.laws.specs.Tests.{tells, tells-not, tells-and, tells-or, eqb-tells}
 
 pub member-tells : (x : ℕ) (ys : List ℕ) → Tells (x ∈ ys) (¬ (x ∈ ys)) (member x ys)
@@ -75,6 +75,12 @@ subset-tells (x ∷ xs) ys = tells neither either (tells-and (member-tells x ys)
     neither h l = at (l .net) h (l .listed) (l .missing)
 
 -- The last two as implications, for proofs that start from a list that passed.
+pub member-in : (x : ℕ) (ys : List ℕ) → member x ys ≡ true → x ∈ ys
+member-in x ys = if-true (member-tells x ys)
+
+pub out-member : (x : ℕ) (ys : List ℕ) → ¬ (x ∈ ys) → member x ys ≡ false
+out-member x ys = is-false (member-tells x ys)
+
 pub disjoint-out : (xs ys : List ℕ) → disjoint xs ys ≡ true → {x : ℕ} → x ∈ xs → ¬ (x ∈ ys)
 disjoint-out xs ys e {x} i j = if-true (disjoint-tells xs ys) e (record { net = x; inFirst = i; inSecond = j })
 

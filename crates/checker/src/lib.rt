@@ -1,0 +1,5 @@
+// The check of a file's numbers: rules 6 to 17 in order, and the image on which everything later runs.
+pub mod bodies;
+pub mod numbering;
+pub mod occurrences;
+pub mod references;

@@ -1,0 +1,75 @@
+// Rules 13 and 14: what an occurrence refers to.
+use gates::Kind;
+ghost use mathlib.Core.Path.{_≡_};
+ghost use mathlib.Core.List.{List};
+ghost use mathlib.Core.Bool.{false};
+ghost use Prim.Native.Nat.{ℕ, _+_, _<_};
+ghost use lib.ListN.{length};
+ghost use Rattle.meaning.specs.Syntax.{Module};
+ghost use Rattle.meaning.specs.Gates.{isGate};
+ghost use Rattle.checker.specs.Filed.{Filed};
+ghost use Rattle.checker.specs.Numbering.{Numbered, firstRepeat, Referable};
+ghost use Rattle.checker.specs.References.{referenceOf};
+
+// What a reference comes to: its number in the image, or the rule that it breaks.
+pub enum Reference {
+    To(u16),
+    Broken(u16),
+}
+
+// A number from 16 up: the nearest later module that has it, with its counts of inputs and outputs.
+fn judge_module(
+    number: u16,
+    taken: usize,
+    driven: usize,
+    k: usize,
+    numbers: &[u16],
+    starts: &[usize],
+    first: &[u16],
+) -> Reference
+    requires { ⌜ Referable (now numbers) (now starts) (now first) k number ⌝ }
+    requires { ⌜ isGate number ≡ false ⌝ }
+    ensures { λ r. ⌜ ((ms : List Module) (takes drives : List ℕ) → Filed (now (numbers .entry)) (now (starts .entry)) ms → Numbered (now (first .entry)) ms → k < firstRepeat ms → taken ≡ length takes → driven ≡ length drives → r ≡ referenceOf ms k number takes drives) ⌝ }
+{
+    let place = image::entry(first, number as usize);
+    if place <= k + 1 {
+        return Reference::Broken(13);
+    }
+    let at = starts[place - 1];
+    let inputs = image::entry(numbers, at + 1);
+    if taken != inputs {
+        return Reference::Broken(14);
+    }
+    let outputs = image::entry(numbers, at + 2 + inputs);
+    if driven != outputs {
+        return Reference::Broken(14);
+    }
+    Reference::To((place + 15) as u16)
+}
+
+// What a reference in the module at position k comes to.
+pub fn judge_reference(
+    number: u16,
+    taken: usize,
+    driven: usize,
+    k: usize,
+    numbers: &[u16],
+    starts: &[usize],
+    first: &[u16],
+) -> Reference
+    requires { ⌜ Referable (now numbers) (now starts) (now first) k number ⌝ }
+    ensures { λ r. ⌜ ((ms : List Module) (takes drives : List ℕ) → Filed (now (numbers .entry)) (now (starts .entry)) ms → Numbered (now (first .entry)) ms → k < firstRepeat ms → taken ≡ length takes → driven ≡ length drives → r ≡ referenceOf ms k number takes drives) ⌝ }
+{
+    match gates::kind_of(number) {
+        Kind::Gate { rule: _, arity } => {
+            if taken != arity {
+                return Reference::Broken(14);
+            }
+            if driven != 1 {
+                return Reference::Broken(14);
+            }
+            Reference::To(number)
+        }
+        Kind::Module => judge_module(number, taken, driven, k, numbers, starts, first),
+    }
+}
