@@ -2,3 +2,9 @@
 pub mod Walks
 pub mod Turns
 pub mod Measured
+pub mod Behind
+pub mod Rooms
+pub mod Referred
+pub mod SizeRule
+pub mod Walking
+pub mod Measuring

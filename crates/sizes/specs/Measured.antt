@@ -5,14 +5,13 @@ use mathlib.Core.List.{List, _∷_}
 use lib.ListN.{length, getD, drop}
 use Rattle.meaning.specs.Syntax.{Module}
 use Rattle.meaning.specs.Reading.{mostModules, mostBytes}
-use Rattle.meaning.specs.Boxlist.{F, assoc}
 use Rattle.meaning.specs.Layout.{moduleNumbers}
-use Rattle.meaning.specs.Limits.{netCount, bodySize, expandedSize, mostModuleNets}
+use Rattle.meaning.specs.Limits.{netCount, bodySize, expandedSize}
 use Rattle.meaning.specs.Figures.{largestReferred, room}
 use Rattle.meaning.specs.Verdict.{good, refused, sizesVerdict}
-use Rattle.laws.specs.WellFormed.{Body}
 use Rattle.image.specs.Stands.{Stands}
 use Rattle.image.specs.Resolved.{referTo, resolveModule}
+use Rattle.image.specs.Fitting.{Fits}
 use Rattle.sizes.specs.declared.Sized.{Sized}
 use Rattle.sizes.specs.declared.Sized.the-variants.{Fine, Over}
 
@@ -20,13 +19,13 @@ use Rattle.sizes.specs.declared.Sized.the-variants.{Fine, Over}
 abbrev pub At : List Module → ℕ → Module → List Module → Type 0
 At ms k m later = drop k ms ≡ m ∷ later
 
--- What measuring rests on: the image of a file whose modules keep the rules on occurrences and have numbers of their own.
+-- What measuring rests on: the image of a file that keeps rules 6 to 16, where each module starts in it, and how many nets each has.
 pub record Imaged (image starts nets : List ℕ) (ms : List Module) : Type 0 where
-  pub standing : (k : ℕ) (m : Module) (later : List Module) → At ms k m later → Stands image (getD starts k 0) (moduleNumbers (resolveModule (referTo ms) k m))
-  pub body : (k : ℕ) (m : Module) (later : List Module) → At ms k m later → Body later (m .inputs) (m .occurrences)
-  pub unique : (k : ℕ) (m : Module) (later : List Module) → At ms k m later → assoc (m .number) later ≡ F
+  pub fits : Fits ms
+  pub standing :
+      (k : ℕ) (m : Module) (later : List Module) → At ms k m later
+      → Stands image (getD starts k 0) (moduleNumbers (resolveModule (referTo ms) k m))
   pub counted : (k : ℕ) (m : Module) (later : List Module) → At ms k m later → getD nets k 0 ≡ netCount m
-  pub narrow : (k : ℕ) (m : Module) (later : List Module) → At ms k m later → netCount m ≤ mostModuleNets
 
 -- The lists are as long as they must be, and the image no longer than a file.
 pub record Long (image starts nets : List ℕ) (modules : ℕ) (sizes rooms : List ℕ) : Type 0 where
