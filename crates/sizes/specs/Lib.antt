@@ -1,10 +1,11 @@
--- What measuring a file's modules asks and answers, and why the figures on the image are those of the file.
+-- What measuring a file's modules asks and answers, and why the figures that are read off the image are those of the file.
+pub mod Measured
+pub mod Ready
 pub mod Walks
 pub mod Turns
-pub mod Measured
 pub mod Behind
-pub mod Rooms
 pub mod Referred
 pub mod SizeRule
-pub mod Walking
+pub mod Rooms
+pub mod ModuleWalk
 pub mod Measuring

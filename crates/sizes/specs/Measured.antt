@@ -1,5 +1,6 @@
--- Expanded size and room of every module of a file that keeps rules 6 to 16, worked out on its image.
-use Prim.Native.Nat.{ℕ, _+_, _≤_, _<_}
+-- Expanded size and room of every module of a file that keeps rules 6 to 16, worked out on its image: what measuring asks, and what
+-- its answer says of rule 17 and of the two tables.
+use Prim.Native.Nat.{ℕ, _+_, _≤_}
 use mathlib.Core.Path.{_≡_}
 use mathlib.Core.List.{List, _∷_}
 use lib.ListN.{length, getD, drop}
@@ -23,11 +24,12 @@ At ms k m later = drop k ms ≡ m ∷ later
 pub record Imaged (image starts nets : List ℕ) (ms : List Module) : Type 0 where
   pub fits : Fits ms
   pub standing :
-      (k : ℕ) (m : Module) (later : List Module) → At ms k m later
+      (k : ℕ) (m : Module) (later : List Module)
+      → At ms k m later
       → Stands image (getD starts k 0) (moduleNumbers (resolveModule (referTo ms) k m))
   pub counted : (k : ℕ) (m : Module) (later : List Module) → At ms k m later → getD nets k 0 ≡ netCount m
 
--- The lists are as long as they must be, and the image no longer than a file.
+-- The lists are as long as there are modules, and the image is no longer than a file.
 pub record Long (image starts nets : List ℕ) (modules : ℕ) (sizes rooms : List ℕ) : Type 0 where
   pub few : modules ≤ mostModules
   pub short : length image ≤ mostBytes
@@ -42,23 +44,20 @@ pub record Measurable (image starts nets : List ℕ) (modules : ℕ) (sizes room
   pub all : modules ≡ length ms
   pub long : Long image starts nets modules sizes rooms
 
--- The tables say the figures of every module from a position on.
+-- The tables have the figures of every module from a position on.
 pub record Tabled (first : ℕ) (ms : List Module) (sizes rooms : List ℕ) : Type 0 where
-  pub size : (k : ℕ) (m : Module) (later : List Module) → first ≤ k → At ms k m later → getD sizes k 0 ≡ bodySize (expandedSize later) (m .occurrences)
-  pub room : (k : ℕ) (m : Module) (later : List Module) → first ≤ k → At ms k m later → getD rooms k 0 ≡ netCount m + largestReferred (room later) (m .occurrences)
+  pub size :
+      (k : ℕ) (m : Module) (later : List Module)
+      → first ≤ k
+      → At ms k m later
+      → getD sizes k 0 ≡ bodySize (expandedSize later) (m .occurrences)
+  pub room :
+      (k : ℕ) (m : Module) (later : List Module)
+      → first ≤ k
+      → At ms k m later
+      → getD rooms k 0 ≡ netCount m + largestReferred (room later) (m .occurrences)
 
--- What the answer says of the modules from a position on: rule 17, and the tables where it holds.
+-- What an answer says of the modules from a position on: rule 17, and the tables where it is kept.
 abbrev pub Measures : (first : ℕ) → Sized → (ms : List Module) → (sizes rooms : List ℕ) → Type 0
 Measures first Fine ms sizes rooms = (sizesVerdict first (drop first ms) ≡ good) × Tabled first ms sizes rooms
 Measures first (Over place) ms sizes rooms = sizesVerdict first (drop first ms) ≡ refused 17 place
-
--- The module at position k can be measured: the figures of those behind it are known.
-pub record Ready (image starts nets : List ℕ) (k : ℕ) (sizes rooms : List ℕ) (ms : List Module) : Type 0 where
-  pub imaged : Imaged image starts nets ms
-  pub long : Long image starts nets (length ms) sizes rooms
-  pub inside : k < length ms
-  pub behind : Measures (k + 1) Fine ms sizes rooms
-
-pub record SomeReady (image starts nets : List ℕ) (k : ℕ) (sizes rooms : List ℕ) : Type 0 where
-  pub ms : List Module
-  pub ready : Ready image starts nets k sizes rooms ms

@@ -1,24 +1,27 @@
 -- Measuring a file from its last module to the first: what is known of the modules from a position on follows from what is known of
 -- those behind it, and from the figures of the module there.
-use Prim.Native.Nat.{ℕ, suc, _+_, _*_, _≤_, _<_}
+use Prim.Native.Nat.{ℕ, _+_, _*_, _≤_, _<_}
 use mathlib.Core.Logic.{⊎-elim}
-use mathlib.Core.Path.{_≡_, refl, sym, ap, _∙_}
-use mathlib.Core.List.{List, _∷_}
+use mathlib.Core.Path.{_≡_, ap, subst, _∙_}
+use mathlib.Core.List.{List}
 use native.Mathlib.Omega.{arith}
 use native.Mathlib.Nat.{eq-or-lt-of-le}
 use native.Mathlib.Numerals.{add-one}
 use lib.ListN.{length, getD, drop, set, length-drop, drop-of-length-le}
 use lib.Seq.{getD-set-same, getD-set-other}
 use Rattle.meaning.specs.Syntax.{Module}
-use Rattle.meaning.specs.Limits.{netCount, bodySize, expandedSize, mostSize}
+use Rattle.meaning.specs.Reading.{mostModules}
+use Rattle.meaning.specs.Limits.{netCount, bodySize, expandedSize, mostModuleNets, mostSize}
 use Rattle.meaning.specs.Figures.{largestReferred, room}
-use Rattle.meaning.specs.Verdict.{good, refused, sizesVerdict}
-use Rattle.sizes.specs.Measured.{At, Tabled, Measures, Imaged, Long, Ready}
-use Rattle.sizes.specs.Behind.{Here, here, inside, behind}
+use Rattle.meaning.specs.Verdict.{refused, sizesVerdict}
+use Rattle.sizes.specs.Measured.{At, Imaged, Long, Measures}
+use Rattle.sizes.specs.Ready.{Ready}
+use Rattle.sizes.specs.Behind.{here, inside, behind}
 use Rattle.sizes.specs.Rooms.{referred-low}
 use Rattle.sizes.specs.SizeRule.{sizes-kept, sizes-broken, sizes-broken-later}
-use Rattle.sizes.specs.Walking.{Figures, there, rules, kept-behind}
-use Rattle.sizes.specs.declared.Sized.the-variants.{Fine}
+use Rattle.sizes.specs.ModuleWalk.{Figures, there, rules, kept-behind}
+use Rattle.sizes.specs.declared.Sized.{Sized}
+use Rattle.sizes.specs.declared.Sized.the-variants.{Fine, Over}
 
 -- Behind the last module nothing is left to measure.
 pub measured-none : (k : ℕ) (ms : List Module) (sizes rooms : List ℕ) → length ms ≤ k → Measures k Fine ms sizes rooms
@@ -33,24 +36,29 @@ measured-none k ms sizes rooms end = (
 
 -- A module behind it is over the limit.
 pub measured-over-behind :
-    (k : ℕ) (ms : List Module) (place : ℕ) → k < length ms → sizesVerdict (k + 1) (drop (k + 1) ms) ≡ refused 17 place
+    (k : ℕ) (ms : List Module) (sizes rooms : List ℕ) {answer : Sized} {place : ℕ}
+    → k < length ms
+    → answer ≡ Over place
+    → Measures (k + 1) answer ms sizes rooms
     → sizesVerdict k (drop k ms) ≡ refused 17 place
-measured-over-behind k ms place h over =
-    let at = here ms k h in
-    rw (at .at) (sizes-broken-later k (at .m) (at .later) (rw (behind ms k (at .at), add-one k) at over))
+measured-over-behind k ms sizes rooms {place = place} h e measured =
+    let there = here ms k h in
+    let over = subst (λ (r : Sized). Measures (k + 1) r ms sizes rooms) e measured in
+    rw (there .at) (sizes-broken-later k (there .m) (there .later) (rw (behind ms k (there .at), add-one k) at over))
 
--- All behind it are measured: it can be, too.
+-- All behind it are measured: so it can be.
 pub ready-next :
-    {image starts nets : List ℕ} {modules : ℕ} {sizes₀ rooms₀ : List ℕ} {k : ℕ} {sizes rooms : List ℕ} {ms : List Module}
+    {image starts nets : List ℕ} {modules : ℕ} {sizes₀ rooms₀ sizes rooms : List ℕ} (k : ℕ) {ms : List Module} {answer : Sized}
     → Long image starts nets modules sizes₀ rooms₀
     → length sizes ≡ length sizes₀
     → length rooms ≡ length rooms₀
     → Imaged image starts nets ms
     → modules ≡ length ms
     → k < modules
-    → Measures (k + 1) Fine ms sizes rooms
+    → answer ≡ Fine
+    → Measures (k + 1) answer ms sizes rooms
     → Ready image starts nets k sizes rooms ms
-ready-next long as-sizes as-rooms imaged all h measured =
+ready-next {sizes = sizes} {rooms = rooms} k {ms} long as-sizes as-rooms imaged all h e measured =
     record {
       imaged = imaged;
       long =
@@ -63,7 +71,7 @@ ready-next long as-sizes as-rooms imaged all h measured =
             roomsLong = omega arith;
           };
       inside = omega arith;
-      behind = measured;
+      behind = subst (λ (r : Sized). Measures (k + 1) r ms sizes rooms) e measured;
     }
 
 -- A table with the figure of the module at k stored, where it had those of the modules behind it.
@@ -119,15 +127,12 @@ module _
   )
 
   -- Its room fits.
-  pub nets-few : getD nets k 0 ≤ 4096
-  nets-few =
-      omega (arith, ready .imaged .counted k (there ready .m) (there ready .later) (there ready .at), rules ready .fits .nets)
+  pub nets-few : getD nets k 0 ≤ mostModuleNets
+  nets-few = omega (arith, ready .imaged .counted k (there ready .m) (there ready .later) (there ready .at), rules ready .fits .nets)
 
-  pub largest-low : largest ≤ 4096 * 128
+  pub largest-low : largest ≤ mostModuleNets * mostModules
   largest-low =
-      let later = there ready .later in
-      omega
-      (
+      omega (
         arith,
         figures .roomed,
         referred-low (rules ready .rest) (there ready .m .occurrences),

@@ -1,30 +1,26 @@
 -- The sums over a module's occurrences in the image, by tables of the later modules' figures, are its figures in the file: the image
 -- has 16 plus its position for each module that is referred to, and there the tables have what the file says of its number.
-use Prim.Native.Nat.{ℕ, suc, _+_, _-_, _≤_, _<_}
-use mathlib.Core.Path.{_≡_, refl, sym, ap, _∙_}
-use mathlib.Core.Bool.{Bool, true, false, cond}
-use mathlib.Core.List.{List, [], _∷_, map}
+use Prim.Native.Nat.{ℕ, suc, _+_, _-_, _≤_}
+use mathlib.Core.Path.{_≡_, sym, ap, _∙_}
+use mathlib.Core.Bool.{cond}
+use mathlib.Core.List.{List}
 use native.Mathlib.Omega.{arith}
-use borrow.Author.Tests.{ltb-true}
-use lib.ListN.{length, getD, drop}
-use Rattle.meaning.specs.Lists.{All, none, more}
+use lib.ListN.{getD, drop}
 use Rattle.meaning.specs.Syntax.{Occurrence, Module}
 use Rattle.meaning.specs.Gates.{isGate}
 use Rattle.meaning.specs.Boxlist.{box, assoc}
-use Rattle.meaning.specs.Limits.{bodySize, expandedSize, mostSize}
-use Rattle.meaning.specs.Figures.{largestReferred, room}
-use Rattle.laws.specs.WellFormed.{Reference, toGate, toModule, Body, done, step}
+use Rattle.laws.specs.WellFormed.{Reference, toGate, toModule}
 use Rattle.laws.specs.Standing.{stands, number-of}
-use Rattle.image.specs.Resolved.{positionOf, referTo, resolveOccurrence, slotIn}
+use Rattle.image.specs.Resolved.{positionOf, referTo}
 use Rattle.image.specs.Fitting.{Fits}
-use Rattle.image.specs.Searching.{Search, expandedSize-search, room-search}
+use Rattle.image.specs.Searching.{Search}
 use Rattle.image.specs.Positions.{found-at}
 use Rattle.image.specs.Referring.{Refers, refer-no-gate}
 use Rattle.image.specs.OwnNumbers.{says-own}
 use Rattle.image.specs.ResolvedFigures.{SameReferred}
-use Rattle.sizes.specs.Measured.{At, Tabled}
-use Rattle.sizes.specs.Behind.{further, Ruled, ruled}
-use Rattle.sizes.specs.Walks.{entry, figure, Told}
+use Rattle.sizes.specs.Measured.{At}
+use Rattle.sizes.specs.Behind.{further, ruled}
+use Rattle.sizes.specs.Walks.{entry}
 
 module _ {ms : List Module} (fits : Fits ms) (k : ℕ) {m : Module} {later : List Module} (e : At ms k m later) where
   -- Where a number that the later modules have is in the image, and what a search says of it.

@@ -1,13 +1,13 @@
 -- Rule 17 from the last module to the first: what the verdict on a module and the later ones is, by the later ones' and its own size.
 use Prim.Native.Nat.{ℕ, suc, _≤_, _<_}
-use mathlib.Core.Path.{_≡_, refl, ap}
+use mathlib.Core.Path.{_≡_, refl}
 use mathlib.Core.Bool.{Bool, true, false, cond}
 use mathlib.Core.List.{List, [], _∷_}
 use native.Mathlib.Omega.{arith}
 use borrow.Author.Tests.{leb-true, le-leb, lt-leb}
 use lib.Dec.{eqb, leb}
 use Rattle.meaning.specs.Syntax.{Module}
-use Rattle.meaning.specs.Limits.{bodySize, expandedSize, mostSize, sizeOk}
+use Rattle.meaning.specs.Limits.{bodySize, expandedSize, mostSize}
 use Rattle.meaning.specs.Verdict.{Verdict, good, refused, keep, andThen, sizesVerdict}
 
 module _ (place : ℕ) (m : Module) (later : List Module) where

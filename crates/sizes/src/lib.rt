@@ -2,13 +2,14 @@
 // reference to a module is 16 plus its position: so the figures of later modules come from tables, and the work is linear.
 ghost use mathlib.Core.Path.{_≡_};
 ghost use mathlib.Core.List.{List};
-ghost use Prim.Native.Nat.{_+_, _<_, _≤_, _^_, max};
+ghost use Prim.Native.Nat.{_+_, _<_, _^_, max};
 ghost use lib.ListN.{length};
 ghost use Rattle.meaning.specs.Syntax.{Occurrence, Module};
 ghost use Rattle.meaning.specs.Layout.{moduleNumbers};
 ghost use Rattle.image.specs.Stands.{Stands};
 ghost use Rattle.sizes.specs.Walks.{figure, ModuleThere, Walkable, Walk, Summed};
-ghost use Rattle.sizes.specs.Measured.{Measurable, Imaged, Measures, Ready, SomeReady};
+ghost use Rattle.sizes.specs.Measured.{Measurable, Imaged, Measures};
+ghost use Rattle.sizes.specs.Ready.{Ready, SomeReady};
 
 pub enum Sized {
     Fine,

@@ -1,12 +1,11 @@
 -- `sizes::measure_one` meets its contract: the sums that the walk gives are the module's figures. Assumes nothing.
-use Prim.Native.Nat.{_+_}
 use native.Mathlib.Omega.{arith}
 use mathlib.Core.Path.{refl}
 use mathlib.Core.List.{List}
 use borrow.Author.Needs.{needs}
 use Rattle.meaning.specs.Syntax.{Module}
-use Rattle.sizes.specs.Measured.{Ready}
-use Rattle.sizes.specs.Walking.{Figures, there, imaged, standing, walk-here, figures}
+use Rattle.sizes.specs.Ready.{Ready}
+use Rattle.sizes.specs.ModuleWalk.{Figures, there, imaged, standing, walk-here, figures}
 use Rattle.sizes.specs.Measuring.{measured-over, measured-fine, nets-few, largest-low}
 use Rattle.sizes.proofs.measure_one.Statement.{statement}
 use Rattle.sizes.proofs.measure_one.Tie as tie

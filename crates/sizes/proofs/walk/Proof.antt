@@ -1,12 +1,12 @@
--- `sizes::walk` meets its contract. The loop's invariant: what is summed and what the occurrences left would add are the sums of all.
+-- `sizes::walk` meets its contract. The loop's invariant: what is summed and what the occurrences left would add make the sums of all.
 -- Assumes nothing.
-use Prim.Native.Nat.{ℕ, _+_, _-_, _<_, max}
+use Prim.Native.Nat.{ℕ, _+_, _-_, _^_, max}
 use native.Mathlib.Omega.{arith}
-use mathlib.Core.Path.{_≡_, refl, ap, _∙_}
+use mathlib.Core.Path.{_≡_, ap, _∙_}
 use mathlib.Core.List.{List}
 use lib.ListN.{length}
 use Rattle.meaning.specs.Syntax.{Occurrence}
-use Rattle.sizes.specs.Walks.{Walk, figure, figure-fits}
+use Rattle.sizes.specs.Walks.{figure, figure-fits, Walk}
 use Rattle.sizes.specs.Turns.{Walked, walked-none, Turn, turn, walked-all, sum-fits}
 use Rattle.sizes.proofs.walk.Statement.{statement}
 use Rattle.sizes.proofs.walk.Tie as tie
@@ -18,32 +18,42 @@ Inv-loop image count sizes rooms occurrences at₀ size₀ room₀ i₀ at size 
 abbrev μ-loop : tie.MeasureT-loop
 μ-loop image count sizes rooms occurrences at₀ size₀ room₀ i₀ at size room i = occurrences - i
 
--- The occurrences that stand behind the count, and the turn at the one that is next.
+-- The occurrences that stand behind the count, and the turn of the one that is next.
 abbrev WalkOf : tie.In-loop Inv-loop μ-loop → List Occurrence → Type 0
-WalkOf c os = let args = c .before .before .before .before .before .before .args in Walk (args .image .now) (args .count) (args .sizes .now) (args .rooms .now) os
+WalkOf c os =
+    let args = c .before .before .before .before .before .before .args in
+    Walk (args .image .now) (args .count) (args .sizes .now) (args .rooms .now) os
 
 abbrev TurnOf : tie.In-loop Inv-loop μ-loop → List Occurrence → Type 0
 TurnOf c os =
     let args = c .before .before .before .before .before .before .args in
     let head = c .before .loop in
-    Turn (args .image .now) (args .sizes .now) (args .rooms .now) os (head .at) (head .size) (head .room) (c .before .before .entry .result - head .i)
+    Turn (args .image .now) (args .sizes .now) (args .rooms .now) os (head .at) (head .size) (head .room)
+    (c .before .before .entry .result - head .i)
 
 turn-of : (c : tie.In-loop Inv-loop μ-loop) (os : List Occurrence) → WalkOf c os → TurnOf c os
 turn-of c os w = turn _ _ _ (c .before .loop .inv os w) (omega arith)
 
--- What is read of it.
-driven : (c : tie.After-entry2 Inv-loop μ-loop) (os : List Occurrence) (t : TurnOf (c .before) os) → c .entry2 .result ≡ length (t .o .drives)
-driven c os t = c .entry2 .ensures ∙ t .there .drivenCount
-
-referred : (c : tie.After-entry3 Inv-loop μ-loop) (os : List Occurrence) (t : TurnOf (c .before .before) os) → c .entry3 .result ≡ t .o .refers
-referred c os t = c .entry3 .ensures ∙ t .there .refers _ (omega (arith, driven (c .before) os t))
-
-taken : (c : tie.After-entry4 Inv-loop μ-loop) (os : List Occurrence) (t : TurnOf (c .before .before .before .before .before .before) os) → c .entry4 .result ≡ length (t .o .takes)
-taken c os t = c .entry4 .ensures ∙ t .there .takenCount _ (omega (arith, driven (c .before .before .before .before .before) os t))
-
 -- The turn of the walk that the function was promised.
 promised : (c : tie.In-loop Inv-loop μ-loop) → TurnOf c (c .before .before .before .before .before .before .pre .os)
 promised c = turn-of c _ (c .before .before .before .before .before .before .pre .walk)
+
+-- What is read of the occurrence: how many nets it drives, what it refers to, how many nets it takes.
+driven :
+    (c : tie.After-entry2 Inv-loop μ-loop) (os : List Occurrence) (t : TurnOf (c .before) os)
+    → c .entry2 .result ≡ length (t .o .drives)
+driven c os t = c .entry2 .ensures ∙ t .there .drivenCount
+
+referred :
+    (c : tie.After-entry3 Inv-loop μ-loop) (os : List Occurrence) (t : TurnOf (c .before .before) os)
+    → c .entry3 .result ≡ t .o .refers
+referred c os t = c .entry3 .ensures ∙ t .there .refers _ (omega (arith, driven (c .before) os t))
+
+taken :
+    (c : tie.After-entry4 Inv-loop μ-loop) (os : List Occurrence) (t : TurnOf (c .before .before .before .before .before .before) os)
+    → c .entry4 .result ≡ length (t .o .takes)
+taken c os t =
+    c .entry4 .ensures ∙ t .there .takenCount _ (omega (arith, driven (c .before .before .before .before .before) os t))
 
 entry-requires : tie.Need-entry-requires Inv-loop μ-loop
 entry-requires c κs = omega (arith, c .before .before .before .pre .walk .standing .within)
@@ -77,23 +87,16 @@ add-size : tie.Need-add-size Inv-loop μ-loop
 add-size c =
     let t = promised (c .before .before .before) in
     let start = c .before .before .before .before .before .before .before .before .before in
-    omega (arith, c .share .ensures, ap (figure (start .args .sizes .now)) (referred (c .before) _ t), sum-fits _ _ _ (start .pre .walk) (start .pre .short))
+    let to = ap (figure (start .args .sizes .now)) (referred (c .before) _ t) in
+    omega (arith, c .share .ensures, sum-fits _ _ _ (start .pre .walk) (start .pre .short))
 
 share-requires-2 : tie.Need-share-requires-2 Inv-loop μ-loop
 share-requires-2 c κs =
     let t = promised (c .before .before .before) in
     let to = referred (c .before) _ t in
     let rooms = c .before .before .before .before .before .before .before .before .before .args .rooms .now in
-    omega
-    (
-      arith,
-      t .told,
-      figure-fits rooms (c .before .entry3 .result) 4294967296
-      (c .before .before .before .before .before .before .shared-slice-known3 .given (c .before .entry3 .result - 16) .fits),
-    )
-
-larger-requires : tie.Need-larger-requires Inv-loop μ-loop
-larger-requires c κs = tt
+    let fits = c .before .before .before .before .before .before .shared-slice-known3 .given (c .before .entry3 .result - 16) .fits in
+    omega (arith, t .told, figure-fits rooms (c .before .entry3 .result) (2 ^ 32) fits)
 
 add-at-2 : tie.Need-add-at-2 Inv-loop μ-loop
 add-at-2 c = let t = promised (c .before .before .before .before .before) in omega (arith, driven (c .before .before .before .before) _ t)
@@ -105,20 +108,19 @@ entry-requires-4 : tie.Need-entry-requires-4 Inv-loop μ-loop
 entry-requires-4 c κs = let t = promised (c .before .before .before .before .before) in omega (arith, driven (c .before .before .before .before) _ t)
 
 add-at-3 : tie.Need-add-at-3 Inv-loop μ-loop
-add-at-3 c =
-    let t = promised (c .before .before .before .before .before .before) in
-    omega (arith, driven (c .before .before .before .before .before) _ t, taken c _ t)
+add-at-3 c = let t = promised (c .before .before .before .before .before .before) in omega (arith, driven (c .before .before .before .before .before) _ t, taken c _ t)
 
 loop-again : tie.Need-loop-again Inv-loop μ-loop
 loop-again c os w =
     let t = turn-of (c .before .before .before .before .before .before) os w in
     let to = referred (c .before .before .before .before) os t in
-    let start = c .before .before .before .before .before .before .before .before .before .before .before .before in
-    let room = c .before .before .before .before .before .before .before .loop .room in
+    let args = c .before .before .before .before .before .before .before .before .before .before .before .before .args in
     t .next _ _ _ _
     (omega (arith, driven (c .before .before .before .before .before) os t, taken c os t))
-    (omega (arith, c .before .before .before .share .ensures, ap (figure (start .args .sizes .now)) to))
-    (c .before .larger .ensures ∙ ap (max room) (c .before .before .share2 .ensures ∙ ap (λ (x : ℕ). 0 + figure (start .args .rooms .now) x) to))
+    (omega (arith, c .before .before .before .share .ensures, ap (figure (args .sizes .now)) to))
+    (c .before .larger .ensures
+    ∙ ap (max (c .before .before .before .before .before .before .before .loop .room))
+    (c .before .before .share2 .ensures ∙ ap (λ (x : ℕ). 0 + figure (args .rooms .now) x) to))
     (omega arith)
 
 returns : tie.Need-returns Inv-loop μ-loop
@@ -140,7 +142,7 @@ walk-spec =
     share-requires
     add-size
     share-requires-2
-    larger-requires
+    (λ c κs. tt)
     add-at-2
     add-entry
     entry-requires-4

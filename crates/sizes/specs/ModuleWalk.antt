@@ -1,13 +1,13 @@
 -- The module at a position can be walked in the image once the figures of the modules behind it are in the tables, and the sums of the
 -- walk are its figures in the file.
-use Prim.Native.Nat.{ℕ, suc, _+_, _*_, _≤_, _<_}
+use Prim.Native.Nat.{ℕ, suc, _+_, _≤_, _<_}
 use mathlib.Core.Path.{_≡_, _∙_}
 use mathlib.Core.Bool.{Bool, true, false, cond}
 use mathlib.Core.List.{List, map}
 use native.Mathlib.Omega.{arith}
 use native.Mathlib.Numerals.{add-one}
 use borrow.Author.Tests.{ltb-true}
-use lib.ListN.{length, getD, length-drop}
+use lib.ListN.{length, getD}
 use Rattle.meaning.specs.Lists.{All, none, more}
 use Rattle.meaning.specs.Syntax.{Occurrence, Module}
 use Rattle.meaning.specs.Gates.{isGate}
@@ -22,7 +22,7 @@ use Rattle.image.specs.Resolved.{positionOf, referTo, slotIn, resolveOccurrence
 use Rattle.image.specs.Positions.{found-at}
 use Rattle.image.specs.Searching.{expandedSize-search, room-search}
 use Rattle.image.specs.ResolvedFigures.{SameReferred, bodySize-kept, largestReferred-kept}
-use Rattle.sizes.specs.Measured.{At, Ready}
+use Rattle.sizes.specs.Ready.{Ready}
 use Rattle.sizes.specs.Behind.{Here, here, inside, behind, further, Ruled, ruled}
 use Rattle.sizes.specs.Referred.{same-referred}
 use Rattle.sizes.specs.SizeRule.{sizes-within}
