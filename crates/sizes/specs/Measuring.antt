@@ -98,6 +98,14 @@ module _ (ms : List Module) (k : ℕ) {m : Module} {later : List Module} (e : At
       behind-it further =
           getD-set-other table k j x 0 (λ same. omega arith) ∙ before j n rest (omega arith) at
 
+-- The module at k has few nets.
+pub nets-few :
+    {image starts nets : List ℕ} {k : ℕ} {sizes rooms : List ℕ} {ms : List Module} → Ready image starts nets k sizes rooms ms
+    → getD nets k 0 ≤ mostModuleNets
+nets-few {k = k} ready =
+    let at = there ready in
+    omega (arith, ready .imaged .counted k (at .m) (at .later) (at .at), rules ready .fits .nets)
+
 module _
     {image starts nets : List ℕ} {k : ℕ} {sizes rooms : List ℕ} {ms : List Module} (ready : Ready image starts nets k sizes rooms ms)
     {size largest : ℕ} (figures : Figures (there ready .m) (there ready .later) size largest) where
@@ -126,10 +134,7 @@ module _
     },
   )
 
-  -- Its room fits.
-  pub nets-few : getD nets k 0 ≤ mostModuleNets
-  nets-few = omega (arith, ready .imaged .counted k (there ready .m) (there ready .later) (there ready .at), rules ready .fits .nets)
-
+  -- The largest room that it refers to is small.
   pub largest-low : largest ≤ mostModuleNets * mostModules
   largest-low =
       omega (

@@ -26,5 +26,6 @@ room-low (some {m} {later} ok rest) x =
     go false below largest = omega arith
 
 -- So is the largest room among modules that are referred to.
-pub referred-low : {later : List Module} → Fits later → (os : List Occurrence) → largestReferred (room later) os ≤ mostModuleNets * length later
+pub referred-low :
+    {later : List Module} → Fits later → (os : List Occurrence) → largestReferred (room later) os ≤ mostModuleNets * length later
 referred-low {later} fits os = largest-within (room later) (mostModuleNets * length later) (room-low fits) os

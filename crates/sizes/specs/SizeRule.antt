@@ -22,7 +22,9 @@ module _ (place : ℕ) (m : Module) (later : List Module) where
     sizes-broken h = rw (behind, lt-leb (bodySize (expandedSize later) (m .occurrences)) mostSize h)
 
   -- One of the later ones breaks it.
-  pub sizes-broken-later : {number at : ℕ} → sizesVerdict (suc place) later ≡ refused number at → sizesVerdict place (m ∷ later) ≡ refused number at
+  pub sizes-broken-later :
+      {number at : ℕ} → sizesVerdict (suc place) later ≡ refused number at
+      → sizesVerdict place (m ∷ later) ≡ refused number at
   unfolding sizesVerdict
   sizes-broken-later behind = rw behind
 

@@ -4,6 +4,7 @@ use mathlib.Core.Path.{_≡_}
 use mathlib.Core.Bool.{Bool, true, false, cond}
 use mathlib.Core.List.{List}
 use native.Mathlib.Omega.{arith}
+use borrow.Author.Tests.{lt-ltb, le-ltb}
 use lib.ListN.{length, getD}
 use Rattle.meaning.specs.Syntax.{Occurrence, Module}
 use Rattle.meaning.specs.Lists.{All}
@@ -21,6 +22,12 @@ entry table to = getD table (to - 16) 0
 -- What a table says of a number that is referred to: nothing of a gate.
 abbrev pub figure : (table : List ℕ) (to : ℕ) → ℕ
 figure table to = cond (isGate to) 0 (entry table to)
+
+pub figure-of-gate : (table : List ℕ) (to : ℕ) → to < 16 → figure table to ≡ 0
+figure-of-gate table to h = rw (lt-ltb to 16 h)
+
+pub figure-of-module : (table : List ℕ) (to : ℕ) → 16 ≤ to → figure table to ≡ entry table to
+figure-of-module table to h = rw (le-ltb to 16 h)
 
 pub figure-fits : (table : List ℕ) (to most : ℕ) → entry table to < most → figure table to < most
 figure-fits table to most h = go (isGate to)

@@ -11,11 +11,13 @@ ghost use Rattle.sizes.specs.Walks.{figure, ModuleThere, Walkable, Walk,
 ghost use Rattle.sizes.specs.Measured.{Measurable, Imaged, Measures};
 ghost use Rattle.sizes.specs.Ready.{Ready, SomeReady};
 
+// Every module keeps rule 17, or the one at a place is the first over the limit, from the last module to the first.
 pub enum Sized {
     Fine,
     Over { place: usize },
 }
 
+// Over the occurrences of a module: its expanded size, and the largest room among the modules that they refer to.
 struct Sums {
     size: u32,
     room: u32,
@@ -30,6 +32,7 @@ fn share(own: u32, table: &[u32], to: usize) -> u32
     if to < 16 { own } else { own + table[to - 16] }
 }
 
+// The larger of two.
 fn larger(a: u32, b: u32) -> u32
     ensures { λ r. ⌜ r ≡ max a b ⌝ }
 {
@@ -110,6 +113,7 @@ fn measure_from(
     }
 }
 
+// All modules: rule 17, and where it is kept their sizes and rooms in the tables.
 pub fn measure(
     image: &[u16],
     starts: &[usize],

@@ -51,7 +51,9 @@ ready t c ms imaged all =
     let call = c .before .before .before .before .before .before .measure-from in
     let kept = call .kept .1 .1 .1 .1 .1 in
     let start = c .before .before .before .before .before .before .before .before .before .before .before .before .before .before .before in
-    ready-next (start .args .k) (start .pre .1 .long) (kept .0) (kept .1 .0) imaged all (c .before .before .before .before .before .before .before .before .before .if1 .left) (c .enum-told .given .1)
+    ready-next (start .args .k) (start .pre .1 .long) (kept .0) (kept .1 .0) imaged all
+    (c .before .before .before .before .before .before .before .before .before .if1 .left)
+    (c .enum-told .given .1)
     (call .ensures ms imaged all)
 
 pub +measure-from-spec : {M : Type 1} → statement M
@@ -68,7 +70,9 @@ pub +measure-from-spec : {M : Type 1} → statement M
     measure-from.Post
     (λ c ms imaged all. let end = c .if1 .taken in measured-none _ ms _ _ (omega arith))
     (λ c. omega arith)
-    (λ c κs. let start = c .before .before .before .before .before .before .before .before in (omega (arith, start .pre .0, c .before .before .if1 .left), start .pre .1))
+    (λ c κs.
+    let start = c .before .before .before .before .before .before .before .before in
+    (omega (arith, start .pre .0, c .before .before .if1 .left), start .pre .1))
     (λ c. search needs)
     (λ c κs.
     let file = c .before .before .before .before .before .before .before .before .before .before .before .before .before .before .before .before .before .pre .1 in
@@ -76,7 +80,8 @@ pub +measure-from-spec : {M : Type 1} → statement M
     (λ c. search needs)
     (λ c. search needs)
     (λ c. search needs)
-    (λ c ms imaged all. c .before .before .before .before .measure-one .ensures ms (ready t (c .before .before .before .before .before .before .before) ms imaged all))
+    (λ c ms imaged all.
+    c .before .before .before .before .measure-one .ensures ms (ready t (c .before .before .before .before .before .before .before) ms imaged all))
     (λ c. search needs)
     (λ c. search needs)
     (λ c ms imaged all.

@@ -23,7 +23,9 @@ found c ms ready =
     figures ready (c .walk .ensures (imaged ready .occurrences) (walk-here ready (c .before .before .before .body .result) place))
 
 body-requires : tie.Need-body-requires
-body-requires c κs = let ready = c .before .before .before .before .before .before .pre .ready in record { m = imaged ready; standing = standing ready }
+body-requires c κs =
+    let ready = c .before .before .before .before .before .before .pre .ready in
+    record { m = imaged ready; standing = standing ready }
 
 walk-requires : tie.Need-walk-requires
 walk-requires c κs =
@@ -36,20 +38,20 @@ walk-requires c κs =
     }
 
 cast-own : tie.Need-cast-own
-cast-own c = let ready = c .before .before .before .before .before .before .before .before .before .before .before .pre .ready in omega (arith, nets-few ready (found (c .before) _ ready))
+cast-own c = omega (arith, nets-few (c .before .before .before .before .before .before .before .before .before .before .before .pre .ready))
 
 returns : tie.Need-returns
-returns c ms ready = measured-over ready (found (c .before .before .before) ms ready) (c .if1 .taken)
+returns c ms ready = measured-over ready (found (c .before .before .before) ms ready) (let over = c .if1 .taken in omega arith)
 
 add-rooms : tie.Need-add-rooms
 add-rooms c =
     let ready = c .before .before .before .before .before .before .before .before .before .before .before .before .before .before .pre .ready in
-    let here = found (c .before .before .before .before) _ ready in
-    omega (arith, nets-few ready here, largest-low ready here)
+    let found-here = found (c .before .before .before .before) _ ready in
+    omega (arith, nets-few ready, largest-low ready found-here)
 
 returns-2 : tie.Need-returns-2
 returns-2 c ms ready =
-    measured-fine ready (found (c .before .before .before .before) ms ready) _ refl (c .before .if1 .left)
+    measured-fine ready (found (c .before .before .before .before) ms ready) _ refl (let within = c .before .if1 .left in omega arith)
 
 pub measure-one-spec : {M : Type 1} → statement M
 measure-one-spec =

@@ -99,16 +99,24 @@ share-requires-2 c κs =
     omega (arith, t .told, figure-fits rooms (c .before .entry3 .result) (2 ^ 32) fits)
 
 add-at-2 : tie.Need-add-at-2 Inv-loop μ-loop
-add-at-2 c = let t = promised (c .before .before .before .before .before) in omega (arith, driven (c .before .before .before .before) _ t)
+add-at-2 c =
+    let t = promised (c .before .before .before .before .before) in
+    omega (arith, driven (c .before .before .before .before) _ t)
 
 add-entry : tie.Need-add-entry Inv-loop μ-loop
-add-entry c = let t = promised (c .before .before .before .before .before) in omega (arith, driven (c .before .before .before .before) _ t)
+add-entry c =
+    let t = promised (c .before .before .before .before .before) in
+    omega (arith, driven (c .before .before .before .before) _ t)
 
 entry-requires-4 : tie.Need-entry-requires-4 Inv-loop μ-loop
-entry-requires-4 c κs = let t = promised (c .before .before .before .before .before) in omega (arith, driven (c .before .before .before .before) _ t)
+entry-requires-4 c κs =
+    let t = promised (c .before .before .before .before .before) in
+    omega (arith, driven (c .before .before .before .before) _ t)
 
 add-at-3 : tie.Need-add-at-3 Inv-loop μ-loop
-add-at-3 c = let t = promised (c .before .before .before .before .before .before) in omega (arith, driven (c .before .before .before .before .before) _ t, taken c _ t)
+add-at-3 c =
+    let t = promised (c .before .before .before .before .before .before) in
+    omega (arith, driven (c .before .before .before .before .before) _ t, taken c _ t)
 
 loop-again : tie.Need-loop-again Inv-loop μ-loop
 loop-again c os w =
