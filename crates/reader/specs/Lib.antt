@@ -6,3 +6,5 @@ pub mod Single
 pub mod Sound
 pub mod Bytes
 pub mod Steps
+pub mod Kept
+pub mod Onward

@@ -1,3 +1,6 @@
+use mathlib.Core.Path.{sym, _∙_}
+use native.Mathlib.Omega.{arith}
+use Rattle.reader.specs.Kept.{number-room, count-kept, count-over, count-refused}
 use borrow.Author.Needs.{needs}
 use Rattle.reader.proofs.keep_count.Statement.{statement}
 use Rattle.reader.proofs.keep_count.Tie as tie
@@ -5,45 +8,35 @@ use Rattle.reader.proofs.keep_count.Reads as reads
 use Rattle.reader.proofs.keep_count.Lts as lts
 use Rattle.reader.proofs.read_number.Reads as read-number-reads
 
--- src/lib.rt:62:11
 read-number-requires : tie.Need-read-number-requires
 read-number-requires c κs = search needs
 
--- src/lib.rt:63:27
 enum-known-number : tie.Need-enum-known-number
 enum-known-number c = search needs
 
--- src/lib.rt:64:22
 enum-known-value : tie.Need-enum-known-value
 enum-known-value c = search needs
 
--- src/lib.rt:66:17
 returns : tie.Need-returns
-returns c = ?
+returns c = count-over (c .before .before .before .before .before .before .before .pre) (sym (c .before .before .value .given .1) ∙ c .before .before .before .before .read-number .ensures) (c .before .before .before .before .before .before .before .args .ceiling) (c .if1 .taken)
 
--- src/lib.rt:68:13
-mul-numbers : tie.Need-mul-numbers
-mul-numbers c = ?
-
--- src/lib.rt:68:13
 slice-write-numbers : tie.Need-slice-write-numbers
-slice-write-numbers c = ?
+slice-write-numbers c = number-room (c .before .before .before .before .before .before .before .pre) (sym (c .before .before .value .given .1) ∙ c .before .before .before .before .read-number .ensures)
 
--- src/lib.rt:69:37
+mul-numbers : tie.Need-mul-numbers
+mul-numbers c = let h = slice-write-numbers c in omega arith
+
 add-t13 : tie.Need-add-t13
-add-t13 c = ?
+add-t13 c = let h = slice-write-numbers c in omega arith
 
--- src/lib.rt:58:1
 returns-2 : tie.Need-returns-2
-returns-2 c = ?
+returns-2 c = count-refused (c .before .before .before .before .before .before .pre) (sym (c .before .number .given .1) ∙ c .before .before .before .read-number .ensures) (c .before .before .before .before .before .before .args .ceiling)
 
--- src/lib.rt:58:1
 same-length : tie.Need-same-length
 same-length c = search needs
 
--- src/lib.rt:58:1
 returns-3 : tie.Need-returns-3
-returns-3 c = ?
+returns-3 c = count-kept (c .before .before .before .before .before .before .before .pre) (sym (c .before .before .value .given .1) ∙ c .before .before .before .before .read-number .ensures) (c .before .before .before .before .before .before .before .args .ceiling) (c .if1 .left)
 
 pub keep-count-spec : {M : Type 1} → statement M
 keep-count-spec =
