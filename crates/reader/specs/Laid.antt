@@ -7,16 +7,19 @@ use lib.ListN.{length, drop, set, getD, length-append, length-drop}
 use lib.Seq.{drop-append-add, drop-drop, drop-cons, set-at, getD-at, append-snoc}
 use Rattle.reader.specs.Numbers.{laid}
 
-module _ (xs ys old : List ℕ) where
-  -- What covers a layer leaves nothing of it.
-  pub laid-over : length xs ≤ length ys → laid ys (laid xs old) ≡ laid ys old
-  laid-over h =
-      let e : length ys ≡ length xs + (length ys - length xs) = omega arith in
-      ap (λ (t : List ℕ). ys ++ t) (ap (λ (n : ℕ). drop n (laid xs old)) e ∙ drop-append-add xs (drop (length xs) old) (length ys - length xs)
-      ∙ drop-drop (length ys - length xs) (length xs) old ∙ ap (λ (n : ℕ). drop n old) (sym e))
+-- What covers a layer leaves nothing of it.
+pub laid-over : (xs ys old : List ℕ) → length xs ≤ length ys → laid ys (laid xs old) ≡ laid ys old
+laid-over xs ys old h =
+    let k : ℕ = length ys - length xs in
+    let e : length ys ≡ length xs + k = omega arith in
+    ap (λ (t : List ℕ). ys ++ t)
+    (ap (λ (n : ℕ). drop n (laid xs old)) e
+    ∙ drop-append-add xs (drop (length xs) old) k
+    ∙ drop-drop k (length xs) old
+    ∙ ap (λ (n : ℕ). drop n old) (sym e))
 
-  pub length-laid : length xs ≤ length old → length (laid xs old) ≡ length old
-  length-laid h = simp (length-append, length-drop) (omega arith)
+pub length-laid : (xs old : List ℕ) → length xs ≤ length old → length (laid xs old) ≡ length old
+length-laid xs old h = simp (length-append, length-drop) (omega arith)
 
 -- The entry behind xs is stored.
 pub laid-more : (xs old : List ℕ) (n v : ℕ) → laid xs old ≡ old → n ≡ length xs → n < length old
@@ -29,7 +32,7 @@ laid-more xs old n v lies e fits =
     let m : length (xs ++ (v ∷ [])) ≡ suc (length xs) = simp length-append (omega arith) in
     ap (λ (t : List ℕ). set t n v) old≡
     ∙ set-at xs (getD old (length xs) 0) (drop (suc (length xs)) old) v n (sym e)
-    ∙ sym (append-snoc xs v (drop (suc (length xs)) old) ∙ refl)
+    ∙ sym (append-snoc xs v (drop (suc (length xs)) old))
     ∙ ap (λ (k : ℕ). (xs ++ (v ∷ [])) ++ drop k old) (sym m)
 
 -- The entry behind xs is read back.

@@ -8,3 +8,4 @@ pub mod Bytes
 pub mod Steps
 pub mod Kept
 pub mod Onward
+pub mod Turns

@@ -1,3 +1,11 @@
+use Prim.Native.Nat.{ℕ}
+use mathlib.Core.Path.{_≡_, refl, sym, _∙_}
+use native.Mathlib.Omega.{arith}
+use lib.ListN.{length, drop}
+use borrow.Author.Needs.{needs}
+use Rattle.meaning.specs.Reading.{readNumber, readMany}
+use Rattle.reader.specs.Sound.{sound-number}
+use Rattle.reader.specs.Turns.{Turning, turn-first, turn-refused, turn-next, turn-last}
 use Rattle.reader.proofs.keep_numbers.Statement.{statement}
 use Rattle.reader.proofs.keep_numbers.Tie as tie
 use Rattle.reader.proofs.keep_numbers.Reads as reads
@@ -5,54 +13,48 @@ use Rattle.reader.proofs.keep_numbers.Lts as lts
 use Rattle.reader.proofs.keep_number.Reads as keep-number-reads
 
 abbrev Inv-loop : tie.InvT-loop
-Inv-loop bytes at count numbers₀ filled at₀ filled₀ left₀ numbers at' filled' left = ?
+Inv-loop bytes at count numbers₀ filled at₀ filled₀ left₀ numbers at' filled' left = 
+    Turning readNumber bytes filled (readMany readNumber count at (drop at bytes)) numbers₀ left at' filled' numbers
+    × (length numbers ≡ length numbers₀)
 
 abbrev μ-loop : tie.MeasureT-loop
-μ-loop bytes at count numbers₀ filled at₀ filled₀ left₀ numbers at' filled' left = ?
+μ-loop bytes at count numbers₀ filled at₀ filled₀ left₀ numbers at' filled' left = left
 
--- src/lib.rt:82:5
 loop-holds : tie.Need-loop-holds Inv-loop μ-loop
-loop-holds c = ?
+loop-holds c = (turn-first (c .before .before .pre), refl)
 
--- src/lib.rt:83:15
 keep-number-requires : tie.Need-keep-number-requires Inv-loop μ-loop
-keep-number-requires c κs = ?
+keep-number-requires c κs = c .before .before .loop .inv .0 .ready
 
--- src/lib.rt:84:28
 enum-known-number : tie.Need-enum-known-number Inv-loop μ-loop
-enum-known-number c = ?
+enum-known-number c = search needs
 
--- src/lib.rt:85:17
 same-length : tie.Need-same-length Inv-loop μ-loop
-same-length c = ?
+same-length c = c .before .before .before .before .before .keep-number .kept .1 .1 .0 ∙ c .before .before .before .before .before .before .before .before .loop .inv .1
 
--- src/lib.rt:85:17
 returns : tie.Need-returns Inv-loop μ-loop
-returns c = ?
+returns c = turn-refused (c .before .before .before .before .before .before .before .loop-test .taken) (c .before .before .before .before .before .before .before .before .loop .inv .0) (rw (c .before .number .given .1) at (c .before .before .before .before .before .keep-number .ensures))
 
--- src/lib.rt:87:23
 enum-known-next : tie.Need-enum-known-next Inv-loop μ-loop
-enum-known-next c = ?
+enum-known-next c = search needs
 
--- src/lib.rt:92:9
 sub-left : tie.Need-sub-left Inv-loop μ-loop
-sub-left c = ?
+sub-left c = omega arith
 
--- src/lib.rt:82:5
 loop-less : tie.Need-loop-less Inv-loop μ-loop
-loop-less c = ?
+loop-less c = omega arith
 
--- src/lib.rt:82:5
 loop-again : tie.Need-loop-again Inv-loop μ-loop
-loop-again c = ?
+loop-again c = 
+    ( turn-next (c .before .before .before .before .before .before .before .loop-test .taken) (c .before .before .before .before .before .before .before .before .loop .inv .0) sound-number (rw (c .before .next .given .1) at (c .before .before .before .before .before .keep-number .ensures))
+    , c .before .before .before .before .before .keep-number .kept .1 .1 .0 ∙ c .before .before .before .before .before .before .before .before .loop .inv .1
+    )
 
--- src/lib.rt:75:1
 same-length-2 : tie.Need-same-length-2 Inv-loop μ-loop
-same-length-2 c = ?
+same-length-2 c = c .before .loop .inv .1
 
--- src/lib.rt:75:1
 returns-2 : tie.Need-returns-2 Inv-loop μ-loop
-returns-2 c = ?
+returns-2 c = turn-last (c .loop-test .left) (c .before .loop .inv .0)
 
 pub keep-numbers-spec : {M : Type 1} → statement M
 keep-numbers-spec =
