@@ -95,3 +95,21 @@ module _ {A : Type 0} {f : A → List ℕ} {r : Reader A} {bytes old mid : List 
           record { answers = v .answers; lays = lays; keeps = omega (arith, ready .count, g .ready .count, v .keeps) }
       in
       rw (g .step) all
+
+-- A count that has been laid out can be read back.
+module _ {r : Reader ℕ} {bytes old mid : List ℕ} {p n q m : ℕ}
+    (sound : Sound one r) (ready : Ready bytes p n old) (t : Took bytes n (r p (drop p bytes)) old mid (On q m)) where
+  pub count-room : n < length mid
+  count-room =
+      let g = gone sound ready t in
+      let l = simp length-append at (ap length (g .further .numbers)) in
+      let a = spells-length (g .ready .front .spells) in
+      let b = length-take q bytes in
+      omega (arith, ready .count, g .ready .room)
+
+  pub count-value : (a : ℕ) → r p (drop p bytes) ≡ got a q (drop q bytes) → getD mid n 0 ≡ a
+  count-value a e =
+      let g = gone sound ready t in
+      let step = g .step in
+      let same : g .value ≡ a = cc in
+      rw (t .lays, g .further .numbers, laid-last (before bytes p) old n (g .value) (ready .count)) same
