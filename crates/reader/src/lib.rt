@@ -104,3 +104,21 @@ fn keep_nets(bytes: &[u8], at: usize, numbers: &mut [u16], filled: usize) -> Way
         }
     }
 }
+
+// An occurrence: the nets that it drives, the number that it refers to, its argument nets.
+fn keep_occurrence(bytes: &[u8], at: usize, numbers: &mut [u16], filled: usize) -> Way
+    requires { ⌜ Ready (now bytes) at filled (now numbers) ⌝ }
+    ensures { λ r. ⌜ Took (now (bytes .entry)) filled (readOccurrence at (drop at (now (bytes .entry)))) (now (numbers .entry)) (now (numbers .exit)) r ⌝ }
+{
+    match keep_nets(bytes, at, numbers, filled) {
+        Way::Refused { number, place } => Way::Refused { number, place },
+        Way::On { next: refers, filled: driven } => {
+            match keep_number(bytes, refers, numbers, driven) {
+                Way::Refused { number, place } => Way::Refused { number, place },
+                Way::On { next: takes, filled: referred } => {
+                    keep_nets(bytes, takes, numbers, referred)
+                }
+            }
+        }
+    }
+}
