@@ -122,3 +122,69 @@ fn keep_occurrence(bytes: &[u8], at: usize, numbers: &mut [u16], filled: usize) 
         }
     }
 }
+
+// So many occurrences.
+fn keep_occurrences(bytes: &[u8], at: usize, count: u16, numbers: &mut [u16], filled: usize) -> Way
+    requires { ⌜ Ready (now bytes) at filled (now numbers) ⌝ }
+    ensures { λ r. ⌜ Took (now (bytes .entry)) filled (readMany readOccurrence count at (drop at (now (bytes .entry)))) (now (numbers .entry)) (now (numbers .exit)) r ⌝ }
+{
+    let mut at = at;
+    let mut filled = filled;
+    let mut left = count;
+    while 0 < left {
+        match keep_occurrence(bytes, at, numbers, filled) {
+            Way::Refused { number, place } => {
+                return Way::Refused { number, place };
+            }
+            Way::On { next, filled: more } => {
+                at = next;
+                filled = more;
+            }
+        }
+        left -= 1;
+    }
+    Way::On { next: at, filled }
+}
+
+// A module: its number, its inputs, its outputs, its occurrences.
+fn keep_module(bytes: &[u8], at: usize, numbers: &mut [u16], filled: usize) -> Way
+    requires { ⌜ Ready (now bytes) at filled (now numbers) ⌝ }
+    ensures { λ r. ⌜ Took (now (bytes .entry)) filled (readModule at (drop at (now (bytes .entry)))) (now (numbers .entry)) (now (numbers .exit)) r ⌝ }
+{
+    let mut at = at;
+    let mut filled = filled;
+    match keep_number(bytes, at, numbers, filled) {
+        Way::Refused { number, place } => {
+            return Way::Refused { number, place };
+        }
+        Way::On { next, filled: more } => {
+            at = next;
+            filled = more;
+        }
+    }
+    match keep_nets(bytes, at, numbers, filled) {
+        Way::Refused { number, place } => {
+            return Way::Refused { number, place };
+        }
+        Way::On { next, filled: more } => {
+            at = next;
+            filled = more;
+        }
+    }
+    match keep_nets(bytes, at, numbers, filled) {
+        Way::Refused { number, place } => {
+            return Way::Refused { number, place };
+        }
+        Way::On { next, filled: more } => {
+            at = next;
+            filled = more;
+        }
+    }
+    match keep_count(bytes, at, 4096, numbers, filled) {
+        Way::Refused { number, place } => Way::Refused { number, place },
+        Way::On { next, filled: more } => {
+            let count = numbers[filled];
+            keep_occurrences(bytes, next, count, numbers, more)
+        }
+    }
+}
