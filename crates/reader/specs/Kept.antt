@@ -1,52 +1,50 @@
 -- One number laid out: what the code's answers come to where a number or a count is due.
-use Prim.Native.Nat.{ℕ, suc, _+_, _≤_, _<_}
-use mathlib.Core.Path.{_≡_, refl, ap, sym, _∙_}
-use mathlib.Core.Bool.{true, false}
-use mathlib.Core.List.{List, [], _∷_, _++_}
+use Prim.Native.Nat.{ℕ, _+_, _≤_, _<_}
+use mathlib.Core.Path.{_≡_, refl, ap, sym}
+use mathlib.Core.List.{List, [], _∷_}
 use native.Mathlib.Omega.{arith}
 use borrow.Author.Tests.{le-leb, lt-leb}
-use lib.ListN.{length, take, drop, set, length-append, length-take}
-use Rattle.meaning.specs.Reading.{Step, got, refused, onward, readNumber, readCount}
-use Rattle.reader.specs.Numbers.{before, laid}
+use lib.ListN.{length, drop, set, length-append}
+use Rattle.meaning.specs.Reading.{Step, got, refused, readNumber, readCount}
+use Rattle.reader.specs.Numbers.{before}
 use Rattle.reader.specs.Laid.{laid-more}
-use Rattle.reader.specs.Spelled.{spells-length}
-use Rattle.reader.specs.Places.{Front, Further}
+use Rattle.reader.specs.Places.{Front, Further, before-length}
 use Rattle.reader.specs.Single.{Single, single-number}
-use Rattle.reader.specs.Steps.{numberOf, Ready, Took}
+use Rattle.reader.specs.Steps.{numberOf, wayOf, Begins, here, Stands, Took, Takes}
 use Rattle.reader.specs.declared.Number.{Number}
 use Rattle.reader.specs.declared.Number.the-variants.{Is, Refused as NoNumber}
 use Rattle.reader.specs.declared.Way.{Way}
 use Rattle.reader.specs.declared.Way.the-variants.{On, Refused}
 
-module _ {bytes old : List ℕ} {p n : ℕ} (ready : Ready bytes p n old) where
+pub front-of : {bytes : List ℕ} {p n : ℕ} → Begins bytes (On p n) → Front bytes p
+front-of (here front count) = front
+
+pub count-of : {bytes : List ℕ} {p n : ℕ} → Begins bytes (On p n) → n ≡ length (before bytes p)
+count-of (here front count) = count
+
+module _ {bytes old : List ℕ} {p n : ℕ} (stands : Stands bytes (On p n) old) where
   -- A number that has been read has room.
-  pub has-room : {q v : ℕ} {rest : List ℕ} → Further bytes p q (v ∷ []) rest → n < length old
+  has-room : {q v : ℕ} {rest : List ℕ} → Further bytes p q (v ∷ []) rest → n < length old
   has-room {q} {v} w =
-      let a = spells-length (w .front .spells) in
-      let b = length-take q bytes in
-      let l = simp length-append at (ap length (w .numbers)) in
-      omega (arith, ready .count, ready .room)
+      let few = before-length bytes q in
+      let more = simp length-append at (ap length (w .numbers)) in
+      omega (arith, count-of (stands .begins), stands .room)
 
   -- A number that has been read is laid behind the others.
-  pub stored : {q v : ℕ} {rest : List ℕ} → Further bytes p q (v ∷ []) rest
-      → Took bytes n (got v q rest) old (set old n v) (On q (n + 1))
+  stored : {q v : ℕ} {rest : List ℕ} → Further bytes p q (v ∷ []) rest
+      → Took bytes (On p n) (On q (length (before bytes q))) old (set old n v) (On q (n + 1))
   stored {q} {v} w =
-      let l = simp length-append at (ap length (w .numbers)) in
-      let count : n + 1 ≡ length (before bytes q) = omega (arith, ready .count) in
+      let more = simp length-append at (ap length (w .numbers)) in
+      let count : n + 1 ≡ length (before bytes q) = omega (arith, count-of (stands .begins)) in
       record
         { answers = ap (λ (m : ℕ). On q m) count
-        ; lays = rw (w .numbers) (laid-more (before bytes p) old n v (ready .lies) (ready .count) (has-room w))
+        ; lays = rw (w .numbers) (laid-more (before bytes p) old n v (stands .lies) (count-of (stands .begins)) (has-room w))
         ; keeps = omega arith
         }
 
   -- A refusal that passes no number leaves all as it is.
-  pub unchanged : {A : Type 0} {q k : ℕ} → before bytes q ≡ before bytes p → Took {A = A} bytes n (refused k q) old old (Refused k q)
-  unchanged {q} e =
-      record
-        { answers = refl
-        ; lays = rw e (sym (ready .lies))
-        ; keeps = rw e (omega (arith, ready .count))
-        }
+  unchanged : {q k : ℕ} → before bytes q ≡ before bytes p → Took bytes (On p n) (Refused k q) old old (Refused k q)
+  unchanged e = record { answers = refl; lays = rw e (sym (stands .lies)); keeps = rw e (omega arith) }
 
   -- A number that was read, and the step that it comes from.
   record Found (s : Step ℕ) (v q : ℕ) : Type 0 where
@@ -73,34 +71,33 @@ module _ {bytes old : List ℕ} {p n : ℕ} (ready : Ready bytes p n old) where
       let b : o ≡ q = cc in
       record { step = rw (a, b); same = rw b at w }
 
-  -- Where a number is due, and the code's answer is that it is v and ends at q.
+  -- Where a number is due, and the code finds v, which ends at q.
   module _ {v q : ℕ} (is : Is v q ≡ numberOf (readNumber p (drop p bytes))) where
-    here : Found (readNumber p (drop p bytes)) v q
-    here = found is (single-number bytes p (ready .front))
+    it : Found (readNumber p (drop p bytes)) v q
+    it = found is (single-number bytes p (front-of (stands .begins)))
 
     pub number-room : n < length old
-    number-room = has-room (here .further)
+    number-room = has-room (it .further)
 
-    pub number-kept : Took bytes n (readNumber p (drop p bytes)) old (set old n v) (On q (n + 1))
-    number-kept = rw (here .step) (stored (here .further))
+    pub number-kept : Takes readNumber bytes (On p n) old (set old n v) (On q (n + 1))
+    number-kept = rw (it .step) (stored (it .further))
 
-    pub count-kept : (ceiling : ℕ) → v ≤ ceiling
-        → Took bytes n (readCount ceiling p (drop p bytes)) old (set old n v) (On q (n + 1))
+    pub count-kept : (ceiling : ℕ) → v ≤ ceiling → Takes (readCount ceiling) bytes (On p n) old (set old n v) (On q (n + 1))
     unfolding readCount
-    count-kept ceiling h = rw (here .step, le-leb v ceiling h) (stored (here .further))
+    count-kept ceiling h = rw (it .step, le-leb v ceiling h) (stored (it .further))
 
-    pub count-over : (ceiling : ℕ) → ceiling < v → Took bytes n (readCount ceiling p (drop p bytes)) old old (Refused 4 p)
+    pub count-over : (ceiling : ℕ) → ceiling < v → Takes (readCount ceiling) bytes (On p n) old old (Refused 4 p)
     unfolding readCount
-    count-over ceiling h = rw (here .step, lt-leb v ceiling h) (unchanged refl)
+    count-over ceiling h = rw (it .step, lt-leb v ceiling h) (unchanged refl)
 
-  -- Where a number is due, and the code's answer is a refusal.
+  -- Where a number is due, and the code finds a refusal.
   module _ {k q : ℕ} (no : NoNumber k q ≡ numberOf (readNumber p (drop p bytes))) where
-    gone : Failed (readNumber p (drop p bytes)) k q
-    gone = failed no (single-number bytes p (ready .front))
+    none : Failed (readNumber p (drop p bytes)) k q
+    none = failed no (single-number bytes p (front-of (stands .begins)))
 
-    pub number-refused : Took bytes n (readNumber p (drop p bytes)) old old (Refused k q)
-    number-refused = rw (gone .step) (unchanged (gone .same))
+    pub number-refused : Takes readNumber bytes (On p n) old old (Refused k q)
+    number-refused = rw (none .step) (unchanged (none .same))
 
-    pub count-refused : (ceiling : ℕ) → Took bytes n (readCount ceiling p (drop p bytes)) old old (Refused k q)
+    pub count-refused : (ceiling : ℕ) → Takes (readCount ceiling) bytes (On p n) old old (Refused k q)
     unfolding readCount
-    count-refused ceiling = rw (gone .step) (unchanged (gone .same))
+    count-refused ceiling = rw (none .step) (unchanged (none .same))

@@ -6,6 +6,8 @@ pub mod Single
 pub mod Sound
 pub mod Bytes
 pub mod Steps
+pub mod Alike
+pub mod Taken
 pub mod Kept
-pub mod Onward
+pub mod Counted
 pub mod Turns

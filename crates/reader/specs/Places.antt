@@ -3,9 +3,9 @@ use Prim.Native.Nat.{ℕ, zero, suc, _+_, _*_, _-_, _≤_, _<_}
 use mathlib.Core.Path.{_≡_, refl, ap, sym, _∙_}
 use mathlib.Core.List.{List, [], _∷_, _++_, append-nil}
 use native.Mathlib.Omega.{arith}
-use lib.ListN.{length, take, drop, length-append, length-drop}
+use lib.ListN.{length, take, drop, length-append, length-take, length-drop}
 use lib.Seq.{take-add, drop-drop, take-append-seam, drop-append-seam}
-use Rattle.meaning.specs.Reading.{readNumber}
+use Rattle.meaning.specs.Reading.{Step, got, refused, readNumber}
 use Rattle.reader.specs.Numbers.{followed, atMost, numbersIn, before}
 use Rattle.reader.specs.Spelled.{Spells, none, spells-append, numbersIn-spelled}
 
@@ -49,3 +49,20 @@ further bytes p q xs cs rest f d e s =
       ; left = left
       ; numbers = new
       }
+
+-- There are no more numbers in front of a place than bytes in the file.
+atMost-length : (k : ℕ) (bytes : List ℕ) → length (atMost k bytes) ≤ k
+unfolding atMost followed
+atMost-length zero bytes = omega arith
+atMost-length (suc k) bytes = step (readNumber 0 bytes) (atMost-length k)
+  where
+    step : (s : Step ℕ) → ((rest : List ℕ) → length (atMost k rest) ≤ k) → length (followed (atMost k) s) ≤ suc k
+    step (got value p rest) h = let i = h rest in omega arith
+    step (refused number p) h = omega arith
+
+pub before-length : (bytes : List ℕ) (p : ℕ) → length (before bytes p) ≤ length bytes
+unfolding before numbersIn
+before-length bytes p =
+    let a = atMost-length (length (take p bytes)) (take p bytes) in
+    let b = length-take p bytes in
+    omega arith

@@ -1,48 +1,61 @@
--- A loop that reads as many things as a count says: what is left to read comes to what all of it comes to.
+-- A loop that reads as many things as a count says: the way of what is left is the way of all of it.
 use Prim.Native.Nat.{ℕ, zero, suc, _-_, _≤_, _<_}
-use mathlib.Core.Path.{_≡_, refl, ap, sym, subst, _∙_}
-use mathlib.Core.List.{List, [], _∷_}
+use mathlib.Core.Path.{_≡_, refl, ap, sym, _∙_}
+use mathlib.Core.Bool.{true}
+use mathlib.Core.List.{List}
 use native.Mathlib.Omega.{arith}
-use lib.ListN.{length, drop}
-use Rattle.meaning.specs.Reading.{Step, got, refused, Reader, onward, bind, give, readMany}
+use Rattle.meaning.specs.Reading.{Reader, readMany}
 use Rattle.reader.specs.Sound.{Sound}
-use Rattle.reader.specs.Steps.{Ready, Took}
-use Rattle.reader.specs.Onward.{refuse, made, stay, gone, then-next}
+use Rattle.reader.specs.Steps.{go, isRefused, Begins, here, over, Stands, Took, Takes}
+use Rattle.reader.specs.Alike.{alike-many, go-alike, go-skip}
+use Rattle.reader.specs.Taken.{unmoved, took-then, took-due, stands-next}
 use Rattle.reader.specs.declared.Way.{Way}
 use Rattle.reader.specs.declared.Way.the-variants.{On, Refused}
 
--- With so many things left at place p, of the step `whole` that began with n numbers laid out in `old`.
-pub record Turning {A : Type 0} (r : Reader A) (bytes : List ℕ) (n : ℕ) (whole : Step (List A)) (old : List ℕ) (left p m : ℕ) (now : List ℕ)
+-- Of `count` things from the way `start` on, so many are left, and reading stands at `way`.
+pub record Turning {A : Type 0} (r : Reader A) (bytes : List ℕ) (start : Way) (count : ℕ) (old : List ℕ) (left : ℕ) (way : Way) (now : List ℕ)
     : Type 0 where
-  pub ready : Ready bytes p m now
-  pub comes : (new : List ℕ) (way : Way)
-      → Took bytes m (readMany r left p (drop p bytes)) now new way → Took bytes n whole old new way
+  pub stands : Stands bytes way now
+  pub due : go bytes (readMany r left) way ≡ go bytes (readMany r count) start
+  pub took : Took bytes start way old now way
 
-pub turn-first : {A : Type 0} {r : Reader A} {bytes old : List ℕ} {count p n : ℕ} → Ready bytes p n old
-    → Turning r bytes n (readMany r count p (drop p bytes)) old count p n old
-turn-first ready = record { ready = ready; comes = λ new way t. t }
+pub turn-first : {A : Type 0} {r : Reader A} {bytes old : List ℕ} {count : ℕ} {way : Way} → Stands bytes way old
+    → Turning r bytes way count old count way old
+turn-first stands = record { stands = stands; due = refl; took = unmoved stands refl }
 
-module _ {A : Type 0} {r : Reader A} {bytes old now : List ℕ} {n p m : ℕ} {whole : Step (List A)} where
-  pub turn-last : {left : ℕ} → left ≤ 0 → Turning r bytes n whole old left p m now → Took bytes n whole old now (On p m)
-  unfolding readMany
-  turn-last {left} over t = let e : left ≡ 0 = omega arith in t .comes now (On p m) (rw e (stay (t .ready)))
+-- No things are left, or reading has ended: that is all.
+none-left : {A : Type 0} (r : Reader A) (bytes : List ℕ) (way : Way) → Begins bytes way → go bytes (readMany r 0) way ≡ way
+unfolding readMany
+none-left r bytes (On p n) (here front count) = ap (λ (m : ℕ). On p m) (sym count)
+none-left r bytes (Refused number place) over = refl
 
-  -- With one thing more.
-  module _ {left : ℕ} (some : 0 < left) (t : Turning r bytes n whole old left p m now) where
-    one-more : left ≡ suc (left - 1)
-    one-more = omega arith
+go-refused : {A : Type 0} (r : Reader A) (bytes : List ℕ) (way : Way) → isRefused way ≡ true → go bytes r way ≡ way
+go-refused r bytes (On p n) e = let z : _≡_ {A = ℕ} 0 1 = cc in absurd (omega arith)
+go-refused r bytes (Refused number place) e = refl
 
-    pub turn-refused : {new : List ℕ} {k q : ℕ}
-        → Took bytes m (r p (drop p bytes)) now new (Refused k q) → Took bytes n whole old new (Refused k q)
-    unfolding readMany
-    turn-refused {new} {k} {q} u = t .comes new (Refused k q) (rw one-more (refuse _ u))
+module _ {A : Type 0} {r : Reader A} {bytes old now : List ℕ} {start way : Way} {count left : ℕ}
+    (t : Turning r bytes start count old left way now) where
+  pub turn-last : left ≤ 0 → Takes (readMany r count) bytes start old now way
+  turn-last h =
+      let e : left ≡ 0 = omega arith in
+      let same : go bytes (readMany r left) way ≡ way = rw e (none-left r bytes way (t .stands .begins)) in
+      took-due (sym same ∙ t .due) (t .took)
 
-    pub turn-next : {f : A → List ℕ} {new : List ℕ} {q o : ℕ} → Sound f r
-        → Took bytes m (r p (drop p bytes)) now new (On q o) → Turning r bytes n whole old (left - 1) q o new
-    unfolding readMany
-    turn-next {new = mid} sound u =
-        record
-          { ready = gone sound (t .ready) u .ready
-          ; comes = λ new way v.
-            t .comes new way (rw one-more (then-next sound (t .ready) u _ (λ a _. made (λ xs. a ∷ xs) v)))
-          }
+  pub turn-refused : isRefused way ≡ true → Takes (readMany r count) bytes start old now way
+  turn-refused e = took-due (sym (go-refused (readMany r left) bytes way e) ∙ t .due) (t .took)
+
+  pub turn-next : {f : A → List ℕ} {new : List ℕ} {next : Way} → Sound f r → 0 < left → Takes r bytes way now new next
+      → Turning r bytes start count old (left - 1) next new
+  turn-next {next} sound h u =
+      let k : ℕ = left - 1 in
+      let e : left ≡ suc k = omega arith in
+      let onward : go bytes (readMany r left) way ≡ go bytes (readMany r k) (go bytes r way) =
+          ap (λ (n : ℕ). go bytes (readMany r n) way) e
+          ∙ go-alike bytes way (alike-many r k)
+          ∙ go-skip sound (readMany r k) (t .stands .begins)
+      in
+      record
+        { stands = stands-next sound (t .stands) u
+        ; due = ap (λ (w : Way). go bytes (readMany r k) w) (u .answers) ∙ sym onward ∙ t .due
+        ; took = took-then (t .took) (took-due (sym (u .answers)) u)
+        }

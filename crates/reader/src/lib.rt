@@ -2,7 +2,7 @@
 ghost use mathlib.Core.Path.{_≡_};
 ghost use lib.ListN.{drop};
 ghost use Rattle.meaning.specs.Reading.{readNumber, readCount, readMany, readNets, readOccurrence, readModule};
-ghost use Rattle.reader.specs.Steps.{numberOf, Ready, Took};
+ghost use Rattle.reader.specs.Steps.{numberOf, isRefused, Stands, Takes};
 
 // What stands where a number is due.
 pub enum Number {
@@ -37,154 +37,91 @@ fn read_number(bytes: &[u8], at: usize) -> Number
     Number::Is { value: (first - 128) as u16 + 128 * (second as u16), next: at + 2 }
 }
 
-// A number, laid out.
-fn keep_number(bytes: &[u8], at: usize, numbers: &mut [u16], filled: usize) -> Way
-    requires { ⌜ Ready (now bytes) at filled (now numbers) ⌝ }
-    ensures { λ r. ⌜ Took (now (bytes .entry)) filled (readNumber at (drop at (now (bytes .entry)))) (now (numbers .entry)) (now (numbers .exit)) r ⌝ }
+// Whether reading has ended in a refusal.
+fn refused(way: Way) -> bool
+    ensures { λ r. ⌜ r ≡ isRefused way ⌝ }
 {
-    match read_number(bytes, at) {
-        Number::Refused { number, place } => Way::Refused { number, place },
-        Number::Is { value, next } => {
-            numbers[filled] = value;
-            Way::On { next, filled: filled + 1 }
-        }
+    match way {
+        Way::On { next: _, filled: _ } => false,
+        Way::Refused { number: _, place: _ } => true,
+    }
+}
+
+// A number, laid out.
+fn keep_number(way: Way, bytes: &[u8], numbers: &mut [u16]) -> Way
+    requires { ⌜ Stands (now bytes) way (now numbers) ⌝ }
+    ensures { λ r. ⌜ Takes readNumber (now (bytes .entry)) way (now (numbers .entry)) (now (numbers .exit)) r ⌝ }
+{
+    match way {
+        Way::Refused { number, place } => Way::Refused { number, place },
+        Way::On { next: at, filled } => match read_number(bytes, at) {
+            Number::Refused { number, place } => Way::Refused { number, place },
+            Number::Is { value, next } => {
+                numbers[filled] = value;
+                Way::On { next, filled: filled + 1 }
+            }
+        },
     }
 }
 
 // A count, laid out unless it is over its ceiling.
-fn keep_count(bytes: &[u8], at: usize, ceiling: u16, numbers: &mut [u16], filled: usize) -> Way
-    requires { ⌜ Ready (now bytes) at filled (now numbers) ⌝ }
-    ensures { λ r. ⌜ Took (now (bytes .entry)) filled (readCount ceiling at (drop at (now (bytes .entry)))) (now (numbers .entry)) (now (numbers .exit)) r ⌝ }
+fn keep_count(way: Way, ceiling: u16, bytes: &[u8], numbers: &mut [u16]) -> Way
+    requires { ⌜ Stands (now bytes) way (now numbers) ⌝ }
+    ensures { λ r. ⌜ Takes (readCount ceiling) (now (bytes .entry)) way (now (numbers .entry)) (now (numbers .exit)) r ⌝ }
 {
-    match read_number(bytes, at) {
-        Number::Refused { number, place } => Way::Refused { number, place },
-        Number::Is { value, next } => {
-            if ceiling < value {
-                return Way::Refused { number: 4, place: at };
+    match way {
+        Way::Refused { number, place } => Way::Refused { number, place },
+        Way::On { next: at, filled } => match read_number(bytes, at) {
+            Number::Refused { number, place } => Way::Refused { number, place },
+            Number::Is { value, next } => {
+                if ceiling < value {
+                    return Way::Refused { number: 4, place: at };
+                }
+                numbers[filled] = value;
+                Way::On { next, filled: filled + 1 }
             }
-            numbers[filled] = value;
-            Way::On { next, filled: filled + 1 }
-        }
+        },
     }
 }
 
 // So many numbers.
-fn keep_numbers(bytes: &[u8], at: usize, count: u16, numbers: &mut [u16], filled: usize) -> Way
-    requires { ⌜ Ready (now bytes) at filled (now numbers) ⌝ }
-    ensures { λ r. ⌜ Took (now (bytes .entry)) filled (readMany readNumber count at (drop at (now (bytes .entry)))) (now (numbers .entry)) (now (numbers .exit)) r ⌝ }
+fn keep_numbers(way: Way, count: u16, bytes: &[u8], numbers: &mut [u16]) -> Way
+    requires { ⌜ Stands (now bytes) way (now numbers) ⌝ }
+    ensures { λ r. ⌜ Takes (readMany readNumber count) (now (bytes .entry)) way (now (numbers .entry)) (now (numbers .exit)) r ⌝ }
 {
-    let mut at = at;
-    let mut filled = filled;
+    let mut way = way;
     let mut left = count;
     while 0 < left {
-        match keep_number(bytes, at, numbers, filled) {
-            Way::Refused { number, place } => {
-                return Way::Refused { number, place };
-            }
-            Way::On { next, filled: more } => {
-                at = next;
-                filled = more;
-            }
+        if refused(way) {
+            return way;
         }
+        way = keep_number(way, bytes, numbers);
         left -= 1;
     }
-    Way::On { next: at, filled }
+    way
 }
 
 // A list of nets: its count and as many nets.
-fn keep_nets(bytes: &[u8], at: usize, numbers: &mut [u16], filled: usize) -> Way
-    requires { ⌜ Ready (now bytes) at filled (now numbers) ⌝ }
-    ensures { λ r. ⌜ Took (now (bytes .entry)) filled (readNets at (drop at (now (bytes .entry)))) (now (numbers .entry)) (now (numbers .exit)) r ⌝ }
+fn keep_nets(way: Way, bytes: &[u8], numbers: &mut [u16]) -> Way
+    requires { ⌜ Stands (now bytes) way (now numbers) ⌝ }
+    ensures { λ r. ⌜ Takes readNets (now (bytes .entry)) way (now (numbers .entry)) (now (numbers .exit)) r ⌝ }
 {
-    match keep_count(bytes, at, 192, numbers, filled) {
+    let way = keep_count(way, 192, bytes, numbers);
+    match way {
         Way::Refused { number, place } => Way::Refused { number, place },
-        Way::On { next, filled: more } => {
-            let count = numbers[filled];
-            keep_numbers(bytes, next, count, numbers, more)
+        Way::On { next, filled } => {
+            let count = numbers[filled - 1];
+            keep_numbers(Way::On { next, filled }, count, bytes, numbers)
         }
     }
 }
 
 // An occurrence: the nets that it drives, the number that it refers to, its argument nets.
-fn keep_occurrence(bytes: &[u8], at: usize, numbers: &mut [u16], filled: usize) -> Way
-    requires { ⌜ Ready (now bytes) at filled (now numbers) ⌝ }
-    ensures { λ r. ⌜ Took (now (bytes .entry)) filled (readOccurrence at (drop at (now (bytes .entry)))) (now (numbers .entry)) (now (numbers .exit)) r ⌝ }
+fn keep_occurrence(way: Way, bytes: &[u8], numbers: &mut [u16]) -> Way
+    requires { ⌜ Stands (now bytes) way (now numbers) ⌝ }
+    ensures { λ r. ⌜ Takes readOccurrence (now (bytes .entry)) way (now (numbers .entry)) (now (numbers .exit)) r ⌝ }
 {
-    match keep_nets(bytes, at, numbers, filled) {
-        Way::Refused { number, place } => Way::Refused { number, place },
-        Way::On { next: refers, filled: driven } => {
-            match keep_number(bytes, refers, numbers, driven) {
-                Way::Refused { number, place } => Way::Refused { number, place },
-                Way::On { next: takes, filled: referred } => {
-                    keep_nets(bytes, takes, numbers, referred)
-                }
-            }
-        }
-    }
-}
-
-// So many occurrences.
-fn keep_occurrences(bytes: &[u8], at: usize, count: u16, numbers: &mut [u16], filled: usize) -> Way
-    requires { ⌜ Ready (now bytes) at filled (now numbers) ⌝ }
-    ensures { λ r. ⌜ Took (now (bytes .entry)) filled (readMany readOccurrence count at (drop at (now (bytes .entry)))) (now (numbers .entry)) (now (numbers .exit)) r ⌝ }
-{
-    let mut at = at;
-    let mut filled = filled;
-    let mut left = count;
-    while 0 < left {
-        match keep_occurrence(bytes, at, numbers, filled) {
-            Way::Refused { number, place } => {
-                return Way::Refused { number, place };
-            }
-            Way::On { next, filled: more } => {
-                at = next;
-                filled = more;
-            }
-        }
-        left -= 1;
-    }
-    Way::On { next: at, filled }
-}
-
-// A module: its number, its inputs, its outputs, its occurrences.
-fn keep_module(bytes: &[u8], at: usize, numbers: &mut [u16], filled: usize) -> Way
-    requires { ⌜ Ready (now bytes) at filled (now numbers) ⌝ }
-    ensures { λ r. ⌜ Took (now (bytes .entry)) filled (readModule at (drop at (now (bytes .entry)))) (now (numbers .entry)) (now (numbers .exit)) r ⌝ }
-{
-    let mut at = at;
-    let mut filled = filled;
-    match keep_number(bytes, at, numbers, filled) {
-        Way::Refused { number, place } => {
-            return Way::Refused { number, place };
-        }
-        Way::On { next, filled: more } => {
-            at = next;
-            filled = more;
-        }
-    }
-    match keep_nets(bytes, at, numbers, filled) {
-        Way::Refused { number, place } => {
-            return Way::Refused { number, place };
-        }
-        Way::On { next, filled: more } => {
-            at = next;
-            filled = more;
-        }
-    }
-    match keep_nets(bytes, at, numbers, filled) {
-        Way::Refused { number, place } => {
-            return Way::Refused { number, place };
-        }
-        Way::On { next, filled: more } => {
-            at = next;
-            filled = more;
-        }
-    }
-    match keep_count(bytes, at, 4096, numbers, filled) {
-        Way::Refused { number, place } => Way::Refused { number, place },
-        Way::On { next, filled: more } => {
-            let count = numbers[filled];
-            keep_occurrences(bytes, next, count, numbers, more)
-        }
-    }
+    let driven = keep_nets(way, bytes, numbers);
+    let refers = keep_number(driven, bytes, numbers);
+    keep_nets(refers, bytes, numbers)
 }

@@ -1,42 +1,37 @@
-use Prim.Native.Nat.{ℕ}
-use mathlib.Core.Path.{_≡_, refl, sym, _∙_}
+use mathlib.Core.Path.{sym, _∙_}
 use native.Mathlib.Omega.{arith}
-use lib.ListN.{length, drop}
 use borrow.Author.Needs.{needs}
-use Rattle.meaning.specs.Reading.{readNumber, readMany}
+use Rattle.meaning.specs.Reading.{readNumber}
 use Rattle.reader.specs.Sound.{sound-number}
+use Rattle.reader.specs.Taken.{took-length}
 use Rattle.reader.specs.Turns.{Turning, turn-first, turn-refused, turn-next, turn-last}
 use Rattle.reader.proofs.keep_numbers.Statement.{statement}
 use Rattle.reader.proofs.keep_numbers.Tie as tie
 use Rattle.reader.proofs.keep_numbers.Reads as reads
 use Rattle.reader.proofs.keep_numbers.Lts as lts
 use Rattle.reader.proofs.keep_number.Reads as keep-number-reads
+use Rattle.reader.proofs.refused.Reads as refused-reads
 
 abbrev Inv-loop : tie.InvT-loop
-Inv-loop bytes at count numbers₀ filled at₀ filled₀ left₀ numbers at' filled' left = 
-    Turning readNumber bytes filled (readMany readNumber count at (drop at bytes)) numbers₀ left at' filled' numbers
-    × (length numbers ≡ length numbers₀)
+Inv-loop count bytes numbers₀ way₀ left₀ numbers way left = Turning readNumber bytes way₀ count numbers₀ left way numbers
 
 abbrev μ-loop : tie.MeasureT-loop
-μ-loop bytes at count numbers₀ filled at₀ filled₀ left₀ numbers at' filled' left = left
+μ-loop count bytes numbers₀ way₀ left₀ numbers way left = left
 
 loop-holds : tie.Need-loop-holds Inv-loop μ-loop
-loop-holds c = (turn-first (c .before .before .pre), refl)
+loop-holds c = turn-first (c .before .before .pre)
 
-keep-number-requires : tie.Need-keep-number-requires Inv-loop μ-loop
-keep-number-requires c κs = c .before .before .loop .inv .0 .ready
-
-enum-known-number : tie.Need-enum-known-number Inv-loop μ-loop
-enum-known-number c = search needs
+refused-requires : tie.Need-refused-requires Inv-loop μ-loop
+refused-requires c κs = search needs
 
 same-length : tie.Need-same-length Inv-loop μ-loop
-same-length c = c .before .before .before .before .before .keep-number .kept .1 .1 .0 ∙ c .before .before .before .before .before .before .before .before .loop .inv .1
+same-length c = took-length (c .before .before .before .before .before .before .pre .room) (c .before .before .before .loop .inv .took)
 
 returns : tie.Need-returns Inv-loop μ-loop
-returns c = turn-refused (c .before .before .before .before .before .before .before .loop-test .taken) (c .before .before .before .before .before .before .before .before .loop .inv .0) (rw (c .before .number .given .1) at (c .before .before .before .before .before .keep-number .ensures))
+returns c = turn-refused (c .before .before .before .loop .inv) (sym (c .before .refused .ensures) ∙ c .if1 .taken)
 
-enum-known-next : tie.Need-enum-known-next Inv-loop μ-loop
-enum-known-next c = search needs
+keep-number-requires : tie.Need-keep-number-requires Inv-loop μ-loop
+keep-number-requires c κs = c .before .before .before .before .loop .inv .stands
 
 sub-left : tie.Need-sub-left Inv-loop μ-loop
 sub-left c = omega arith
@@ -45,16 +40,13 @@ loop-less : tie.Need-loop-less Inv-loop μ-loop
 loop-less c = omega arith
 
 loop-again : tie.Need-loop-again Inv-loop μ-loop
-loop-again c = 
-    ( turn-next (c .before .before .before .before .before .before .before .loop-test .taken) (c .before .before .before .before .before .before .before .before .loop .inv .0) sound-number (rw (c .before .next .given .1) at (c .before .before .before .before .before .keep-number .ensures))
-    , c .before .before .before .before .before .keep-number .kept .1 .1 .0 ∙ c .before .before .before .before .before .before .before .before .loop .inv .1
-    )
+loop-again c = turn-next (c .before .before .before .before .before .before .before .loop .inv) sound-number (c .before .before .before .before .before .before .loop-test .taken) (c .before .before .keep-number .ensures)
 
 same-length-2 : tie.Need-same-length-2 Inv-loop μ-loop
-same-length-2 c = c .before .loop .inv .1
+same-length-2 c = took-length (c .before .before .before .before .pre .room) (c .before .loop .inv .took)
 
 returns-2 : tie.Need-returns-2 Inv-loop μ-loop
-returns-2 c = turn-last (c .loop-test .left) (c .before .loop .inv .0)
+returns-2 c = turn-last (c .before .loop .inv) (c .loop-test .left)
 
 pub keep-numbers-spec : {M : Type 1} → statement M
 keep-numbers-spec =
@@ -63,11 +55,10 @@ keep-numbers-spec =
     Inv-loop
     μ-loop
     loop-holds
-    keep-number-requires
-    enum-known-number
+    refused-requires
     same-length
     returns
-    enum-known-next
+    keep-number-requires
     sub-left
     loop-less
     loop-again
