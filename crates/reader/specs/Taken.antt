@@ -3,15 +3,16 @@ use Prim.Native.Nat.{ℕ, _≤_}
 use mathlib.Core.Path.{_≡_, refl, ap, sym, subst, _∙_}
 use mathlib.Core.List.{List}
 use native.Mathlib.Omega.{arith}
-use lib.ListN.{length}
-use Rattle.meaning.specs.Reading.{Reader}
+use lib.ListN.{length, drop}
+use Rattle.meaning.specs.Reading.{Step, got, refused, Reader, onward, bind}
 use Rattle.reader.specs.Numbers.{before, laid}
 use Rattle.reader.specs.Laid.{laid-over, length-laid}
 use Rattle.reader.specs.Places.{before-length}
 use Rattle.reader.specs.Sound.{Sound}
-use Rattle.reader.specs.Steps.{go, placeOf, Begins, Stands, Took, Takes}
-use Rattle.reader.specs.Alike.{begins-go}
+use Rattle.reader.specs.Steps.{wayOf, go, placeOf, Begins, Stands, Took, Takes}
+use Rattle.reader.specs.Alike.{Alike, skip, go-alike, begins-go, go-skip}
 use Rattle.reader.specs.declared.Way.{Way}
+use Rattle.reader.specs.declared.Way.the-variants.{On, Refused}
 
 -- Nothing is due, and nothing is done.
 pub unmoved : {bytes old : List ℕ} {way due : Way} → Stands bytes way old → way ≡ due → Took bytes way due old old way
@@ -49,3 +50,28 @@ stands-next {bytes} {old} {mid} {way} {next} sound s t =
       ; lies = rw (t .lays) (laid-over (before bytes (placeOf next)) (before bytes (placeOf next)) old (omega arith))
       ; room = omega (arith, s .room)
       }
+
+-- Two readers one after the other.
+pub took-skip : {A B : Type 0} {f : A → List ℕ} {r : Reader A} (s : Reader B) {bytes old mid new : List ℕ} {way next last : Way}
+    → Sound f r → Stands bytes way old → Takes r bytes way old mid next → Takes s bytes next mid new last
+    → Takes (skip r s) bytes way old new last
+took-skip s {bytes} sound stands t u =
+    took-due (ap (λ (w : Way). go bytes s w) (t .answers) ∙ sym (go-skip sound s (stands .begins))) (took-then t u)
+
+pub took-alike : {A B : Type 0} {r : Reader A} {s : Reader B} {bytes old new : List ℕ} {way next : Way}
+    → Alike r s → Takes s bytes way old new next → Takes r bytes way old new next
+took-alike {bytes} {way} alike t = took-due (sym (go-alike bytes way alike)) t
+
+-- A refusal ends all that was to follow.
+pub took-ended : {A B : Type 0} (r : Reader A) (next : A → Reader B) {bytes old new : List ℕ} {way : Way} {number place : ℕ}
+    → Takes r bytes way old new (Refused number place) → Takes (bind r next) bytes way old new (Refused number place)
+took-ended {A} r next {bytes} {way} {number} {place} t =
+    record { answers = at way (t .answers); lays = t .lays; keeps = t .keeps }
+  where
+    step : (s : Step A) → Refused number place ≡ wayOf bytes s → Refused number place ≡ wayOf bytes (onward next s)
+    step (got a p rest) e = let z : _≡_ {A = ℕ} 0 1 = cc in absurd (omega arith)
+    step (refused k q) e = e
+
+    at : (way : Way) → Refused number place ≡ go bytes r way → Refused number place ≡ go bytes (bind r next) way
+    at (On p n) e = step (r p (drop p bytes)) e
+    at (Refused k q) e = e

@@ -2,6 +2,7 @@
 ghost use mathlib.Core.Path.{_≡_};
 ghost use lib.ListN.{drop};
 ghost use Rattle.meaning.specs.Reading.{readNumber, readCount, readMany, readNets, readOccurrence, readModule};
+ghost use Rattle.reader.specs.Alike.{readBody};
 ghost use Rattle.reader.specs.Steps.{numberOf, isRefused, Stands, Takes};
 
 // What stands where a number is due.
@@ -124,4 +125,47 @@ fn keep_occurrence(way: Way, bytes: &[u8], numbers: &mut [u16]) -> Way
     let driven = keep_nets(way, bytes, numbers);
     let refers = keep_number(driven, bytes, numbers);
     keep_nets(refers, bytes, numbers)
+}
+
+// So many occurrences.
+fn keep_occurrences(way: Way, count: u16, bytes: &[u8], numbers: &mut [u16]) -> Way
+    requires { ⌜ Stands (now bytes) way (now numbers) ⌝ }
+    ensures { λ r. ⌜ Takes (readMany readOccurrence count) (now (bytes .entry)) way (now (numbers .entry)) (now (numbers .exit)) r ⌝ }
+{
+    let mut way = way;
+    let mut left = count;
+    while 0 < left {
+        if refused(way) {
+            return way;
+        }
+        way = keep_occurrence(way, bytes, numbers);
+        left -= 1;
+    }
+    way
+}
+
+// A list of occurrences: its count and as many occurrences.
+fn keep_body(way: Way, bytes: &[u8], numbers: &mut [u16]) -> Way
+    requires { ⌜ Stands (now bytes) way (now numbers) ⌝ }
+    ensures { λ r. ⌜ Takes readBody (now (bytes .entry)) way (now (numbers .entry)) (now (numbers .exit)) r ⌝ }
+{
+    let way = keep_count(way, 4096, bytes, numbers);
+    match way {
+        Way::Refused { number, place } => Way::Refused { number, place },
+        Way::On { next, filled } => {
+            let count = numbers[filled - 1];
+            keep_occurrences(Way::On { next, filled }, count, bytes, numbers)
+        }
+    }
+}
+
+// A module: its number, its inputs, its outputs, its occurrences.
+fn keep_module(way: Way, bytes: &[u8], numbers: &mut [u16]) -> Way
+    requires { ⌜ Stands (now bytes) way (now numbers) ⌝ }
+    ensures { λ r. ⌜ Takes readModule (now (bytes .entry)) way (now (numbers .entry)) (now (numbers .exit)) r ⌝ }
+{
+    let named = keep_number(way, bytes, numbers);
+    let inputs = keep_nets(named, bytes, numbers);
+    let outputs = keep_nets(inputs, bytes, numbers);
+    keep_body(outputs, bytes, numbers)
 }
