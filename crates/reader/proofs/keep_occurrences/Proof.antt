@@ -1,3 +1,10 @@
+use mathlib.Core.Path.{sym, _∙_}
+use native.Mathlib.Omega.{arith}
+use borrow.Author.Needs.{needs}
+use Rattle.meaning.specs.Reading.{readOccurrence}
+use Rattle.reader.specs.Sound.{sound-occurrence}
+use Rattle.reader.specs.Taken.{took-length}
+use Rattle.reader.specs.Turns.{Turning, turn-first, turn-refused, turn-next, turn-last}
 use Rattle.reader.proofs.keep_occurrences.Statement.{statement}
 use Rattle.reader.proofs.keep_occurrences.Tie as tie
 use Rattle.reader.proofs.keep_occurrences.Reads as reads
@@ -6,50 +13,40 @@ use Rattle.reader.proofs.keep_occurrence.Reads as keep-occurrence-reads
 use Rattle.reader.proofs.refused.Reads as refused-reads
 
 abbrev Inv-loop : tie.InvT-loop
-Inv-loop count bytes numbers₀ way₀ left₀ numbers way left = ?
+Inv-loop count bytes numbers₀ way₀ left₀ numbers way left = Turning readOccurrence bytes way₀ count numbers₀ left way numbers
 
 abbrev μ-loop : tie.MeasureT-loop
-μ-loop count bytes numbers₀ way₀ left₀ numbers way left = ?
+μ-loop count bytes numbers₀ way₀ left₀ numbers way left = left
 
--- src/lib.rt:137:5
 loop-holds : tie.Need-loop-holds Inv-loop μ-loop
-loop-holds c = ?
+loop-holds c = turn-first (c .before .before .pre)
 
--- src/lib.rt:138:12
 refused-requires : tie.Need-refused-requires Inv-loop μ-loop
-refused-requires c κs = ?
+refused-requires c κs = search needs
 
--- src/lib.rt:139:13
 same-length : tie.Need-same-length Inv-loop μ-loop
-same-length c = ?
+same-length c = took-length (c .before .before .before .before .before .before .pre .room) (c .before .before .before .loop .inv .took)
 
--- src/lib.rt:139:13
 returns : tie.Need-returns Inv-loop μ-loop
-returns c = ?
+returns c = turn-refused (c .before .before .before .loop .inv) (sym (c .before .refused .ensures) ∙ c .if1 .taken)
 
--- src/lib.rt:141:9
 keep-occurrence-requires : tie.Need-keep-occurrence-requires Inv-loop μ-loop
-keep-occurrence-requires c κs = ?
+keep-occurrence-requires c κs = c .before .before .before .before .loop .inv .stands
 
--- src/lib.rt:142:9
 sub-left : tie.Need-sub-left Inv-loop μ-loop
-sub-left c = ?
+sub-left c = omega arith
 
--- src/lib.rt:137:5
 loop-less : tie.Need-loop-less Inv-loop μ-loop
-loop-less c = ?
+loop-less c = omega arith
 
--- src/lib.rt:137:5
 loop-again : tie.Need-loop-again Inv-loop μ-loop
-loop-again c = ?
+loop-again c = turn-next (c .before .before .before .before .before .before .before .loop .inv) sound-occurrence (c .before .before .before .before .before .before .loop-test .taken) (c .before .before .keep-occurrence .ensures)
 
--- src/lib.rt:131:1
 same-length-2 : tie.Need-same-length-2 Inv-loop μ-loop
-same-length-2 c = ?
+same-length-2 c = took-length (c .before .before .before .before .pre .room) (c .before .loop .inv .took)
 
--- src/lib.rt:131:1
 returns-2 : tie.Need-returns-2 Inv-loop μ-loop
-returns-2 c = ?
+returns-2 c = turn-last (c .before .loop .inv) (c .loop-test .left)
 
 pub keep-occurrences-spec : {M : Type 1} → statement M
 keep-occurrences-spec =
