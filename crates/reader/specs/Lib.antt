@@ -6,8 +6,11 @@ pub mod Single
 pub mod Sound
 pub mod Bytes
 pub mod Steps
+pub mod Starts
 pub mod Alike
 pub mod Taken
 pub mod Kept
 pub mod Counted
 pub mod Turns
+pub mod Noting
+pub mod Modules

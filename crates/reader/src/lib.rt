@@ -3,6 +3,7 @@ ghost use mathlib.Core.Path.{_≡_};
 ghost use lib.ListN.{drop};
 ghost use Rattle.meaning.specs.Reading.{readNumber, readCount, readMany, readNets, readOccurrence, readModule};
 ghost use Rattle.reader.specs.Alike.{readBody};
+ghost use Rattle.reader.specs.Modules.{Fit, Passed};
 ghost use Rattle.reader.specs.Steps.{numberOf, isRefused, Stands, Takes};
 
 // What stands where a number is due.
@@ -168,4 +169,28 @@ fn keep_module(way: Way, bytes: &[u8], numbers: &mut [u16]) -> Way
     let inputs = keep_nets(named, bytes, numbers);
     let outputs = keep_nets(inputs, bytes, numbers);
     keep_body(outputs, bytes, numbers)
+}
+
+// So many modules. Where each begins is noted, in numbers and in bytes.
+fn keep_modules(way: Way, count: usize, bytes: &[u8], numbers: &mut [u16], starts: &mut [usize], offsets: &mut [usize]) -> Way
+    requires { ⌜ Stands (now bytes) way (now numbers) ⌝ }
+    requires { ⌜ Fit count (now starts) (now offsets) ⌝ }
+    ensures { λ r. ⌜ Passed (now (bytes .entry)) way count (now (numbers .entry)) (now (numbers .exit)) (now (starts .entry)) (now (starts .exit)) (now (offsets .entry)) (now (offsets .exit)) r ⌝ }
+{
+    let mut way = way;
+    let mut i: usize = 0;
+    while i < count {
+        match way {
+            Way::Refused { number, place } => {
+                return Way::Refused { number, place };
+            }
+            Way::On { next, filled } => {
+                starts[i] = filled;
+                offsets[i] = next;
+                way = keep_module(Way::On { next, filled }, bytes, numbers);
+            }
+        }
+        i += 1;
+    }
+    way
 }
