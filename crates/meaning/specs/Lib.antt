@@ -1,10 +1,12 @@
 -- What a reader must believe: the definitions that every promise cites, a file for each heading of document 01 and one for each
 -- transcription of document 000. No function and no theorem.
+pub mod Lists
 pub mod Values
 pub mod Gates
 pub mod Syntax
 pub mod Layout
 pub mod Reading
+pub mod Ceilings
 pub mod Boxlist
 pub mod Limits
 pub mod Verdict

@@ -1,0 +1,2 @@
+-- What the encoder's contracts cite, beside `meaning`.
+pub mod Filled
