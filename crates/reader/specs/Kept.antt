@@ -36,11 +36,11 @@ module _ {bytes old : List ℕ} {p n : ℕ} (stands : Stands bytes (On p n) old)
   stored {q} {v} w =
       let more = simp length-append at (ap length (w .numbers)) in
       let count : n + 1 ≡ length (before bytes q) = omega (arith, count-of (stands .begins)) in
-      record
-        { answers = ap (λ (m : ℕ). On q m) count
-        ; lays = rw (w .numbers) (laid-more (before bytes p) old n v (stands .lies) (count-of (stands .begins)) (has-room w))
-        ; keeps = omega arith
-        }
+      record {
+        answers = ap (λ (m : ℕ). On q m) count;
+        lays = rw (w .numbers) (laid-more (before bytes p) old n v (stands .lies) (count-of (stands .begins)) (has-room w));
+        keeps = omega arith;
+      }
 
   -- A refusal that passes no number leaves all as it is.
   unchanged : {q k : ℕ} → before bytes q ≡ before bytes p → Took bytes (On p n) (Refused k q) old old (Refused k q)

@@ -26,7 +26,7 @@ pub laid-more : (xs old : List ℕ) (n v : ℕ) → laid xs old ≡ old → n �
     → set old n v ≡ laid (xs ++ (v ∷ [])) old
 laid-more xs old n v lies e fits =
     let tail : drop (length xs) old ≡ getD old (length xs) 0 ∷ drop (suc (length xs)) old =
-        drop-cons old (length xs) 0 (omega arith)
+    drop-cons old (length xs) 0 (omega arith)
     in
     let old≡ : old ≡ xs ++ (getD old (length xs) 0 ∷ drop (suc (length xs)) old) = sym lies ∙ ap (λ (t : List ℕ). xs ++ t) tail in
     let m : length (xs ++ (v ∷ [])) ≡ suc (length xs) = simp length-append (omega arith) in

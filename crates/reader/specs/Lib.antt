@@ -14,3 +14,6 @@ pub mod Counted
 pub mod Turns
 pub mod Noting
 pub mod Modules
+pub mod Answer
+pub mod Through
+pub mod Answered

@@ -61,10 +61,10 @@ module _ {bytes numbers numbers′ starts starts′ offsets offsets′ : List �
       let more : 0 < t .left = omega (arith, t .sum) in
       let a = passing-starts t (fit .inNumbers) in
       let b = passing-offsets t (fit .inBytes) in
-      record
-        { left = t .left - 1
-        ; sum = omega (arith, t .sum)
-        ; turning = turn-next (t .turning) sound-module more u
-        ; noting = rw (u .answers)
-            (noting-next (t .noting) (t .turning .stands .begins) more (omega (arith, fit .inNumbers)) (omega (arith, fit .inBytes)))
-        }
+      record {
+        left = t .left - 1;
+        sum = omega (arith, t .sum);
+        turning = turn-next (t .turning) sound-module more u;
+        noting = rw (u .answers)
+            (noting-next (t .noting) (t .turning .stands .begins) more (omega (arith, fit .inNumbers)) (omega (arith, fit .inBytes)));
+      }

@@ -89,15 +89,15 @@ module _ {bytes all starts₀ starts offsets₀ offsets : List ℕ} {left i : �
       let l = length-append (t .done) (p ∷ []) in
       let m = length-map (t .done) (numbersTo bytes) in
       let first : placesFrom bytes left (On p n) ≡ p ∷ placesFrom bytes (left - 1) (go bytes readModule (On p n)) =
-          ap (λ (k : ℕ). placesFrom bytes k (On p n)) e ∙ places-next bytes (left - 1) p n (here front count)
+      ap (λ (k : ℕ). placesFrom bytes k (On p n)) e ∙ places-next bytes (left - 1) p n (here front count)
       in
-      record
-        { done = t .done ++ (p ∷ [])
-        ; count = omega (arith, t .count)
-        ; splits = rw (t .splits, first, append-assoc)
-        ; noted = record
-            { inNumbers = rw (map-more, ← count)
-                (laid-next (map (numbersTo bytes) (t .done)) starts₀ starts i n (t .noted .inNumbers) (omega (arith, t .count)) fits)
-            ; inBytes = laid-next (t .done) offsets₀ offsets i p (t .noted .inBytes) (t .count) fits′
-            }
-        }
+      record {
+        done = t .done ++ (p ∷ []);
+        count = omega (arith, t .count);
+        splits = rw (t .splits, first, append-assoc);
+        noted = record {
+          inNumbers = rw (map-more, ← count)
+              (laid-next (map (numbersTo bytes) (t .done)) starts₀ starts i n (t .noted .inNumbers) (omega (arith, t .count)) fits);
+          inBytes = laid-next (t .done) offsets₀ offsets i p (t .noted .inBytes) (t .count) fits′;
+        };
+      }

@@ -44,11 +44,11 @@ further bytes p q xs cs rest f d e s =
     let joined : Spells (take q bytes) (before bytes p ++ xs) = rw taken (spells-append (f .spells) s) in
     let new : before bytes q ≡ before bytes p ++ xs = spelled-before bytes q (before bytes p ++ xs) joined in
     let counted : length bytes - p ≡ length cs + length rest = sym (length-drop p bytes) ∙ ap length d ∙ length-append cs rest in
-    record
-      { front = record { within = omega (arith, f .within); spells = rw new joined }
-      ; left = left
-      ; numbers = new
-      }
+    record {
+      front = record { within = omega (arith, f .within); spells = rw new joined };
+      left = left;
+      numbers = new;
+    }
 
 -- There are no more numbers in front of a place than bytes in the file.
 atMost-length : (k : ℕ) (bytes : List ℕ) → length (atMost k bytes) ≤ k

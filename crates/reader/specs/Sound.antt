@@ -39,7 +39,7 @@ module _ {A B : Type 0} {f : A → List ℕ} {h : B → List ℕ} {r : Reader A}
   -- One thing, and then what depends on it.
   after : (next : A → Reader B) → Sound f r → Further bytes o p xs (drop p bytes)
       → ((a : A) (q : ℕ) → r p (drop p bytes) ≡ got a q (drop q bytes) → Further bytes o q (xs ++ f a) (drop q bytes)
-          → Kept h bytes o (next a q (drop q bytes)))
+      → Kept h bytes o (next a q (drop q bytes)))
       → Kept h bytes o (bind r next p (drop p bytes))
   after next sound w k = go (r p (drop p bytes)) refl (beyond sound w)
     where
@@ -74,11 +74,11 @@ pub sound-many : {A : Type 0} {f : A → List ℕ} {r : Reader A} → Sound f r 
 unfolding readMany each
 sound-many {f} {r} sound zero = record { keeps = λ bytes p front. done (here front) refl }
 sound-many {f} {r} sound (suc n) =
-    record
-      { keeps = λ bytes p front.
-        after (λ x. bind (readMany r n) (λ xs. give (x ∷ xs))) sound (here front)
-        (λ x q _ w. after (λ xs. give (x ∷ xs)) (sound-many sound n) w (λ xs q′ _ w′. done w′ refl))
-      }
+    record {
+      keeps = λ bytes p front.
+          after (λ x. bind (readMany r n) (λ xs. give (x ∷ xs))) sound (here front)
+          (λ x q _ w. after (λ xs. give (x ∷ xs)) (sound-many sound n) w (λ xs q′ _ w′. done w′ refl));
+    }
 
 -- As many things are read as the count says.
 pub many-length : {A : Type 0} (r : Reader A) (n p : ℕ) (bytes : List ℕ) (xs : List A) (q : ℕ) (rest : List ℕ)
@@ -103,11 +103,11 @@ many-length {A} r (suc n) p bytes xs q rest e = first (r p bytes) (many-length r
 pub sound-list : {A : Type 0} {f : A → List ℕ} {r : Reader A} (ceiling : ℕ) → Sound f r
     → Sound (λ xs. length xs ∷ each f xs) (bind (readCount ceiling) (readMany r))
 sound-list {A} {f} {r} ceiling sound =
-    record
-      { keeps = λ bytes p front.
-        after (readMany r) (sound-count ceiling) (here front)
-        (λ n q _ w. counted bytes p q n w (readMany r n q (drop q bytes)) refl (beyond (sound-many sound n) w))
-      }
+    record {
+      keeps = λ bytes p front.
+          after (readMany r) (sound-count ceiling) (here front)
+          (λ n q _ w. counted bytes p q n w (readMany r n q (drop q bytes)) refl (beyond (sound-many sound n) w));
+    }
   where
     counted : (bytes : List ℕ) (o p n : ℕ) → Further bytes o p (n ∷ []) (drop p bytes)
         → (s : Step (List A)) → readMany r n p (drop p bytes) ≡ s → Kept (λ xs. n ∷ each f xs) bytes o s → Kept (λ xs. length xs ∷ each f xs) bytes o s
@@ -135,28 +135,28 @@ sound-nets = means (λ nets. ap (λ (t : List ℕ). length nets ∷ t) (each-one
 pub sound-occurrence : Sound occurrenceNumbers readOccurrence
 unfolding readOccurrence occurrenceNumbers
 sound-occurrence =
-    record
-      { keeps = λ bytes p front.
-        after _ sound-nets (here front)
-        (λ drives q _ w. after _ sound-number w
-        (λ refers q _ w. after _ sound-nets w
-        (λ takes q _ w. done w (simp append-assoc))))
-      }
+    record {
+      keeps = λ bytes p front.
+          after _ sound-nets (here front)
+          (λ drives q _ w. after _ sound-number w
+          (λ refers q _ w. after _ sound-nets w
+          (λ takes q _ w. done w (simp append-assoc))));
+    }
 
 pub sound-module : Sound moduleNumbers readModule
 unfolding readModule moduleNumbers
 sound-module =
-    record
-      { keeps = λ bytes p front.
-        after _ sound-number (here front)
-        (λ number q _ w. after _ sound-nets w
-        (λ inputs q _ w. after _ sound-nets w
-        (λ outputs q _ w. after _ (sound-count mostOccurrences) w
-        (λ n q _ w. after _ (sound-many sound-occurrence n) w
-        (λ occurrences o e v. 
+    record {
+      keeps = λ bytes p front.
+          after _ sound-number (here front)
+          (λ number q _ w. after _ sound-nets w
+          (λ inputs q _ w. after _ sound-nets w
+          (λ outputs q _ w. after _ (sound-count mostOccurrences) w
+          (λ n q _ w. after _ (sound-many sound-occurrence n) w
+          (λ occurrences o e v.
           let l = many-length readOccurrence n q (drop q bytes) occurrences o (drop o bytes) e in
-          done v (rw l (simp append-assoc)))))))
-      }
+          done v (rw l (simp append-assoc)))))));
+    }
 
 pub sound-modules : Sound fileNumbers readModules
 unfolding readModules fileNumbers

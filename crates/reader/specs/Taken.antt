@@ -21,13 +21,13 @@ unmoved s e = record { answers = e; lays = sym (s .lies); keeps = omega arith }
 pub took-then : {bytes old mid new : List ℕ} {way due next due′ last : Way}
     → Took bytes way due old mid next → Took bytes next due′ mid new last → Took bytes way due′ old new last
 took-then {bytes} {old} {next} {last} t u =
-    record
-      { answers = u .answers
-      ; lays = u .lays
+    record {
+      answers = u .answers;
+      lays = u .lays
           ∙ ap (λ (l : List ℕ). laid (before bytes (placeOf last)) l) (t .lays)
-          ∙ laid-over (before bytes (placeOf next)) (before bytes (placeOf last)) old (u .keeps)
-      ; keeps = omega (arith, t .keeps, u .keeps)
-      }
+          ∙ laid-over (before bytes (placeOf next)) (before bytes (placeOf last)) old (u .keeps);
+      keeps = omega (arith, t .keeps, u .keeps);
+    }
 
 -- The same, where the way is due by an equation.
 pub took-due : {bytes old new : List ℕ} {way due due′ next : Way} → due ≡ due′ → Took bytes way due old new next → Took bytes way due′ old new next
@@ -45,11 +45,11 @@ pub stands-next : {A : Type 0} {f : A → List ℕ} {r : Reader A} {bytes old mi
     → Sound f r → Stands bytes way old → Takes r bytes way old mid next → Stands bytes next mid
 stands-next {bytes} {old} {mid} {way} {next} sound s t =
     let same = took-length (s .room) t in
-    record
-      { begins = rw (t .answers) (begins-go sound (s .begins))
-      ; lies = rw (t .lays) (laid-over (before bytes (placeOf next)) (before bytes (placeOf next)) old (omega arith))
-      ; room = omega (arith, s .room)
-      }
+    record {
+      begins = rw (t .answers) (begins-go sound (s .begins));
+      lies = rw (t .lays) (laid-over (before bytes (placeOf next)) (before bytes (placeOf next)) old (omega arith));
+      room = omega (arith, s .room);
+    }
 
 -- Two readers one after the other.
 pub took-skip : {A B : Type 0} {f : A → List ℕ} {r : Reader A} (s : Reader B) {bytes old mid new : List ℕ} {way next last : Way}

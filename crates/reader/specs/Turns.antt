@@ -50,12 +50,12 @@ module _ {A : Type 0} {r : Reader A} {bytes old now : List ℕ} {start way : Way
       let k : ℕ = left - 1 in
       let e : left ≡ suc k = omega arith in
       let onward : go bytes (readMany r left) way ≡ go bytes (readMany r k) (go bytes r way) =
-          ap (λ (n : ℕ). go bytes (readMany r n) way) e
-          ∙ go-alike bytes way (alike-many r k)
-          ∙ go-skip sound (readMany r k) (t .stands .begins)
+      ap (λ (n : ℕ). go bytes (readMany r n) way) e
+      ∙ go-alike bytes way (alike-many r k)
+      ∙ go-skip sound (readMany r k) (t .stands .begins)
       in
-      record
-        { stands = stands-next sound (t .stands) u
-        ; due = ap (λ (w : Way). go bytes (readMany r k) w) (u .answers) ∙ sym onward ∙ t .due
-        ; took = took-then (t .took) (took-due (sym (u .answers)) u)
-        }
+      record {
+        stands = stands-next sound (t .stands) u;
+        due = ap (λ (w : Way). go bytes (readMany r k) w) (u .answers) ∙ sym onward ∙ t .due;
+        took = took-then (t .took) (took-due (sym (u .answers)) u);
+      }

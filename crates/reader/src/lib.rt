@@ -1,10 +1,19 @@
 // Reads a file's bytes once, front to back, into a lent list of numbers.
 ghost use mathlib.Core.Path.{_≡_};
-ghost use lib.ListN.{drop};
-ghost use Rattle.meaning.specs.Reading.{readNumber, readCount, readMany, readNets, readOccurrence, readModule};
+ghost use Prim.Native.Nat.{_≤_};
+ghost use lib.ListN.{length, drop};
+ghost use Rattle.meaning.specs.Reading.{readNumber, readCount, readMany, readNets, readOccurrence, readModule, mostModules};
 ghost use Rattle.reader.specs.Alike.{readBody};
+ghost use Rattle.reader.specs.Answer.{Room, Decoded};
 ghost use Rattle.reader.specs.Modules.{Fit, Passed};
+ghost use Rattle.reader.specs.Through.{Through};
 ghost use Rattle.reader.specs.Steps.{numberOf, isRefused, Stands, Takes};
+
+// A file that reads, with how many modules and numbers it has; or the refusal of 1 to 5, with its place.
+pub enum Reading {
+    Read { modules: usize, numbers: usize },
+    Refused { number: u16, place: usize },
+}
 
 // What stands where a number is due.
 pub enum Number {
@@ -23,20 +32,35 @@ fn read_number(bytes: &[u8], at: usize) -> Number
     ensures { λ r. ⌜ r ≡ numberOf (readNumber at (drop at (now (bytes .entry)))) ⌝ }
 {
     if bytes.len() <= at {
-        return Number::Refused { number: 2, place: at };
+        return Number::Refused {
+            number: 2,
+            place: at,
+        };
     }
     let first = bytes[at];
     if first < 128 {
-        return Number::Is { value: first as u16, next: at + 1 };
+        return Number::Is {
+            value: first as u16,
+            next: at + 1,
+        };
     }
     if bytes.len() <= at + 1 {
-        return Number::Refused { number: 2, place: at + 1 };
+        return Number::Refused {
+            number: 2,
+            place: at + 1,
+        };
     }
     let second = bytes[at + 1];
     if second == 0 || 128 <= second {
-        return Number::Refused { number: 3, place: at };
+        return Number::Refused {
+            number: 3,
+            place: at,
+        };
     }
-    Number::Is { value: (first - 128) as u16 + 128 * (second as u16), next: at + 2 }
+    Number::Is {
+        value: (first - 128) as u16 + 128 * (second as u16),
+        next: at + 2,
+    }
 }
 
 // Whether reading has ended in a refusal.
@@ -45,7 +69,10 @@ fn refused(way: Way) -> bool
 {
     match way {
         Way::On { next: _, filled: _ } => false,
-        Way::Refused { number: _, place: _ } => true,
+        Way::Refused {
+            number: _,
+            place: _,
+        } => true,
     }
 }
 
@@ -60,7 +87,10 @@ fn keep_number(way: Way, bytes: &[u8], numbers: &mut [u16]) -> Way
             Number::Refused { number, place } => Way::Refused { number, place },
             Number::Is { value, next } => {
                 numbers[filled] = value;
-                Way::On { next, filled: filled + 1 }
+                Way::On {
+                    next,
+                    filled: filled + 1,
+                }
             }
         },
     }
@@ -77,10 +107,16 @@ fn keep_count(way: Way, ceiling: u16, bytes: &[u8], numbers: &mut [u16]) -> Way
             Number::Refused { number, place } => Way::Refused { number, place },
             Number::Is { value, next } => {
                 if ceiling < value {
-                    return Way::Refused { number: 4, place: at };
+                    return Way::Refused {
+                        number: 4,
+                        place: at,
+                    };
                 }
                 numbers[filled] = value;
-                Way::On { next, filled: filled + 1 }
+                Way::On {
+                    next,
+                    filled: filled + 1,
+                }
             }
         },
     }
@@ -172,7 +208,14 @@ fn keep_module(way: Way, bytes: &[u8], numbers: &mut [u16]) -> Way
 }
 
 // So many modules. Where each begins is noted, in numbers and in bytes.
-fn keep_modules(way: Way, count: usize, bytes: &[u8], numbers: &mut [u16], starts: &mut [usize], offsets: &mut [usize]) -> Way
+fn keep_modules(
+    way: Way,
+    count: usize,
+    bytes: &[u8],
+    numbers: &mut [u16],
+    starts: &mut [usize],
+    offsets: &mut [usize],
+) -> Way
     requires { ⌜ Stands (now bytes) way (now numbers) ⌝ }
     requires { ⌜ Fit count (now starts) (now offsets) ⌝ }
     ensures { λ r. ⌜ Passed (now (bytes .entry)) way count (now (numbers .entry)) (now (numbers .exit)) (now (starts .entry)) (now (starts .exit)) (now (offsets .entry)) (now (offsets .exit)) r ⌝ }
@@ -193,4 +236,60 @@ fn keep_modules(way: Way, count: usize, bytes: &[u8], numbers: &mut [u16], start
         i += 1;
     }
     way
+}
+
+// The count of modules, and as many modules.
+fn keep_file(bytes: &[u8], numbers: &mut [u16], starts: &mut [usize], offsets: &mut [usize]) -> Way
+    requires { ⌜ length (now bytes) ≤ length (now numbers) ⌝ }
+    requires { ⌜ Fit mostModules (now starts) (now offsets) ⌝ }
+    ensures { λ r. ⌜ Through (now (bytes .entry)) (now (numbers .entry)) (now (numbers .exit)) (now (starts .entry)) (now (starts .exit)) (now (offsets .entry)) (now (offsets .exit)) r ⌝ }
+{
+    let way = keep_count(Way::On { next: 0, filled: 0 }, 128, bytes, numbers);
+    match way {
+        Way::Refused { number, place } => Way::Refused { number, place },
+        Way::On { next, filled } => {
+            let count = numbers[filled - 1] as usize;
+            keep_modules(
+                Way::On { next, filled },
+                count,
+                bytes,
+                numbers,
+                starts,
+                offsets,
+            )
+        }
+    }
+}
+
+// Reads a file.
+pub fn read(
+    bytes: &[u8],
+    numbers: &mut [u16],
+    starts: &mut [usize],
+    offsets: &mut [usize],
+) -> Reading
+    requires { ⌜ Room (now bytes) (now numbers) (now starts) (now offsets) ⌝ }
+    ensures { λ r. ⌜ Decoded (now (bytes .entry)) (now (numbers .entry)) (now (numbers .exit)) (now (starts .entry)) (now (starts .exit)) (now (offsets .entry)) (now (offsets .exit)) r ⌝ }
+{
+    if 65535 < bytes.len() {
+        return Reading::Refused {
+            number: 1,
+            place: 0,
+        };
+    }
+    match keep_file(bytes, numbers, starts, offsets) {
+        Way::Refused { number, place } => Reading::Refused { number, place },
+        Way::On { next, filled } => {
+            if next < bytes.len() {
+                return Reading::Refused {
+                    number: 5,
+                    place: next,
+                };
+            }
+            Reading::Read {
+                modules: numbers[0] as usize,
+                numbers: filled,
+            }
+        }
+    }
 }

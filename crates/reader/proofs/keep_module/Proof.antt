@@ -18,12 +18,12 @@ keep-nets-requires : tie.Need-keep-nets-requires
 keep-nets-requires c κs = stands-next sound-number (c .before .before .before .before .before .before .before .pre) (c .before .before .before .keep-number .ensures)
 
 keep-nets-requires-2 : tie.Need-keep-nets-requires-2
-keep-nets-requires-2 c κs = 
+keep-nets-requires-2 c κs =
     let named = stands-next sound-number (c .before .before .before .before .before .before .before .before .before .before .before .pre) (c .before .before .before .before .before .before .before .keep-number .ensures) in
     stands-next sound-nets named (c .before .before .before .keep-nets .ensures)
 
 keep-body-requires : tie.Need-keep-body-requires
-keep-body-requires c κs = 
+keep-body-requires c κs =
     let named = stands-next sound-number (c .before .before .before .before .before .before .before .before .before .before .before .before .before .before .before .pre) (c .before .before .before .before .before .before .before .before .before .before .before .keep-number .ensures) in
     let inputs = stands-next sound-nets named (c .before .before .before .before .before .before .before .keep-nets .ensures) in
     stands-next sound-nets inputs (c .before .before .before .keep-nets2 .ensures)
@@ -32,7 +32,7 @@ same-length : tie.Need-same-length
 same-length c = search needs
 
 returns : tie.Need-returns
-returns c = 
+returns c =
     let stands = c .before .before .before .before .before .before .before .before .before .before .before .before .before .before .before .before .before .before .pre in
     let number = c .before .before .before .before .before .before .before .before .before .before .before .before .before .before .keep-number .ensures in
     let named = stands-next sound-number stands number in

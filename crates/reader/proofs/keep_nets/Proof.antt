@@ -4,7 +4,7 @@ use Rattle.meaning.specs.Reading.{readNumber, readCount, readMany, readNets, mo
 use Rattle.reader.specs.Sound.{sound-count}
 use Rattle.reader.specs.Steps.{Takes}
 use Rattle.reader.specs.Taken.{took-then, took-due, took-ended, stands-next}
-use Rattle.reader.specs.Counted.{Counted, counted}
+use Rattle.reader.specs.Counted.{Counted, counted, counted-due}
 use Rattle.reader.specs.declared.Way.the-variants.{On}
 use borrow.Author.Needs.{needs}
 use Rattle.reader.proofs.keep_nets.Statement.{statement}
@@ -17,18 +17,18 @@ use Rattle.reader.proofs.keep_numbers.Reads as keep-numbers-reads
 -- The count is laid out, and reading stands behind it.
 count : (c : tie.After-known-told2)
     → Takes (readCount mostNets) (c .before .before .before .before .before .before .before .before .before .args .bytes .now)
-        (c .before .before .before .before .before .before .before .before .before .args .way)
-        (c .before .before .before .before .before .before .before .before .before .args .numbers .now)
-        (c .before .before .before .before .before .keep-count .last .1 .1 .1 .0)
-        (On (c .before .way2 .given .0 .0) (c .before .way2 .given .0 .1 .0))
+    (c .before .before .before .before .before .before .before .before .before .args .way)
+    (c .before .before .before .before .before .before .before .before .before .args .numbers .now)
+    (c .before .before .before .before .before .keep-count .last .1 .1 .1 .0)
+    (On (c .before .way2 .given .0 .0) (c .before .way2 .given .0 .1 .0))
 count c = rw (c .before .way2 .given .1) at (c .before .before .before .before .before .keep-count .ensures)
 
 there : (c : tie.After-known-told2)
-    → Counted readNumber mostNets (c .before .before .before .before .before .before .before .before .before .args .bytes .now)
-        (c .before .before .before .before .before .before .before .before .before .args .way)
-        (c .before .before .before .before .before .keep-count .last .1 .1 .1 .0)
-        (c .before .way2 .given .0 .0) (c .before .way2 .given .0 .1 .0)
-there c = counted readNumber mostNets (c .before .before .before .before .before .before .before .before .before .pre) (count c)
+    → Counted mostNets (c .before .before .before .before .before .before .before .before .before .args .bytes .now)
+    (c .before .before .before .before .before .before .before .before .before .args .way)
+    (c .before .before .before .before .before .keep-count .last .1 .1 .1 .0)
+    (c .before .way2 .given .0 .0) (c .before .way2 .given .0 .1 .0)
+there c = counted mostNets (c .before .before .before .before .before .before .before .before .before .pre) (count c)
 
 keep-count-requires : tie.Need-keep-count-requires
 keep-count-requires c κs = search needs
@@ -63,7 +63,7 @@ same-length-2 c = search needs
 
 returns-2 : tie.Need-returns-2
 unfolding readNets
-returns-2 c = took-due (sym (there (c .before .before .before .before .before) .due)) (took-then (count (c .before .before .before .before .before)) (c .before .before .keep-numbers .ensures))
+returns-2 c = took-due (sym (counted-due readNumber (c .before .before .before .before .before .before .before .before .before .before .before .before .before .before .args .way) (there (c .before .before .before .before .before)))) (took-then (count (c .before .before .before .before .before)) (c .before .before .keep-numbers .ensures))
 
 pub keep-nets-spec : {M : Type 1} → statement M
 keep-nets-spec =

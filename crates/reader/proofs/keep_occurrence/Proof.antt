@@ -23,7 +23,7 @@ same-length : tie.Need-same-length
 same-length c = search needs
 
 returns : tie.Need-returns
-returns c = 
+returns c =
     let stands = c .before .before .before .before .before .before .before .before .before .before .before .before .before .before .pre in
     let driven = c .before .before .before .before .before .before .before .before .before .before .keep-nets .ensures in
     took-alike alike-occurrence

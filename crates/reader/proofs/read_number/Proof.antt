@@ -41,7 +41,7 @@ shared-slice-read-second : tie.Need-shared-slice-read-second
 shared-slice-read-second c = search needs
 
 returns-4 : tie.Need-returns-4
-returns-4 c = 
+returns-4 c =
     let a = c .before .before .before .before .before .before .args in
     let h = c .before .before .if3 .left in
     let f = c .before .before .before .if2 .left in
@@ -68,7 +68,7 @@ add-t11 : tie.Need-add-t11
 add-t11 c = search needs
 
 returns-5 : tie.Need-returns-5
-returns-5 c = 
+returns-5 c =
     let a = c .before .before .before .before .before .before .before .args in
     ap numberOf
     (sym
