@@ -1,12 +1,14 @@
 pub mod Numbers
 pub mod Laid
 pub mod Spelled
+pub mod Exact
 pub mod Places
 pub mod Single
 pub mod Sound
 pub mod Bytes
 pub mod Steps
 pub mod Starts
+pub mod Placed
 pub mod Alike
 pub mod Taken
 pub mod Kept
@@ -17,3 +19,4 @@ pub mod Modules
 pub mod Answer
 pub mod Through
 pub mod Answered
+pub mod Held
