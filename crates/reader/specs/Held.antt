@@ -43,15 +43,15 @@ step-of bytes ms = split (leb (length bytes) mostBytes) refl
     split false t e = let z : _≡_ {A = ℕ} 0 1 = cc in absurd (omega arith)
 
 -- All bytes are passed, and they hold the file's numbers.
-record Passed (bytes : List ℕ) (ms : List Module) : Type 0 where
+record Ended (bytes : List ℕ) (ms : List Module) : Type 0 where
   front : Front bytes (length bytes)
   numbers : before bytes (length bytes) ≡ fileNumbers ms
 
-passed : (bytes : List ℕ) (ms : List Module) → read bytes ≡ holds ms → Passed bytes ms
+all-passed : (bytes : List ℕ) (ms : List Module) → read bytes ≡ holds ms → Ended bytes ms
 unfolding before numbersIn atMost
-passed bytes ms file = let s = step-of bytes ms file in at (s .end) (sound-modules .keeps bytes 0 (at-start bytes)) (s .step)
+all-passed bytes ms file = let s = step-of bytes ms file in at (s .end) (sound-modules .keeps bytes 0 (at-start bytes)) (s .step)
   where
-    at : (o : ℕ) {s : Step (List Module)} → Kept fileNumbers bytes 0 s → s ≡ got ms o [] → Passed bytes ms
+    at : (o : ℕ) {s : Step (List Module)} → Kept fileNumbers bytes 0 s → s ≡ got ms o [] → Ended bytes ms
     at o (on {a} {q} {rest} w) e =
         let same : a ≡ ms = cc in
         let none : rest ≡ [] = cc in
@@ -93,14 +93,14 @@ inFront ms i = length ms ∷ each moduleNumbers (take i ms)
 module _ (bytes : List ℕ) (ms : List Module) (file : read bytes ≡ holds ms) where
   pub holds-numbers : numbersOf bytes ≡ fileNumbers ms
   unfolding numbersOf
-  holds-numbers = rw file (passed bytes ms file .numbers)
+  holds-numbers = rw file (all-passed bytes ms file .numbers)
 
   pub holds-few : length (fileNumbers ms) ≤ length bytes
-  holds-few = rw (← passed bytes ms file .numbers) (before-length bytes (length bytes))
+  holds-few = rw (← all-passed bytes ms file .numbers) (before-length bytes (length bytes))
 
   pub holds-small : Bytes bytes → All Small (fileNumbers ms)
   holds-small h =
-      let p = passed bytes ms file in
+      let p = all-passed bytes ms file in
       rw (← p .numbers) (spells-small (p .front .spells) (bytes-take (length bytes) h))
 
   pub offsets-length : length (offsetsOf bytes) ≡ length ms

@@ -1,22 +1,13 @@
+-- What reading a file answers and leaves, and what follows for whoever reads one.
 pub mod Numbers
-pub mod Laid
+pub mod Starts
+pub mod Answer
 pub mod Spelled
 pub mod Exact
 pub mod Places
 pub mod Single
 pub mod Sound
-pub mod Bytes
-pub mod Steps
-pub mod Starts
 pub mod Placed
-pub mod Alike
-pub mod Taken
-pub mod Kept
-pub mod Counted
-pub mod Turns
-pub mod Noting
-pub mod Modules
-pub mod Answer
-pub mod Through
-pub mod Answered
 pub mod Held
+pub mod Steps
+pub mod Noted

@@ -4,14 +4,20 @@ use mathlib.Core.Path.{_≡_}
 use mathlib.Core.Bool.{Bool, true, false}
 use mathlib.Core.List.{List}
 use lib.ListN.{length, drop}
-use Rattle.meaning.specs.Reading.{Step, got, refused, Reader}
+use Rattle.meaning.specs.Syntax.{Occurrence}
+use Rattle.meaning.specs.Reading.{Step, got, refused, Reader, bind, readCount, readMany, readOccurrence, mostOccurrences}
 use Rattle.reader.specs.Numbers.{before, laid}
 use Rattle.reader.specs.Places.{Front}
-use Rattle.reader.specs.declared.Number.{Number}
-use Rattle.reader.specs.declared.Number.the-variants.{Is, Refused as NoNumber}
-use Rattle.reader.specs.declared.Way.{Way}
-use Rattle.reader.specs.declared.Way.the-variants.{On, Refused}
+use Rattle.reader.specs.declared.number.Number.{Number}
+use Rattle.reader.specs.declared.number.Number.the-variants.{Is, Refused as NoNumber}
+use Rattle.reader.specs.declared.way.Way.{Way}
+use Rattle.reader.specs.declared.way.Way.the-variants.{On, Refused}
 
+-- A module's count and list of occurrences.
+abbrev pub readBody : Reader (List Occurrence)
+readBody = bind (readCount mostOccurrences) (readMany readOccurrence)
+
+-- What a step says of a number.
 abbrev pub numberOf : Step ℕ → Number
 numberOf (got value place rest) = Is value place
 numberOf (refused number place) = NoNumber number place

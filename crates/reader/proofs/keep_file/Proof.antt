@@ -2,16 +2,16 @@ use native.Mathlib.Omega.{arith}
 use Rattle.meaning.specs.Reading.{readCount, mostModules}
 use Rattle.reader.specs.Sound.{sound-count}
 use Rattle.reader.specs.Steps.{Takes}
-use Rattle.reader.specs.Taken.{stands-next}
-use Rattle.reader.specs.Counted.{Counted, counted}
-use Rattle.reader.specs.Through.{stands-first, through-refused, through-modules}
-use Rattle.reader.specs.declared.Way.the-variants.{On}
+use Rattle.reader.proofs.Taken.{stands-next}
+use Rattle.reader.proofs.Counted.{Counted, counted}
+use Rattle.reader.proofs.Through.{stands-first, through-refused, through-modules}
+use Rattle.reader.specs.declared.way.Way.the-variants.{On}
 use borrow.Author.Needs.{needs}
 use Rattle.reader.proofs.keep_file.Statement.{statement}
 use Rattle.reader.proofs.keep_file.Tie as tie
 use Rattle.reader.proofs.keep_file.Reads as reads
 use Rattle.reader.proofs.keep_file.Lts as lts
-use Rattle.reader.proofs.keep_count.Reads as keep-count-reads
+use Rattle.reader.proofs.way.keep_count.Reads as keep-count-reads
 use Rattle.reader.proofs.keep_modules.Reads as keep-modules-reads
 
 -- The count is laid out, and reading stands behind it.

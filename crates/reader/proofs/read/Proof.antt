@@ -1,5 +1,5 @@
 use native.Mathlib.Omega.{arith}
-use Rattle.reader.specs.Answered.{decoded-long, decoded-refused, decoded-more, decoded-all, through-some}
+use Rattle.reader.proofs.Answered.{decoded-long, decoded-refused, decoded-more, decoded-all, through-some}
 use borrow.Author.Needs.{needs}
 use Rattle.reader.proofs.read.Statement.{statement}
 use Rattle.reader.proofs.read.Tie as tie

@@ -7,10 +7,10 @@ use native.Mathlib.Omega.{arith}
 use Rattle.meaning.specs.Reading.{Reader, readMany}
 use Rattle.reader.specs.Sound.{Sound}
 use Rattle.reader.specs.Steps.{go, isRefused, Begins, here, over, Stands, Took, Takes}
-use Rattle.reader.specs.Alike.{alike-many, go-alike, go-skip}
-use Rattle.reader.specs.Taken.{unmoved, took-then, took-due, stands-next}
-use Rattle.reader.specs.declared.Way.{Way}
-use Rattle.reader.specs.declared.Way.the-variants.{On, Refused}
+use Rattle.reader.proofs.Alike.{alike-many, go-alike, go-skip}
+use Rattle.reader.proofs.Taken.{unmoved, took-then, took-due, stands-next}
+use Rattle.reader.specs.declared.way.Way.{Way}
+use Rattle.reader.specs.declared.way.Way.the-variants.{On, Refused}
 
 -- Of `count` things from the way `start` on, so many are left, and reading stands at `way`.
 pub record Turning {A : Type 0} (r : Reader A) (bytes : List ℕ) (start : Way) (count : ℕ) (old : List ℕ) (left : ℕ) (way : Way) (now : List ℕ)

@@ -6,13 +6,13 @@ use native.Mathlib.Omega.{arith}
 use lib.ListN.{length, drop}
 use Rattle.meaning.specs.Reading.{Step, got, refused, Reader, onward, bind}
 use Rattle.reader.specs.Numbers.{before, laid}
-use Rattle.reader.specs.Laid.{laid-over, length-laid}
+use Rattle.reader.proofs.Laid.{laid-over, length-laid}
 use Rattle.reader.specs.Places.{before-length}
 use Rattle.reader.specs.Sound.{Sound}
 use Rattle.reader.specs.Steps.{wayOf, go, placeOf, Begins, Stands, Took, Takes}
-use Rattle.reader.specs.Alike.{Alike, skip, go-alike, begins-go, go-skip}
-use Rattle.reader.specs.declared.Way.{Way}
-use Rattle.reader.specs.declared.Way.the-variants.{On, Refused}
+use Rattle.reader.proofs.Alike.{Alike, skip, go-alike, begins-go, go-skip}
+use Rattle.reader.specs.declared.way.Way.{Way}
+use Rattle.reader.specs.declared.way.Way.the-variants.{On, Refused}
 
 -- Nothing is due, and nothing is done.
 pub unmoved : {bytes old : List ℕ} {way due : Way} → Stands bytes way old → way ≡ due → Took bytes way due old old way

@@ -1,14 +1,14 @@
 use Rattle.meaning.specs.Reading.{readNumber, readNets}
 use Rattle.reader.specs.Sound.{sound-number, sound-nets}
-use Rattle.reader.specs.Alike.{skip, alike-occurrence}
-use Rattle.reader.specs.Taken.{stands-next, took-skip, took-alike}
+use Rattle.reader.proofs.Alike.{skip, alike-occurrence}
+use Rattle.reader.proofs.Taken.{stands-next, took-skip, took-alike}
 use borrow.Author.Needs.{needs}
-use Rattle.reader.proofs.keep_occurrence.Statement.{statement}
-use Rattle.reader.proofs.keep_occurrence.Tie as tie
-use Rattle.reader.proofs.keep_occurrence.Reads as reads
-use Rattle.reader.proofs.keep_occurrence.Lts as lts
-use Rattle.reader.proofs.keep_nets.Reads as keep-nets-reads
-use Rattle.reader.proofs.keep_number.Reads as keep-number-reads
+use Rattle.reader.proofs.parts.keep_occurrence.Statement.{statement}
+use Rattle.reader.proofs.parts.keep_occurrence.Tie as tie
+use Rattle.reader.proofs.parts.keep_occurrence.Reads as reads
+use Rattle.reader.proofs.parts.keep_occurrence.Lts as lts
+use Rattle.reader.proofs.parts.keep_nets.Reads as keep-nets-reads
+use Rattle.reader.proofs.way.keep_number.Reads as keep-number-reads
 
 keep-nets-requires : tie.Need-keep-nets-requires
 keep-nets-requires c κs = search needs

@@ -3,12 +3,12 @@ use mathlib.Core.Logic.{⊎-elim}
 use native.Mathlib.Omega.{arith}
 use borrow.Author.Needs.{needs}
 use borrow.Author.Tests.{leb-true, leb-false}
-use Rattle.reader.specs.Bytes.{no-byte, one-byte, cut-off, second-zero, second-high, second-good}
+use Rattle.reader.proofs.Bytes.{no-byte, one-byte, cut-off, second-zero, second-high, second-good}
 use Rattle.reader.specs.Steps.{numberOf}
-use Rattle.reader.proofs.read_number.Statement.{statement}
-use Rattle.reader.proofs.read_number.Tie as tie
-use Rattle.reader.proofs.read_number.Reads as reads
-use Rattle.reader.proofs.read_number.Lts as lts
+use Rattle.reader.proofs.number.read_number.Statement.{statement}
+use Rattle.reader.proofs.number.read_number.Tie as tie
+use Rattle.reader.proofs.number.read_number.Reads as reads
+use Rattle.reader.proofs.number.read_number.Lts as lts
 
 returns : tie.Need-returns
 returns c = let a = c .before .args in ap numberOf (sym (no-byte (a .bytes .now) (a .at) (c .if1 .taken)))

@@ -8,16 +8,12 @@ use Rattle.meaning.specs.Reading.{Step, got, refused, readCount, readMany, read
 use Rattle.reader.specs.Numbers.{atMost, numbersIn, before}
 use Rattle.reader.specs.Places.{at-start}
 use Rattle.reader.specs.Steps.{wayOf, go, here, Stands, Took, Takes}
-use Rattle.reader.specs.Starts.{behind, begun, Noted}
-use Rattle.reader.specs.Taken.{took-then, took-due, took-ended}
-use Rattle.reader.specs.Counted.{Counted, counted-due}
-use Rattle.reader.specs.Modules.{Passed}
-use Rattle.reader.specs.declared.Way.{Way}
-use Rattle.reader.specs.declared.Way.the-variants.{On, Refused}
-
-pub record Through (bytes numbers numbers′ starts starts′ offsets offsets′ : List ℕ) (next : Way) : Type 0 where
-  pub took : Takes readModules bytes (On 0 0) numbers numbers′ next
-  pub noted : Noted bytes (behind begun (readCount mostModules 0 bytes)) starts starts′ offsets offsets′
+use Rattle.reader.specs.Starts.{behind, begun}
+use Rattle.reader.specs.Noted.{Noted, Passed, Through}
+use Rattle.reader.proofs.Taken.{took-then, took-due, took-ended}
+use Rattle.reader.proofs.Counted.{Counted, counted-due}
+use Rattle.reader.specs.declared.way.Way.{Way}
+use Rattle.reader.specs.declared.way.Way.the-variants.{On, Refused}
 
 -- Reading begins at the first byte, with nothing laid out.
 pub stands-first : {bytes numbers : List ℕ} → length bytes ≤ length numbers → Stands bytes (On 0 0) numbers

@@ -14,12 +14,11 @@ use Rattle.reader.specs.Numbers.{atMost, numbersIn, before, laid}
 use Rattle.reader.specs.Places.{Further, at-start, before-length}
 use Rattle.reader.specs.Sound.{Kept, on, ended, sound-modules}
 use Rattle.reader.specs.Steps.{wayOf, placeOf, Took}
-use Rattle.reader.specs.Starts.{Noted}
-use Rattle.reader.specs.Taken.{took-length}
+use Rattle.reader.specs.Noted.{Through}
+use Rattle.reader.proofs.Taken.{took-length}
 use Rattle.reader.specs.Answer.{readingOf, endOf, numbersOf, offsetsOf, startsOf, Decoded}
-use Rattle.reader.specs.Through.{Through}
-use Rattle.reader.specs.declared.Way.{Way}
-use Rattle.reader.specs.declared.Way.the-variants.{On, Refused}
+use Rattle.reader.specs.declared.way.Way.{Way}
+use Rattle.reader.specs.declared.way.Way.the-variants.{On, Refused}
 use Rattle.reader.specs.declared.Reading.{Reading}
 use Rattle.reader.specs.declared.Reading.the-variants.{Read, Refused as Failed}
 

@@ -3,14 +3,14 @@ use native.Mathlib.Omega.{arith}
 use borrow.Author.Needs.{needs}
 use Rattle.meaning.specs.Reading.{readNumber}
 use Rattle.reader.specs.Sound.{sound-number}
-use Rattle.reader.specs.Taken.{took-length}
-use Rattle.reader.specs.Turns.{Turning, turn-first, turn-refused, turn-next, turn-last}
-use Rattle.reader.proofs.keep_numbers.Statement.{statement}
-use Rattle.reader.proofs.keep_numbers.Tie as tie
-use Rattle.reader.proofs.keep_numbers.Reads as reads
-use Rattle.reader.proofs.keep_numbers.Lts as lts
-use Rattle.reader.proofs.keep_number.Reads as keep-number-reads
-use Rattle.reader.proofs.refused.Reads as refused-reads
+use Rattle.reader.proofs.Taken.{took-length}
+use Rattle.reader.proofs.Turns.{Turning, turn-first, turn-refused, turn-next, turn-last}
+use Rattle.reader.proofs.parts.keep_numbers.Statement.{statement}
+use Rattle.reader.proofs.parts.keep_numbers.Tie as tie
+use Rattle.reader.proofs.parts.keep_numbers.Reads as reads
+use Rattle.reader.proofs.parts.keep_numbers.Lts as lts
+use Rattle.reader.proofs.way.keep_number.Reads as keep-number-reads
+use Rattle.reader.proofs.way.refused.Reads as refused-reads
 
 abbrev Inv-loop : tie.InvT-loop
 Inv-loop count bytes numbers₀ way₀ left₀ numbers way left = Turning readNumber bytes way₀ count numbers₀ left way numbers

@@ -7,14 +7,14 @@ use borrow.Author.Tests.{le-leb, lt-leb}
 use lib.ListN.{length, drop, set, length-append}
 use Rattle.meaning.specs.Reading.{Step, got, refused, readNumber, readCount}
 use Rattle.reader.specs.Numbers.{before}
-use Rattle.reader.specs.Laid.{laid-more}
+use Rattle.reader.proofs.Laid.{laid-more}
 use Rattle.reader.specs.Places.{Front, Further, before-length}
 use Rattle.reader.specs.Single.{Single, single-number}
 use Rattle.reader.specs.Steps.{numberOf, wayOf, Begins, here, Stands, Took, Takes}
-use Rattle.reader.specs.declared.Number.{Number}
-use Rattle.reader.specs.declared.Number.the-variants.{Is, Refused as NoNumber}
-use Rattle.reader.specs.declared.Way.{Way}
-use Rattle.reader.specs.declared.Way.the-variants.{On, Refused}
+use Rattle.reader.specs.declared.number.Number.{Number}
+use Rattle.reader.specs.declared.number.Number.the-variants.{Is, Refused as NoNumber}
+use Rattle.reader.specs.declared.way.Way.{Way}
+use Rattle.reader.specs.declared.way.Way.the-variants.{On, Refused}
 
 pub front-of : {bytes : List ℕ} {p n : ℕ} → Begins bytes (On p n) → Front bytes p
 front-of (here front count) = front
@@ -76,11 +76,8 @@ module _ {bytes old : List ℕ} {p n : ℕ} (stands : Stands bytes (On p n) old)
     it : Found (readNumber p (drop p bytes)) v q
     it = found is (single-number bytes p (front-of (stands .begins)))
 
-    pub number-room : n < length old
-    number-room = has-room (it .further)
-
-    pub number-kept : Takes readNumber bytes (On p n) old (set old n v) (On q (n + 1))
-    number-kept = rw (it .step) (stored (it .further))
+    pub count-room : n < length old
+    count-room = has-room (it .further)
 
     pub count-kept : (ceiling : ℕ) → v ≤ ceiling → Takes (readCount ceiling) bytes (On p n) old (set old n v) (On q (n + 1))
     unfolding readCount
@@ -94,9 +91,6 @@ module _ {bytes old : List ℕ} {p n : ℕ} (stands : Stands bytes (On p n) old)
   module _ {k q : ℕ} (no : NoNumber k q ≡ numberOf (readNumber p (drop p bytes))) where
     none : Failed (readNumber p (drop p bytes)) k q
     none = failed no (single-number bytes p (front-of (stands .begins)))
-
-    pub number-refused : Takes readNumber bytes (On p n) old old (Refused k q)
-    number-refused = rw (none .step) (unchanged (none .same))
 
     pub count-refused : (ceiling : ℕ) → Takes (readCount ceiling) bytes (On p n) old old (Refused k q)
     unfolding readCount

@@ -7,22 +7,12 @@ use lib.ListN.{length, set}
 use Rattle.meaning.specs.Reading.{readMany, readModule}
 use Rattle.reader.specs.Sound.{sound-module}
 use Rattle.reader.specs.Steps.{go, Stands, Took, Takes}
-use Rattle.reader.specs.Starts.{placesFrom, Noted}
-use Rattle.reader.specs.Taken.{took-length}
-use Rattle.reader.specs.Turns.{Turning, turn-first, turn-next, turn-refused, turn-last}
-use Rattle.reader.specs.Noting.{Noting, noting-first, noting-next, noting-refused, noting-last, noting-starts, noting-offsets}
-use Rattle.reader.specs.declared.Way.{Way}
-use Rattle.reader.specs.declared.Way.the-variants.{On, Refused}
-
--- There is room for the places of so many modules.
-pub record Fit (count : ℕ) (starts offsets : List ℕ) : Type 0 where
-  pub inNumbers : count ≤ length starts
-  pub inBytes : count ≤ length offsets
-
--- So many modules are read and noted.
-pub record Passed (bytes : List ℕ) (start : Way) (count : ℕ) (numbers numbers′ starts starts′ offsets offsets′ : List ℕ) (next : Way) : Type 0 where
-  pub took : Takes (readMany readModule count) bytes start numbers numbers′ next
-  pub noted : Noted bytes (placesFrom bytes count start) starts starts′ offsets offsets′
+use Rattle.reader.specs.Noted.{Fit, placesFrom, Passed}
+use Rattle.reader.proofs.Taken.{took-length}
+use Rattle.reader.proofs.Turns.{Turning, turn-first, turn-next, turn-refused, turn-last}
+use Rattle.reader.proofs.Noting.{Noting, noting-first, noting-next, noting-refused, noting-last, noting-starts, noting-offsets}
+use Rattle.reader.specs.declared.way.Way.{Way}
+use Rattle.reader.specs.declared.way.Way.the-variants.{On, Refused}
 
 -- Of so many, i are.
 pub record Passing (bytes : List ℕ) (start : Way) (count i : ℕ) (numbers numbers′ starts starts′ offsets offsets′ : List ℕ) (way : Way) : Type 0 where

@@ -8,12 +8,13 @@ use Rattle.meaning.specs.Syntax.{Module}
 use Rattle.meaning.specs.Layout.{moduleNumbers}
 use Rattle.meaning.specs.Reading.{Step, got, refused, readModule}
 use Rattle.reader.specs.Numbers.{before, laid}
-use Rattle.reader.specs.Laid.{laid-more, laid-over, length-laid}
+use Rattle.reader.proofs.Laid.{laid-more, laid-over, length-laid}
 use Rattle.reader.specs.Sound.{Kept, on, ended, Sound, sound-module}
 use Rattle.reader.specs.Steps.{wayOf, go, Begins, here}
-use Rattle.reader.specs.Starts.{behind, begun, numbersTo, placesFrom, Noted}
-use Rattle.reader.specs.declared.Way.{Way}
-use Rattle.reader.specs.declared.Way.the-variants.{On, Refused}
+use Rattle.reader.specs.Starts.{behind, begun, numbersTo}
+use Rattle.reader.specs.Noted.{placesFrom, Noted}
+use Rattle.reader.specs.declared.way.Way.{Way}
+use Rattle.reader.specs.declared.way.Way.the-variants.{On, Refused}
 
 -- One entry more is noted.
 laid-next : (xs old now : List ℕ) (i v : ℕ) → now ≡ laid xs old → i ≡ length xs → i < length now

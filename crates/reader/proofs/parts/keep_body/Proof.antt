@@ -3,16 +3,16 @@ use native.Mathlib.Omega.{arith}
 use Rattle.meaning.specs.Reading.{readOccurrence, readCount, readMany, mostOccurrences}
 use Rattle.reader.specs.Sound.{sound-count}
 use Rattle.reader.specs.Steps.{Takes}
-use Rattle.reader.specs.Taken.{took-then, took-due, took-ended, stands-next}
-use Rattle.reader.specs.Counted.{Counted, counted, counted-due}
-use Rattle.reader.specs.declared.Way.the-variants.{On}
+use Rattle.reader.proofs.Taken.{took-then, took-due, took-ended, stands-next}
+use Rattle.reader.proofs.Counted.{Counted, counted, counted-due}
+use Rattle.reader.specs.declared.way.Way.the-variants.{On}
 use borrow.Author.Needs.{needs}
-use Rattle.reader.proofs.keep_body.Statement.{statement}
-use Rattle.reader.proofs.keep_body.Tie as tie
-use Rattle.reader.proofs.keep_body.Reads as reads
-use Rattle.reader.proofs.keep_body.Lts as lts
-use Rattle.reader.proofs.keep_count.Reads as keep-count-reads
-use Rattle.reader.proofs.keep_occurrences.Reads as keep-occurrences-reads
+use Rattle.reader.proofs.parts.keep_body.Statement.{statement}
+use Rattle.reader.proofs.parts.keep_body.Tie as tie
+use Rattle.reader.proofs.parts.keep_body.Reads as reads
+use Rattle.reader.proofs.parts.keep_body.Lts as lts
+use Rattle.reader.proofs.way.keep_count.Reads as keep-count-reads
+use Rattle.reader.proofs.parts.keep_occurrences.Reads as keep-occurrences-reads
 
 -- The count is laid out, and reading stands behind it.
 count : (c : tie.After-known-told2)

@@ -4,14 +4,13 @@ use Prim.Native.Nat.{ℕ, zero, suc, _≤_}
 use mathlib.Core.Path.{_≡_, refl, ap, sym, _∙_}
 use mathlib.Core.List.{List, [], _∷_}
 use lib.ListN.{length, drop}
-use Rattle.meaning.specs.Syntax.{Occurrence}
 use Rattle.meaning.specs.Reading.{Step, got, refused, Reader, onward, bind, give, readNumber, readCount, readMany, readNets, readOccurrence, readModule, mostOccurrences}
 use Rattle.reader.specs.Numbers.{before}
 use Rattle.reader.specs.Places.{Front, Further}
 use Rattle.reader.specs.Sound.{Kept, on, ended, Sound}
-use Rattle.reader.specs.Steps.{wayOf, go, Begins, here, over}
-use Rattle.reader.specs.declared.Way.{Way}
-use Rattle.reader.specs.declared.Way.the-variants.{On, Refused}
+use Rattle.reader.specs.Steps.{readBody, wayOf, go, Begins, here, over}
+use Rattle.reader.specs.declared.way.Way.{Way}
+use Rattle.reader.specs.declared.way.Way.the-variants.{On, Refused}
 
 pub record Alike {A B : Type 0} (r : Reader A) (s : Reader B) : Type 0 where
   pub same : (bytes : List ℕ) (p : ℕ) (rest : List ℕ) → wayOf bytes (r p rest) ≡ wayOf bytes (s p rest)
@@ -42,10 +41,6 @@ alike-many r n = alike-bind r (λ x. alike-give (readMany r n) (λ xs. x ∷ xs)
 pub alike-occurrence : Alike readOccurrence (skip readNets (skip readNumber readNets))
 unfolding readOccurrence
 alike-occurrence = alike-bind readNets (λ drives. alike-bind readNumber (λ refers. alike-give readNets _))
-
--- A module's count and list of occurrences.
-abbrev pub readBody : Reader (List Occurrence)
-readBody = bind (readCount mostOccurrences) (readMany readOccurrence)
 
 pub alike-module : Alike readModule (skip readNumber (skip readNets (skip readNets readBody)))
 unfolding readModule

@@ -1,13 +1,13 @@
 use mathlib.Core.Path.{refl, sym, _∙_}
 use native.Mathlib.Omega.{arith}
-use Rattle.reader.specs.Taken.{unmoved}
-use Rattle.reader.specs.Kept.{number-room, count-kept, count-over, count-refused}
+use Rattle.reader.proofs.Taken.{unmoved}
+use Rattle.reader.proofs.Stored.{count-room, count-kept, count-over, count-refused}
 use borrow.Author.Needs.{needs}
-use Rattle.reader.proofs.keep_count.Statement.{statement}
-use Rattle.reader.proofs.keep_count.Tie as tie
-use Rattle.reader.proofs.keep_count.Reads as reads
-use Rattle.reader.proofs.keep_count.Lts as lts
-use Rattle.reader.proofs.read_number.Reads as read-number-reads
+use Rattle.reader.proofs.way.keep_count.Statement.{statement}
+use Rattle.reader.proofs.way.keep_count.Tie as tie
+use Rattle.reader.proofs.way.keep_count.Reads as reads
+use Rattle.reader.proofs.way.keep_count.Lts as lts
+use Rattle.reader.proofs.number.read_number.Reads as read-number-reads
 
 enum-known-way : tie.Need-enum-known-way
 enum-known-way c = search needs
@@ -28,7 +28,7 @@ returns : tie.Need-returns
 returns c = rw (c .before .before .before .before .before .before .way2 .given .1) (count-over (rw (c .before .before .before .before .before .before .way2 .given .1) at (c .before .before .before .before .before .before .before .before .before .before .pre)) (sym (c .before .before .value .given .1) ∙ c .before .before .before .before .read-number .ensures) (c .before .before .before .before .before .before .before .before .before .before .args .ceiling) (c .if1 .taken))
 
 slice-write-numbers : tie.Need-slice-write-numbers
-slice-write-numbers c = number-room (rw (c .before .before .before .before .before .before .way2 .given .1) at (c .before .before .before .before .before .before .before .before .before .before .pre)) (sym (c .before .before .value .given .1) ∙ c .before .before .before .before .read-number .ensures)
+slice-write-numbers c = count-room (rw (c .before .before .before .before .before .before .way2 .given .1) at (c .before .before .before .before .before .before .before .before .before .before .pre)) (sym (c .before .before .value .given .1) ∙ c .before .before .before .before .read-number .ensures)
 
 mul-numbers : tie.Need-mul-numbers
 mul-numbers c = let h = slice-write-numbers c in omega arith

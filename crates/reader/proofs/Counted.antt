@@ -9,13 +9,13 @@ use lib.Dec.{leb}
 use lib.ListN.{length, drop, getD, length-append}
 use Rattle.meaning.specs.Reading.{Step, got, refused, Reader, onward, bind, readNumber, readCount, readMany}
 use Rattle.reader.specs.Numbers.{before}
-use Rattle.reader.specs.Laid.{laid-last}
+use Rattle.reader.proofs.Laid.{laid-last}
 use Rattle.reader.specs.Places.{Front, Further, before-length}
 use Rattle.reader.specs.Single.{Single, single-count}
 use Rattle.reader.specs.Steps.{wayOf, go, Begins, here, over, Stands, Took, Takes}
-use Rattle.reader.specs.Taken.{took-length}
-use Rattle.reader.specs.declared.Way.{Way}
-use Rattle.reader.specs.declared.Way.the-variants.{On, Refused}
+use Rattle.reader.proofs.Taken.{took-length}
+use Rattle.reader.specs.declared.way.Way.{Way}
+use Rattle.reader.specs.declared.way.Way.the-variants.{On, Refused}
 
 -- The step of a reader from where reading stands.
 abbrev pub stepFrom : {A : Type 0} → List ℕ → Reader A → Way → Step A
