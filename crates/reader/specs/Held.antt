@@ -79,11 +79,11 @@ opened bytes ms file =
         let modules : readMany readModule n p (drop p bytes) ≡ got ms o [] = rw left at e in
         let count : length ms ≡ n = many-length readModule n p (drop p bytes) ms o [] modules in
         let offsets : offsetsOf bytes ≡ begun n p (drop p bytes) = rw (step-of bytes ms file .short, is, left) in
-        record
-          { first = p
-          ; numbers = rw count (w .numbers)
-          ; places = rw offsets (placed bytes n p ms o [] (w .front) modules)
-          }
+        record {
+          first = p;
+          numbers = rw count (w .numbers);
+          places = rw offsets (placed bytes n p ms o [] (w .front) modules);
+        }
     at o (refused k q) is w e = let z : _≡_ {A = ℕ} 0 1 = cc in absurd (omega arith)
 
 -- The numbers in front of a module: the count of modules, and the numbers of the modules in front.
@@ -125,7 +125,7 @@ module _ (bytes : List ℕ) (ms : List Module) (file : read bytes ≡ holds ms) 
         let p : ℕ = getD (offsetsOf bytes) i 0 in
         let front = placed-at (opened bytes ms file .places) i h .front in
         let spelled : take p bytes ≡ each numberBytes (inFront ms i) =
-            spells-bytes (front .spells) (bytes-take p b) ∙ ap (λ (t : List ℕ). each numberBytes t) before-module
+        spells-bytes (front .spells) (bytes-take p b) ∙ ap (λ (t : List ℕ). each numberBytes t) before-module
         in
         sym (length-take-le p bytes (front .within)) ∙ ap length spelled
 
@@ -141,14 +141,14 @@ pub held : {bytes numbers numbers′ starts starts′ offsets offsets′ : List 
     → Bytes bytes → Decoded bytes numbers numbers′ starts starts′ offsets offsets′ reading → read bytes ≡ holds ms
     → Held bytes ms numbers′ starts′ offsets′
 held {bytes} {numbers} {starts} {offsets} {ms} b d file =
-    record
-      { numbersAre = rw (d .numbersLaid, holds-numbers bytes ms file, take-append-seam)
-      ; startsAre = λ i h.
-        let l = starts-length bytes ms file in
-        rw (d .startsLaid, List·getD-append (startsOf bytes) (drop (length (startsOf bytes)) starts) 0 i (omega arith)) (start-at bytes ms file i h)
-      ; offsetsAre = λ i h.
-        let l = offsets-length bytes ms file in
-        rw (d .offsetsLaid, List·getD-append (offsetsOf bytes) (drop (length (offsetsOf bytes)) offsets) 0 i (omega arith)) (offset-at bytes ms file i h b)
-      ; few = holds-few bytes ms file
-      ; small = holds-small bytes ms file b
-      }
+    record {
+      numbersAre = rw (d .numbersLaid, holds-numbers bytes ms file, take-append-seam);
+      startsAre = λ i h.
+          let l = starts-length bytes ms file in
+          rw (d .startsLaid, List·getD-append (startsOf bytes) (drop (length (startsOf bytes)) starts) 0 i (omega arith)) (start-at bytes ms file i h);
+      offsetsAre = λ i h.
+          let l = offsets-length bytes ms file in
+          rw (d .offsetsLaid, List·getD-append (offsetsOf bytes) (drop (length (offsetsOf bytes)) offsets) 0 i (omega arith)) (offset-at bytes ms file i h b);
+      few = holds-few bytes ms file;
+      small = holds-small bytes ms file b;
+    }

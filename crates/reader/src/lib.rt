@@ -11,8 +11,8 @@ ghost use Rattle.reader.specs.Answer.{Room, Decoded};
 ghost use Rattle.reader.specs.Noted.{Fit, Passed, Through};
 ghost use Rattle.reader.specs.Steps.{Stands};
 use parts::keep_module;
-use way::keep_count;
 use way::Way;
+use way::keep_count;
 
 // A file that reads, with how many modules and numbers it has; or the refusal of 1 to 5, with its place.
 pub enum Reading {

@@ -10,15 +10,19 @@ pub(crate) enum Number {
     Refused { number: u16, place: usize },
 }
 
+// No number, and why.
+fn refuse(number: u16, place: usize) -> Number
+    ensures { λ r. ⌜ r ≡ Number.Refused number place ⌝ }
+{
+    Number::Refused { number, place }
+}
+
 // One number: a byte below 128, or two bytes, of which the second is 1 to 127.
 pub(crate) fn read_number(bytes: &[u8], at: usize) -> Number
     ensures { λ r. ⌜ r ≡ numberOf (readNumber at (drop at (now (bytes .entry)))) ⌝ }
 {
     if bytes.len() <= at {
-        return Number::Refused {
-            number: 2,
-            place: at,
-        };
+        return refuse(2, at);
     }
     let first = bytes[at];
     if first < 128 {
@@ -28,17 +32,11 @@ pub(crate) fn read_number(bytes: &[u8], at: usize) -> Number
         };
     }
     if bytes.len() <= at + 1 {
-        return Number::Refused {
-            number: 2,
-            place: at + 1,
-        };
+        return refuse(2, at + 1);
     }
     let second = bytes[at + 1];
     if second == 0 || 128 <= second {
-        return Number::Refused {
-            number: 3,
-            place: at,
-        };
+        return refuse(3, at);
     }
     Number::Is {
         value: (first - 128) as u16 + 128 * (second as u16),

@@ -1,10 +1,10 @@
 // The parts of a file: lists of nets, occurrences, modules.
 ghost use Rattle.meaning.specs.Reading.{readNumber, readMany, readNets, readOccurrence, readModule};
 ghost use Rattle.reader.specs.Steps.{readBody, Stands, Takes};
+use crate::way::Way;
 use crate::way::keep_count;
 use crate::way::keep_number;
 use crate::way::refused;
-use crate::way::Way;
 
 // So many numbers.
 fn keep_numbers(way: Way, count: u16, bytes: &[u8], numbers: &mut [u16]) -> Way

@@ -3,8 +3,8 @@
 ghost use mathlib.Core.Path.{_≡_};
 ghost use Rattle.meaning.specs.Reading.{readNumber, readCount};
 ghost use Rattle.reader.specs.Steps.{isRefused, Stands, Takes};
-use crate::number::read_number;
 use crate::number::Number;
+use crate::number::read_number;
 
 // Where reading has got to and how many numbers are laid out by then, or the refusal.
 pub(crate) enum Way {
