@@ -61,7 +61,7 @@ pub fn judge_reference(
     ensures { λ r. ⌜ ((ms : List Module) (takes drives : List ℕ) → Filed (now (numbers .entry)) (now (starts .entry)) ms → Numbered (now (first .entry)) ms → k < firstRepeat ms → taken ≡ length takes → driven ≡ length drives → r ≡ referenceOf ms k number takes drives) ⌝ }
 {
     match gates::kind_of(number) {
-        Kind::Gate { rule: _, arity } => {
+        Kind::Gate(_, arity) => {
             if taken != arity {
                 return Reference::Broken(14);
             }
