@@ -1,0 +1,73 @@
+-- A search for the module of a number: what is left of the list says the same of the number as the whole.
+use Prim.Native.Nat.{ℕ, zero, suc, _+_, _≤_, _<_}
+use mathlib.Core.Path.{_≡_, refl, sym, ap, _∙_}
+use mathlib.Core.Bool.{true, false}
+use mathlib.Core.List.{List, [], _∷_}
+use native.Mathlib.Omega.{arith}
+use native.Mathlib.Nat.{suc-add}
+use lib.ListN.{length, getD, drop, drop-of-length-le}
+use borrow.Author.Tests.{eq-eqb, ne-eqb}
+use Rattle.meaning.specs.Syntax.{Module}
+use Rattle.meaning.specs.Boxlist.{F, box, assoc}
+use Rattle.image.specs.Pieces.{ModuleAt, module-at}
+use Rattle.image.specs.Resolved.{positionOf}
+use Rattle.desk.specs.Finding.{Standing, FoundAt}
+
+-- None of the first k modules has the number.
+pub record Sought (ms : List Module) (number k : ℕ) : Type 0 where
+  pub same : assoc number ms ≡ assoc number (drop k ms)
+  pub further : positionOf number ms ≡ k + positionOf number (drop k ms)
+
+pub sought-none : (ms : List Module) (number : ℕ) → Sought ms number 0
+sought-none ms number = record { same = refl; further = omega arith }
+
+-- The module at a position, and those after it.
+pub record Here (ms : List Module) (k : ℕ) : Type 0 where
+  pub m : Module
+  pub later : List Module
+  pub here : drop k ms ≡ m ∷ later
+  pub after : drop (k + 1) ms ≡ later
+
+pub here-at : (ms : List Module) (k : ℕ) → k < length ms → Here ms k
+here-at [] k h = absurd (omega (arith, h))
+here-at (m ∷ ms) zero h = record { m = m; later = ms; here = refl; after = refl }
+here-at (m ∷ ms) (suc k) h =
+    let p = here-at ms k (omega arith) in
+    record { m = p .m; later = p .later; here = p .here; after = ap (λ (n : ℕ). drop n (m ∷ ms)) (suc-add k 1) ∙ p .after }
+
+module _ {ms : List Module} {number k : ℕ} (s : Sought ms number k) where
+  pub sought-here : (h : Here ms k) → h .m .number ≡ number → FoundAt ms number k
+  unfolding assoc positionOf
+  sought-here h e =
+      let t = eq-eqb number (h .m .number) (sym e) in
+      record {
+        m = h .m;
+        later = h .later;
+        here = h .here;
+        found = s .same ∙ rw (h .here, t);
+        placed = s .further ∙ rw (h .here, t) (omega arith);
+      }
+
+  pub sought-more : (h : Here ms k) → (h .m .number ≡ number → ⊥) → Sought ms number (k + 1)
+  unfolding assoc positionOf
+  sought-more h differ =
+      let t = ne-eqb number (h .m .number) (λ e. differ (sym e)) in
+      record {
+        same = s .same ∙ rw (h .here, h .after, t);
+        further = s .further ∙ rw (h .here, h .after, t) (omega arith);
+      }
+
+  pub sought-all : length ms ≤ k → assoc number ms ≡ F
+  unfolding assoc
+  sought-all h = s .same ∙ ap (assoc number) (drop-of-length-le ms h)
+
+-- Where the number of a module stands.
+pub record Numbered (numbers starts : List ℕ) (k : ℕ) (m : Module) : Type 0 where
+  pub start : k < length starts
+  pub inside : getD starts k 0 < length numbers
+  pub number : getD numbers (getD starts k 0) 0 ≡ m .number
+
+pub numbered : {numbers starts : List ℕ} {ms : List Module} {k : ℕ} → Standing numbers starts ms → k < length ms → (h : Here ms k) → Numbered numbers starts k (h .m)
+numbered {k = k} standing lt h =
+    let p = module-at (h .m) (standing .stands k (h .m) (h .later) (h .here)) in
+    record { start = omega (arith, standing .listed); inside = p .inside; number = p .number }

@@ -1,0 +1,2 @@
+-- A file made ready for calls: what stands in the lists, and which module a number means.
+pub mod Finding

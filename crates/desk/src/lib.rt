@@ -1,0 +1,2 @@
+// A file made ready for calls.
+pub mod finding;
