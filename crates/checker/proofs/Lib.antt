@@ -7,4 +7,8 @@ pub mod Parts
 pub mod Judgement
 pub mod Laying
 pub mod Resolving
+pub mod Listing
 pub mod Setting
+pub mod Rules
+pub mod HeadNumbers
+pub mod Turns
