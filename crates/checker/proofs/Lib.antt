@@ -16,3 +16,7 @@ pub mod Walking
 pub mod Rules
 pub mod HeadNumbers
 pub mod Turns
+pub mod Settling
+pub mod Going
+pub mod FileWalk
+pub mod FileStart

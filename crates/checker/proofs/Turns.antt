@@ -91,7 +91,14 @@ module _ {numbers starts first : List ℕ} {k repeated : ℕ} (t : Turn numbers 
       fine : FineHead (isBox (assoc (t .m .number) (t .later))) (t .m .inputs) (t .m .outputs)
       fine = fine-head (t .m .number) (isBox (assoc (t .m .number) (t .later))) (t .m .inputs) (t .m .outputs) (sym rule-here ∙ z)
 
-      pub scene : Scene numbers starts first k
+      -- No number up to here stands on a later module.
+      pub unrepeated : k < firstRepeat (t .ms)
+      unrepeated =
+          let r = repeat-here (t .ms) k (t .m) (t .later) (t .here) (omega (arith, t .repeats, t .reached)) in
+          let n = eqb-false k (firstRepeat (t .ms)) (sym r ∙ fine .unrepeated) in
+          omega (arith, t .repeats, t .reached, n)
+
+      abbrev pub scene : Scene numbers starts first k
       scene =
           record {
             ms = t .ms;
@@ -100,17 +107,11 @@ module _ {numbers starts first : List ℕ} {k repeated : ℕ} (t : Turn numbers 
             here = t .here;
             filed = t .filed;
             numbered = t .numbered;
-            unrepeated =
-                let r = repeat-here (t .ms) k (t .m) (t .later) (t .here) (omega (arith, t .repeats, t .reached)) in
-                let n = eqb-false k (firstRepeat (t .ms)) (sym r ∙ fine .unrepeated) in
-                strictly (firstRepeat (t .ms)) (omega (arith, t .repeats, t .reached)) n;
+            unrepeated = unrepeated;
           }
-        where
-          strictly : (f : ℕ) → k ≤ f → (k ≡ f → ⊥) → k < f
-          strictly f h n = omega (arith, h, n)
 
       -- Else the occurrences and the end decide.
-      verdict-behind :
+      pub verdict-behind :
           moduleVerdict k (t .m) (t .later)
           ≡ andThen (bodyVerdict k (t .m .occurrences) (t .m .inputs) (t .later))
           (ruled (endRule (t .m .outputs) (driven (t .m .occurrences)) (netCount (t .m))) k good)
@@ -124,7 +125,7 @@ module _ {numbers starts first : List ℕ} {k repeated : ℕ} (t : Turn numbers 
           (sym rule-here ∙ z)
 
       -- Rule 15 asks for driven nets; no output is an input, so known nets serve.
-      end-here :
+      pub end-here :
           (nets : ℕ) → nets ≡ length (netsOf (t .m))
           → endRule (t .m .outputs) (driven (t .m .occurrences)) (netCount (t .m)) ≡ endRule (t .m .outputs) (netsOf (t .m)) nets
       unfolding endRule netsOf

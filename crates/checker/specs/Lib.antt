@@ -8,3 +8,4 @@ pub mod Bodies
 pub mod Lists
 pub mod Heads
 pub mod Modules
+pub mod Files
