@@ -7,15 +7,15 @@ use lib.ListN.{length, set, length-append}
 use Rattle.image.specs.Laid.{laid, laid-after, length-laid, set-laid}
 
 -- The image im′ is im with the numbers xs laid over it at a place.
-record Lies (im : List ℕ) (at : ℕ) (xs im′ : List ℕ) : Type 0 where
-  is : im′ ≡ laid im at xs
+pub record Lies (im : List ℕ) (at : ℕ) (xs im′ : List ℕ) : Type 0 where
+  pub is : im′ ≡ laid im at xs
 
 module _ {im : List ℕ} {at : ℕ} {xs im′ : List ℕ} (l : Lies im at xs im′) where
-  lay-list : (p : ℕ) (ys : List ℕ) → p ≡ at + length xs → p + length ys ≤ length im → Lies im at (xs ++ ys) (laid im′ p ys)
+  pub lay-list : (p : ℕ) (ys : List ℕ) → p ≡ at + length xs → p + length ys ≤ length im → Lies im at (xs ++ ys) (laid im′ p ys)
   lay-list p ys e fits =
       record { is = ap₂ (λ (i : List ℕ) (q : ℕ). laid i q ys) (l .is) e ∙ laid-after im at xs ys (omega arith) }
 
-  lay-one : (p y : ℕ) → p ≡ at + length xs → p < length im → Lies im at (xs ++ (y ∷ [])) (set im′ p y)
+  pub lay-one : (p y : ℕ) → p ≡ at + length xs → p < length im → Lies im at (xs ++ (y ∷ [])) (set im′ p y)
   lay-one p y e fits =
       let inside : p < length im′ = omega (arith, ap length (l .is), length-laid im at xs (omega arith)) in
       record { is = set-laid im′ p y inside ∙ lay-list p (y ∷ []) e (omega arith) .is }

@@ -6,9 +6,17 @@ pub mod Parts
 pub mod Judgement
 pub mod Laying
 pub mod Resolving
+pub mod Listing
 pub mod Setting
 pub mod Fine
 pub mod Growing
 pub mod Progress
 pub mod Stepping
 pub mod Walking
+pub mod Rules
+pub mod HeadNumbers
+pub mod Turns
+pub mod Settling
+pub mod Going
+pub mod FileWalk
+pub mod FileStart

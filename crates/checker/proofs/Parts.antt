@@ -1,7 +1,7 @@
 -- Parts of a list as the code lends them, from a start up to an end, and the parts of an occurrence by the places that the code computes
 -- from its two counts.
 use Prim.Native.Nat.{ℕ, zero, suc, _+_, _-_, _≤_, _<_}
-use mathlib.Core.Path.{_≡_, refl, ap, _∙_}
+use mathlib.Core.Path.{_≡_, refl, sym, ap, subst, _∙_}
 use mathlib.Core.List.{List, [], _∷_}
 use native.Mathlib.Omega.{arith}
 use lib.ListN.{getD, length, take, drop}
@@ -28,6 +28,10 @@ below-take {bound} n l b = record { below = λ i. go n l i (λ j. b .below j) }
 pub below-part : {bound : ℕ} {l : List ℕ} (from end : ℕ) → Below bound l → Below bound (part from end l)
 below-part {bound} {l} from end b =
     below-take (end - from) (drop from l) (record { below = λ i. rw (getD-drop from l i 0) (b .below (from + i)) })
+
+-- Indices of a table are indices of one as long.
+pub below-sized : {n n′ : ℕ} {l : List ℕ} → n′ ≡ n → Below n l → Below n′ l
+below-sized {l = l} e b = subst (λ (m : ℕ). Below m l) (sym e) b
 
 -- What stands at a place is the part of its length there.
 pub part-stands : {l : List ℕ} {from : ℕ} {xs : List ℕ} (end : ℕ) → end ≡ from + length xs → Stands l from xs → part from end l ≡ xs

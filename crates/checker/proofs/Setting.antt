@@ -16,6 +16,7 @@ use Rattle.checker.specs.Occurrences.{Written}
 use Rattle.checker.proofs.Parts.{drivenPart, takenPart, Parts, parts}
 use Rattle.checker.proofs.Laying.{lay-occurrence}
 use Rattle.checker.proofs.Resolving.{Learnt, Resolves, subset-append-right}
+use Rattle.checker.proofs.Listing.{resolved}
 
 -- The numbers of a resolved occurrence, with its counts as they were read.
 numbers-resolved :
@@ -23,15 +24,6 @@ numbers-resolved :
     → n ∷ (map slot (o .drives) ++ (refers ∷ m ∷ map slot (o .takes))) ≡ occurrenceNumbers (resolveOccurrence slot (λ x. refers) o)
 unfolding occurrenceNumbers
 numbers-resolved slot refers o n m en em = rw (en, em, length-map (o .drives) slot, length-map (o .takes) slot)
-
--- A list resolved is its slots laid over the image.
-resolved :
-    {slots : List ℕ} {base : ℕ} {image′ list ds : List ℕ} (image : List ℕ) (at : ℕ) (nets : List ℕ) → list ≡ ds
-    → Resolves list slots base image at image′ → Knows slots base nets → subset ds nets ≡ true
-    → image′ ≡ laid image at (map (λ (x : ℕ). slotOf x nets) ds)
-unfolding laid
-resolved {slots} {base} {image′} {list} {ds} image at nets e r k s =
-    rw (length-map ds (λ (x : ℕ). slotOf x nets)) (subst (λ (l : List ℕ). Resolves l slots base image at image′) e r nets k s)
 
 -- The stores before the nets that it drives, and those between them and the nets that it takes.
 abbrev first : (numbers image : List ℕ) (at : ℕ) → List ℕ

@@ -5,3 +5,7 @@ pub mod References
 pub mod Scene
 pub mod Occurrences
 pub mod Bodies
+pub mod Lists
+pub mod Heads
+pub mod Modules
+pub mod Files
