@@ -1,2 +1,3 @@
 -- Facts that the proofs cite.
 pub mod Seeking
+pub mod Checking

@@ -1,2 +1,4 @@
 -- A file made ready for calls: what stands in the lists, and which module a number means.
 pub mod Finding
+pub mod Prepared
+pub mod Stages

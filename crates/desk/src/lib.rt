@@ -1,2 +1,3 @@
 // A file made ready for calls.
 pub mod finding;
+pub mod preparing;

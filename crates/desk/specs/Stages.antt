@@ -1,0 +1,35 @@
+-- The stage behind reading: the numbers checked, and the image measured.
+use Prim.Native.Nat.{ℕ, _+_, _≤_}
+use mathlib.Core.Path.{_≡_}
+use mathlib.Core.List.{List, _∷_}
+use lib.ListN.{length, getD, drop}
+use Rattle.meaning.specs.Syntax.{Module}
+use Rattle.meaning.specs.Layout.{fileNumbers}
+use Rattle.meaning.specs.Limits.{netCount, bodySize, expandedSize}
+use Rattle.meaning.specs.Figures.{largestReferred, room}
+use Rattle.meaning.specs.Verdict.{good, refused, fileVerdict}
+use Rattle.image.specs.Resolved.{resolve}
+use Rattle.checker.specs.Files.{FileReady, Laidout}
+use Rattle.desk.specs.declared.preparing.Prepared.{Prepared}
+use Rattle.desk.specs.declared.preparing.Prepared.the-variants.{Ready, Refused}
+
+pub record CheckedStage (numbers starts : List ℕ) (modules : ℕ) (first slots marks image nets sizes rooms : List ℕ) : Type 0 where
+  pub ready : FileReady numbers starts modules first slots marks image nets
+  pub exact : length image ≡ length numbers
+  pub sizesLong : modules ≤ length sizes
+  pub roomsLong : modules ≤ length rooms
+
+-- An accepted file: its image, and the figures of each module.
+pub record Figured (ms : List Module) (image nets sizes rooms : List ℕ) : Type 0 where
+  pub accepted : fileVerdict ms ≡ good
+  pub imageIs : image ≡ fileNumbers (resolve ms)
+  pub netsAre : (k : ℕ) (m : Module) (later : List Module) → drop k ms ≡ m ∷ later → getD nets k 0 ≡ netCount m
+  pub sizesAre : (k : ℕ) (m : Module) (later : List Module) → drop k ms ≡ m ∷ later → getD sizes k 0 ≡ bodySize (expandedSize later) (m .occurrences)
+  pub roomsAre : (k : ℕ) (m : Module) (later : List Module) → drop k ms ≡ m ∷ later → getD rooms k 0 ≡ netCount m + largestReferred (room later) (m .occurrences)
+
+abbrev pub Stage : Prepared → (ms : List Module) → (numbers : List ℕ) → (modules : ℕ) → (image nets sizes rooms : List ℕ) → Type 0
+Stage (Ready n count) ms numbers modules image nets sizes rooms = (n ≡ modules) × (count ≡ length numbers) × Figured ms image nets sizes rooms
+Stage (Refused number place) ms numbers modules image nets sizes rooms = fileVerdict ms ≡ refused number place
+
+pub record Checks (r : Prepared) (numbers starts : List ℕ) (modules : ℕ) (image nets sizes rooms : List ℕ) : Type 0 where
+  pub checks : (ms : List Module) → Laidout numbers starts modules ms → Stage r ms numbers modules image nets sizes rooms
