@@ -1,8 +1,7 @@
 -- The answer to a whole file, from the way that reading its modules has gone.
-use Prim.Native.Nat.{ℕ, zero, suc, _≤_, _<_}
-use mathlib.Core.Path.{_≡_, refl, ap, sym, _∙_}
-use mathlib.Core.Bool.{true, false}
-use mathlib.Core.List.{List, [], _∷_, _++_, map}
+use Prim.Native.Nat.{ℕ, _≤_, _<_}
+use mathlib.Core.Path.{_≡_, refl, ap, _∙_}
+use mathlib.Core.List.{List}
 use native.Mathlib.Omega.{arith}
 use borrow.Author.Tests.{le-leb, lt-leb}
 use lib.ListN.{length, drop, getD, drop-of-length-le}
@@ -11,9 +10,9 @@ use Rattle.meaning.specs.Syntax.{Module}
 use Rattle.meaning.specs.Layout.{fileNumbers}
 use Rattle.meaning.specs.Reading.{Step, got, refused, holds, fails, atEnd, read, readModules, mostBytes}
 use Rattle.reader.specs.Numbers.{atMost, numbersIn, before, laid}
-use Rattle.reader.specs.Places.{Further, at-start, before-length}
-use Rattle.reader.specs.Sound.{Kept, on, ended, sound-modules}
-use Rattle.reader.specs.Steps.{wayOf, placeOf, Took}
+use Rattle.reader.specs.Places.{at-start, before-length}
+use Rattle.reader.specs.Sound.{Kept, on, sound-modules}
+use Rattle.reader.specs.Steps.{wayOf, placeOf}
 use Rattle.reader.specs.Noted.{Through}
 use Rattle.reader.proofs.Taken.{took-length}
 use Rattle.reader.specs.Answer.{readingOf, endOf, numbersOf, offsetsOf, startsOf, Decoded}

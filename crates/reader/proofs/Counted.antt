@@ -1,6 +1,6 @@
 -- A count that has been laid out is read back, and as many things are due as it says.
-use Prim.Native.Nat.{ℕ, _+_, _-_, _≤_, _<_}
-use mathlib.Core.Path.{_≡_, refl, ap, sym, _∙_}
+use Prim.Native.Nat.{ℕ, _-_, _≤_, _<_}
+use mathlib.Core.Path.{_≡_, refl, ap, _∙_}
 use mathlib.Core.Bool.{Bool, true, false, cond}
 use mathlib.Core.List.{List, [], _∷_, _++_}
 use native.Mathlib.Omega.{arith}
@@ -10,9 +10,9 @@ use lib.ListN.{length, drop, getD, length-append}
 use Rattle.meaning.specs.Reading.{Step, got, refused, Reader, onward, bind, readNumber, readCount, readMany}
 use Rattle.reader.specs.Numbers.{before}
 use Rattle.reader.proofs.Laid.{laid-last}
-use Rattle.reader.specs.Places.{Front, Further, before-length}
+use Rattle.reader.specs.Places.{before-length}
 use Rattle.reader.specs.Single.{Single, single-count}
-use Rattle.reader.specs.Steps.{wayOf, go, Begins, here, over, Stands, Took, Takes}
+use Rattle.reader.specs.Steps.{wayOf, go, Begins, here, over, Stands, Takes}
 use Rattle.reader.proofs.Taken.{took-length}
 use Rattle.reader.specs.declared.way.Way.{Way}
 use Rattle.reader.specs.declared.way.Way.the-variants.{On, Refused}

@@ -1,14 +1,13 @@
 -- The loop over the modules of a file: it reads each and notes where it begins.
 use Prim.Native.Nat.{ℕ, _+_, _-_, _≤_, _<_}
-use mathlib.Core.Path.{_≡_, refl, ap, sym}
+use mathlib.Core.Path.{_≡_, refl}
 use mathlib.Core.List.{List}
 use native.Mathlib.Omega.{arith}
 use lib.ListN.{length, set}
-use Rattle.meaning.specs.Reading.{readMany, readModule}
+use Rattle.meaning.specs.Reading.{readModule}
 use Rattle.reader.specs.Sound.{sound-module}
-use Rattle.reader.specs.Steps.{go, Stands, Took, Takes}
+use Rattle.reader.specs.Steps.{Stands, Takes}
 use Rattle.reader.specs.Noted.{Fit, placesFrom, Passed}
-use Rattle.reader.proofs.Taken.{took-length}
 use Rattle.reader.proofs.Turns.{Turning, turn-first, turn-next, turn-refused, turn-last}
 use Rattle.reader.proofs.Noting.{Noting, noting-first, noting-next, noting-refused, noting-last, noting-starts, noting-offsets}
 use Rattle.reader.specs.declared.way.Way.{Way}

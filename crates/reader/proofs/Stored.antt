@@ -10,10 +10,8 @@ use Rattle.reader.specs.Numbers.{before}
 use Rattle.reader.proofs.Laid.{laid-more}
 use Rattle.reader.specs.Places.{Front, Further, before-length}
 use Rattle.reader.specs.Single.{Single, single-number}
-use Rattle.reader.specs.Steps.{numberOf, wayOf, Begins, here, Stands, Took, Takes}
-use Rattle.reader.specs.declared.number.Number.{Number}
+use Rattle.reader.specs.Steps.{numberOf, Begins, here, Stands, Took, Takes}
 use Rattle.reader.specs.declared.number.Number.the-variants.{Is, Refused as NoNumber}
-use Rattle.reader.specs.declared.way.Way.{Way}
 use Rattle.reader.specs.declared.way.Way.the-variants.{On, Refused}
 
 pub front-of : {bytes : List ℕ} {p n : ℕ} → Begins bytes (On p n) → Front bytes p

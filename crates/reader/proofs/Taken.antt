@@ -1,6 +1,6 @@
 -- Steps of the code one after the other: where they leave reading, and what is laid out by then.
 use Prim.Native.Nat.{ℕ, _≤_}
-use mathlib.Core.Path.{_≡_, refl, ap, sym, subst, _∙_}
+use mathlib.Core.Path.{_≡_, ap, sym, _∙_}
 use mathlib.Core.List.{List}
 use native.Mathlib.Omega.{arith}
 use lib.ListN.{length, drop}
@@ -9,7 +9,7 @@ use Rattle.reader.specs.Numbers.{before, laid}
 use Rattle.reader.proofs.Laid.{laid-over, length-laid}
 use Rattle.reader.specs.Places.{before-length}
 use Rattle.reader.specs.Sound.{Sound}
-use Rattle.reader.specs.Steps.{wayOf, go, placeOf, Begins, Stands, Took, Takes}
+use Rattle.reader.specs.Steps.{wayOf, go, placeOf, Stands, Took, Takes}
 use Rattle.reader.proofs.Alike.{Alike, skip, go-alike, begins-go, go-skip}
 use Rattle.reader.specs.declared.way.Way.{Way}
 use Rattle.reader.specs.declared.way.Way.the-variants.{On, Refused}

@@ -1,13 +1,13 @@
 -- The whole of a file that is not too long: its modules read, and where each begins noted.
 use Prim.Native.Nat.{ℕ, _-_, _≤_}
-use mathlib.Core.Path.{_≡_, refl, ap, sym, _∙_}
-use mathlib.Core.List.{List, []}
+use mathlib.Core.Path.{_≡_, refl, sym}
+use mathlib.Core.List.{List}
 use native.Mathlib.Omega.{arith}
 use lib.ListN.{length, getD}
 use Rattle.meaning.specs.Reading.{Step, got, refused, readCount, readMany, readModule, readModules, mostModules}
 use Rattle.reader.specs.Numbers.{atMost, numbersIn, before}
 use Rattle.reader.specs.Places.{at-start}
-use Rattle.reader.specs.Steps.{wayOf, go, here, Stands, Took, Takes}
+use Rattle.reader.specs.Steps.{wayOf, here, Stands, Takes}
 use Rattle.reader.specs.Starts.{behind, begun}
 use Rattle.reader.specs.Noted.{Noted, Passed, Through}
 use Rattle.reader.proofs.Taken.{took-then, took-due, took-ended}

@@ -1,22 +1,20 @@
 -- What whoever reads a file knows where the file reads: the numbers are the file's, and where each module begins.
-use Prim.Native.Nat.{ℕ, zero, suc, _+_, _≤_, _<_}
+use Prim.Native.Nat.{ℕ, _≤_, _<_}
 use mathlib.Core.Path.{_≡_, refl, ap, sym, _∙_}
 use mathlib.Core.Bool.{Bool, true, false, cond}
-use mathlib.Core.List.{List, [], _∷_, _++_, map}
+use mathlib.Core.List.{List, [], _∷_, _++_}
 use native.Mathlib.Omega.{arith}
-use borrow.Author.Tests.{leb-true}
 use lib.Dec.{leb}
-use lib.ListN.{length, take, drop, getD, length-take, length-drop, length-map, List·getD-append, List·getD-map}
-use lib.Seq.{take-append-seam, length-take-le, take-all}
+use lib.ListN.{length, take, drop, getD, length-drop, length-map, List·getD-append, List·getD-map}
+use lib.Seq.{take-append-seam, length-take-le}
 use Rattle.meaning.specs.Lists.{All}
 use Rattle.meaning.specs.Syntax.{Module}
 use Rattle.meaning.specs.Layout.{each, numberBytes, moduleNumbers, fileNumbers}
 use Rattle.meaning.specs.Reading.{Step, got, refused, holds, fails, onward, atEnd, read, readCount, readMany, readModule, readModules, mostModules, mostBytes}
 use Rattle.meaning.specs.Ceilings.{Bytes, Small}
-use Rattle.reader.specs.Numbers.{atMost, numbersIn, before, laid}
-use Rattle.reader.specs.Spelled.{spells-length}
+use Rattle.reader.specs.Numbers.{atMost, numbersIn, before}
 use Rattle.reader.specs.Exact.{bytes-take, spells-bytes, spells-small}
-use Rattle.reader.specs.Places.{Front, Further, at-start, before-length}
+use Rattle.reader.specs.Places.{Front, at-start, before-length}
 use Rattle.reader.specs.Sound.{Kept, on, ended, one, sound-count, sound-modules, many-length}
 use Rattle.reader.specs.Starts.{behind, begun, numbersTo}
 use Rattle.reader.specs.Placed.{Placed, placed, placed-length, placed-at}

@@ -1,10 +1,9 @@
 -- Each reader of a file goes from a place to a place: what it hands back is the numbers that it passed.
-use Prim.Native.Nat.{ℕ, zero, suc, _+_, _≤_}
+use Prim.Native.Nat.{ℕ, zero, suc}
 use mathlib.Core.Path.{_≡_, refl, ap, sym, subst, _∙_}
 use mathlib.Core.List.{List, [], _∷_, _++_, append-assoc, append-nil}
 use native.Mathlib.Omega.{arith}
-use lib.ListN.{length, drop, length-append}
-use Rattle.meaning.specs.Syntax.{Occurrence, Module}
+use lib.ListN.{length, drop}
 use Rattle.meaning.specs.Layout.{each, listNumbers, occurrenceNumbers, moduleNumbers, fileNumbers}
 use Rattle.meaning.specs.Reading.{Step, got, refused, Reader, onward, bind, give, readNumber, readCount, readMany, readNets, readOccurrence, readModule, readModules, mostNets, mostOccurrences, mostModules}
 use Rattle.reader.specs.Numbers.{before}

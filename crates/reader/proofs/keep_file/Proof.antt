@@ -9,10 +9,6 @@ use Rattle.reader.specs.declared.way.Way.the-variants.{On}
 use borrow.Author.Needs.{needs}
 use Rattle.reader.proofs.keep_file.Statement.{statement}
 use Rattle.reader.proofs.keep_file.Tie as tie
-use Rattle.reader.proofs.keep_file.Reads as reads
-use Rattle.reader.proofs.keep_file.Lts as lts
-use Rattle.reader.proofs.way.keep_count.Reads as keep-count-reads
-use Rattle.reader.proofs.keep_modules.Reads as keep-modules-reads
 
 -- The count is laid out, and reading stands behind it.
 count : (c : tie.After-known-told2)

@@ -5,9 +5,6 @@ use Rattle.reader.proofs.Taken.{took-length}
 use Rattle.reader.proofs.Modules.{Passing, passing-first, passing-next, passing-refused, passing-last, passing-starts, passing-offsets}
 use Rattle.reader.proofs.keep_modules.Statement.{statement}
 use Rattle.reader.proofs.keep_modules.Tie as tie
-use Rattle.reader.proofs.keep_modules.Reads as reads
-use Rattle.reader.proofs.keep_modules.Lts as lts
-use Rattle.reader.proofs.parts.keep_module.Reads as keep-module-reads
 
 abbrev Inv-loop : tie.InvT-loop
 Inv-loop count bytes numbers₀ starts₀ offsets₀ way₀ i₀ numbers starts offsets way i = Passing bytes way₀ count i numbers₀ numbers starts₀ starts offsets₀ offsets way

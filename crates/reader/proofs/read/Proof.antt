@@ -3,9 +3,6 @@ use Rattle.reader.proofs.Answered.{decoded-long, decoded-refused, decod
 use borrow.Author.Needs.{needs}
 use Rattle.reader.proofs.read.Statement.{statement}
 use Rattle.reader.proofs.read.Tie as tie
-use Rattle.reader.proofs.read.Reads as reads
-use Rattle.reader.proofs.read.Lts as lts
-use Rattle.reader.proofs.keep_file.Reads as keep-file-reads
 
 returns : tie.Need-returns
 returns c = decoded-long (c .if1 .taken)

@@ -7,9 +7,6 @@ use Rattle.reader.proofs.Bytes.{no-byte, one-byte, cut-off, second-zero
 use borrow.Author.Needs.{needs}
 use Rattle.reader.proofs.number.read_number.Statement.{statement}
 use Rattle.reader.proofs.number.read_number.Tie as tie
-use Rattle.reader.proofs.number.read_number.Reads as reads
-use Rattle.reader.proofs.number.read_number.Lts as lts
-use Rattle.reader.proofs.number.refuse.Reads as refuse-reads
 
 refuse-requires : tie.Need-refuse-requires
 refuse-requires c κs = search needs

@@ -1,4 +1,4 @@
-use Rattle.meaning.specs.Reading.{readNumber, readNets}
+use Rattle.meaning.specs.Reading.{readNets}
 use Rattle.reader.specs.Sound.{sound-number, sound-nets}
 use Rattle.reader.proofs.Alike.{skip, alike-module}
 use Rattle.reader.specs.Steps.{readBody}
@@ -6,11 +6,6 @@ use Rattle.reader.proofs.Taken.{stands-next, took-skip, took-alike}
 use borrow.Author.Needs.{needs}
 use Rattle.reader.proofs.parts.keep_module.Statement.{statement}
 use Rattle.reader.proofs.parts.keep_module.Tie as tie
-use Rattle.reader.proofs.parts.keep_module.Reads as reads
-use Rattle.reader.proofs.parts.keep_module.Lts as lts
-use Rattle.reader.proofs.parts.keep_body.Reads as keep-body-reads
-use Rattle.reader.proofs.parts.keep_nets.Reads as keep-nets-reads
-use Rattle.reader.proofs.way.keep_number.Reads as keep-number-reads
 
 keep-number-requires : tie.Need-keep-number-requires
 keep-number-requires c κs = search needs

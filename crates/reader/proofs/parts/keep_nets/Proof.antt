@@ -9,10 +9,6 @@ use Rattle.reader.specs.declared.way.Way.the-variants.{On}
 use borrow.Author.Needs.{needs}
 use Rattle.reader.proofs.parts.keep_nets.Statement.{statement}
 use Rattle.reader.proofs.parts.keep_nets.Tie as tie
-use Rattle.reader.proofs.parts.keep_nets.Reads as reads
-use Rattle.reader.proofs.parts.keep_nets.Lts as lts
-use Rattle.reader.proofs.way.keep_count.Reads as keep-count-reads
-use Rattle.reader.proofs.parts.keep_numbers.Reads as keep-numbers-reads
 
 -- The count is laid out, and reading stands behind it.
 count : (c : tie.After-known-told2)

@@ -5,10 +5,6 @@ use Rattle.reader.proofs.Taken.{stands-next, took-skip, took-alike}
 use borrow.Author.Needs.{needs}
 use Rattle.reader.proofs.parts.keep_occurrence.Statement.{statement}
 use Rattle.reader.proofs.parts.keep_occurrence.Tie as tie
-use Rattle.reader.proofs.parts.keep_occurrence.Reads as reads
-use Rattle.reader.proofs.parts.keep_occurrence.Lts as lts
-use Rattle.reader.proofs.parts.keep_nets.Reads as keep-nets-reads
-use Rattle.reader.proofs.way.keep_number.Reads as keep-number-reads
 
 keep-nets-requires : tie.Need-keep-nets-requires
 keep-nets-requires c κs = search needs

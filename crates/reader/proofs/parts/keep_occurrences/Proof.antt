@@ -7,10 +7,6 @@ use Rattle.reader.proofs.Taken.{took-length}
 use Rattle.reader.proofs.Turns.{Turning, turn-first, turn-refused, turn-next, turn-last}
 use Rattle.reader.proofs.parts.keep_occurrences.Statement.{statement}
 use Rattle.reader.proofs.parts.keep_occurrences.Tie as tie
-use Rattle.reader.proofs.parts.keep_occurrences.Reads as reads
-use Rattle.reader.proofs.parts.keep_occurrences.Lts as lts
-use Rattle.reader.proofs.parts.keep_occurrence.Reads as keep-occurrence-reads
-use Rattle.reader.proofs.way.refused.Reads as refused-reads
 
 abbrev Inv-loop : tie.InvT-loop
 Inv-loop count bytes numbers₀ way₀ left₀ numbers way left = Turning readOccurrence bytes way₀ count numbers₀ left way numbers

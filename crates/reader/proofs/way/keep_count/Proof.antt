@@ -5,9 +5,6 @@ use Rattle.reader.proofs.Stored.{count-room, count-kept, count-over, co
 use borrow.Author.Needs.{needs}
 use Rattle.reader.proofs.way.keep_count.Statement.{statement}
 use Rattle.reader.proofs.way.keep_count.Tie as tie
-use Rattle.reader.proofs.way.keep_count.Reads as reads
-use Rattle.reader.proofs.way.keep_count.Lts as lts
-use Rattle.reader.proofs.number.read_number.Reads as read-number-reads
 
 enum-known-way : tie.Need-enum-known-way
 enum-known-way c = search needs

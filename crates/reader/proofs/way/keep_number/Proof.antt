@@ -4,9 +4,6 @@ use Rattle.reader.proofs.Taken.{took-due}
 use borrow.Author.Needs.{needs}
 use Rattle.reader.proofs.way.keep_number.Statement.{statement}
 use Rattle.reader.proofs.way.keep_number.Tie as tie
-use Rattle.reader.proofs.way.keep_number.Reads as reads
-use Rattle.reader.proofs.way.keep_number.Lts as lts
-use Rattle.reader.proofs.way.keep_count.Reads as keep-count-reads
 
 keep-count-requires : tie.Need-keep-count-requires
 keep-count-requires c κs = search needs
