@@ -1,6 +1,6 @@
 -- The answer to a whole file, from the way that reading its modules has gone.
 use Prim.Native.Nat.{ℕ, _≤_, _<_}
-use mathlib.Core.Path.{_≡_, refl, ap, _∙_}
+use mathlib.Core.Path.{_≡_, refl, ap, sym, _∙_}
 use mathlib.Core.List.{List}
 use native.Mathlib.Omega.{arith}
 use borrow.Author.Tests.{le-leb, lt-leb}
@@ -14,6 +14,7 @@ use Rattle.reader.specs.Places.{at-start, before-length}
 use Rattle.reader.specs.Sound.{Kept, on, sound-modules}
 use Rattle.reader.specs.Steps.{wayOf, placeOf}
 use Rattle.reader.specs.Noted.{Through}
+use Rattle.reader.proofs.Ways.{on-not-refused}
 use Rattle.reader.proofs.Taken.{took-length}
 use Rattle.reader.specs.Answer.{readingOf, endOf, numbersOf, offsetsOf, startsOf, Decoded}
 use Rattle.reader.specs.declared.way.Way.{Way}
@@ -41,7 +42,7 @@ whole bytes q m e = at (readModules 0 bytes) refl (sound-modules .keeps bytes 0 
           within = rw there at (w .front .within);
           numbers = rw there at (w .numbers);
         }
-    at (refused k o) is w e = let z : _≡_ {A = ℕ} 0 1 = cc in absurd (omega arith)
+    at (refused k o) is w e = absurd (on-not-refused e)
 
 -- Too long a file is refused, and nothing is done.
 pub decoded-long : {bytes numbers starts offsets : List ℕ} → mostBytes < length bytes
@@ -75,7 +76,7 @@ module _ {bytes numbers numbers′ starts starts′ offsets offsets′ : List �
   decoded-refused {number} {place} t = decoded t (rw file) (rw file)
     where
       at : (s : Step (List Module)) → Refused number place ≡ wayOf bytes s → atEnd s ≡ fails number place
-      at (got ms q rest) e = let z : _≡_ {A = ℕ} 0 1 = cc in absurd (omega arith)
+      at (got ms q rest) e = absurd (on-not-refused (sym e))
       at (refused k q) e = cc
 
       file : read bytes ≡ fails number place

@@ -10,6 +10,7 @@ use Rattle.reader.proofs.Laid.{laid-over, length-laid}
 use Rattle.reader.specs.Places.{before-length}
 use Rattle.reader.specs.Sound.{Sound}
 use Rattle.reader.specs.Steps.{wayOf, go, placeOf, Stands, Took, Takes}
+use Rattle.reader.proofs.Ways.{on-not-refused}
 use Rattle.reader.proofs.Alike.{Alike, skip, go-alike, begins-go, go-skip}
 use Rattle.reader.specs.declared.way.Way.{Way}
 use Rattle.reader.specs.declared.way.Way.the-variants.{On, Refused}
@@ -69,7 +70,7 @@ took-ended {A} r next {bytes} {way} {number} {place} t =
     record { answers = at way (t .answers); lays = t .lays; keeps = t .keeps }
   where
     step : (s : Step A) → Refused number place ≡ wayOf bytes s → Refused number place ≡ wayOf bytes (onward next s)
-    step (got a p rest) e = let z : _≡_ {A = ℕ} 0 1 = cc in absurd (omega arith)
+    step (got a p rest) e = absurd (on-not-refused (sym e))
     step (refused k q) e = e
 
     at : (way : Way) → Refused number place ≡ go bytes r way → Refused number place ≡ go bytes (bind r next) way

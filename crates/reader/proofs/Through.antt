@@ -2,7 +2,6 @@
 use Prim.Native.Nat.{ℕ, _-_, _≤_}
 use mathlib.Core.Path.{_≡_, refl, sym}
 use mathlib.Core.List.{List}
-use native.Mathlib.Omega.{arith}
 use lib.ListN.{length, getD}
 use Rattle.meaning.specs.Reading.{Step, got, refused, readCount, readMany, readModule, readModules, mostModules}
 use Rattle.reader.specs.Numbers.{atMost, numbersIn, before}
@@ -10,6 +9,7 @@ use Rattle.reader.specs.Places.{at-start}
 use Rattle.reader.specs.Steps.{wayOf, here, Stands, Takes}
 use Rattle.reader.specs.Starts.{behind, begun}
 use Rattle.reader.specs.Noted.{Noted, Passed, Through}
+use Rattle.reader.proofs.Ways.{on-not-refused}
 use Rattle.reader.proofs.Taken.{took-then, took-due, took-ended}
 use Rattle.reader.proofs.Counted.{Counted, counted-due}
 use Rattle.reader.specs.declared.way.Way.{Way}
@@ -32,7 +32,7 @@ module _ {bytes numbers mid starts offsets : List ℕ} where
       }
     where
       none : (s : Step ℕ) → Refused number place ≡ wayOf bytes s → Noted bytes (behind begun s) starts starts offsets offsets
-      none (got n p rest) e = let z : _≡_ {A = ℕ} 0 1 = cc in absurd (omega arith)
+      none (got n p rest) e = absurd (on-not-refused (sym e))
       none (refused k p) e = record { inNumbers = refl; inBytes = refl }
 
   -- The count of modules is read, and then the modules.

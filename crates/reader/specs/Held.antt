@@ -10,16 +10,39 @@ use lib.Seq.{take-append-seam, length-take-le}
 use Rattle.meaning.specs.Lists.{All}
 use Rattle.meaning.specs.Syntax.{Module}
 use Rattle.meaning.specs.Layout.{each, numberBytes, moduleNumbers, fileNumbers}
-use Rattle.meaning.specs.Reading.{Step, got, refused, holds, fails, onward, atEnd, read, readCount, readMany, readModule, readModules, mostModules, mostBytes}
+use Rattle.meaning.specs.Reading.{Step, got, refused, File, holds, fails, onward, atEnd, read, readCount, readMany, readModule, readModules, mostModules, mostBytes}
 use Rattle.meaning.specs.Ceilings.{Bytes, Small}
+use Rattle.laws.specs.Reading.{refused-not-got}
 use Rattle.reader.specs.Numbers.{atMost, numbersIn, before}
 use Rattle.reader.specs.Exact.{bytes-take, spells-bytes, spells-small}
 use Rattle.reader.specs.Places.{Front, at-start, before-length}
 use Rattle.reader.specs.Sound.{Kept, on, ended, one, sound-count, sound-modules, many-length}
 use Rattle.reader.specs.Starts.{behind, begun, numbersTo}
 use Rattle.reader.specs.Placed.{Placed, placed, placed-length, placed-at}
-use Rattle.reader.specs.Answer.{numbersOf, offsetsOf, startsOf, Decoded}
+use Rattle.reader.specs.Answer.{readingOf, numbersOf, offsetsOf, startsOf, Decoded}
 use Rattle.reader.specs.declared.Reading.{Reading}
+use Rattle.reader.specs.declared.Reading.the-variants.{Read, Refused}
+
+fails-not-holds : {number place : ℕ} {ms : List Module} → fails number place ≡ holds ms → ⊥
+fails-not-holds e = let z : _≡_ {A = ℕ} 0 1 = cc in omega arith
+
+read-not-refused : {modules numbers number place : ℕ} → Read modules numbers ≡ Refused number place → ⊥
+read-not-refused e = let z : _≡_ {A = ℕ} 0 1 = cc in omega arith
+
+-- What an answer says of the file.
+pub record IsRead (file : File) (modules numbers : ℕ) : Type 0 where
+  pub ms : List Module
+  pub is : file ≡ holds ms
+  pub modulesAre : modules ≡ length ms
+  pub numbersAre : numbers ≡ length (fileNumbers ms)
+
+pub is-read : {file : File} {modules numbers : ℕ} → Read modules numbers ≡ readingOf file → IsRead file modules numbers
+is-read {file = holds ms} e = record { ms = ms; is = refl; modulesAre = cc; numbersAre = cc }
+is-read {file = fails number place} e = absurd (read-not-refused e)
+
+pub is-refused : {file : File} {number place : ℕ} → Refused number place ≡ readingOf file → file ≡ fails number place
+is-refused {file = holds ms} e = absurd (read-not-refused (sym e))
+is-refused {file = fails number place} e = cc
 
 -- The step that read the modules, with nothing behind it.
 record Step-of (bytes : List ℕ) (ms : List Module) : Type 0 where
@@ -33,12 +56,12 @@ step-of bytes ms = split (leb (length bytes) mostBytes) refl
   where
     at : leb (length bytes) mostBytes ≡ true → (s : Step (List Module)) → readModules 0 bytes ≡ s → atEnd s ≡ holds ms → Step-of bytes ms
     at t (got ns q []) is e = let same : ns ≡ ms = cc in record { short = t; end = q; step = rw same at is }
-    at t (got ns q (b ∷ rest)) is e = let z : _≡_ {A = ℕ} 0 1 = cc in absurd (omega arith)
-    at t (refused k q) is e = let z : _≡_ {A = ℕ} 0 1 = cc in absurd (omega arith)
+    at t (got ns q (b ∷ rest)) is e = absurd (fails-not-holds e)
+    at t (refused k q) is e = absurd (fails-not-holds e)
 
     split : (t : Bool) → leb (length bytes) mostBytes ≡ t → cond t (atEnd (readModules 0 bytes)) (fails 1 0) ≡ holds ms → Step-of bytes ms
     split true t e = at t (readModules 0 bytes) refl e
-    split false t e = let z : _≡_ {A = ℕ} 0 1 = cc in absurd (omega arith)
+    split false t e = absurd (fails-not-holds e)
 
 -- All bytes are passed, and they hold the file's numbers.
 record Ended (bytes : List ℕ) (ms : List Module) : Type 0 where
@@ -56,7 +79,7 @@ all-passed bytes ms file = let s = step-of bytes ms file in at (s .end) (sound-m
         let left = sym (length-drop q bytes) ∙ ap length (sym (w .left) ∙ none) in
         let end : q ≡ length bytes = omega (arith, w .front .within) in
         record { front = rw end at (w .front); numbers = rw (end, same) at (w .numbers) }
-    at o ended e = let z : _≡_ {A = ℕ} 0 1 = cc in absurd (omega arith)
+    at o ended e = absurd (refused-not-got e)
 
 -- The place behind the count of modules, and where the modules begin from there.
 record Opened (bytes : List ℕ) (ms : List Module) : Type 0 where
@@ -82,7 +105,7 @@ opened bytes ms file =
           numbers = rw count (w .numbers);
           places = rw offsets (placed bytes n p ms o [] (w .front) modules);
         }
-    at o (refused k q) is w e = let z : _≡_ {A = ℕ} 0 1 = cc in absurd (omega arith)
+    at o (refused k q) is w e = absurd (refused-not-got e)
 
 -- The numbers in front of a module: the count of modules, and the numbers of the modules in front.
 abbrev pub inFront : List Module → ℕ → List ℕ

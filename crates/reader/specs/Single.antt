@@ -14,6 +14,7 @@ use Rattle.reader.specs.Numbers.{followed, atMost, before}
 use Rattle.reader.specs.Spelled.{none, short, long, numbersIn-spelled}
 use Rattle.reader.specs.Places.{Front, Further, further}
 
+-- A number that reads is the next; a refusal passes none.
 abbrev pub Single : List ℕ → ℕ → Step ℕ → Type 0
 Single bytes p (got value q rest) = Further bytes p q (value ∷ []) rest
 Single bytes p (refused number q) = before bytes q ≡ before bytes p

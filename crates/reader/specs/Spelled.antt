@@ -8,6 +8,7 @@ use lib.ListN.{length, length-append}
 use Rattle.meaning.specs.Reading.{got, readNumber, secondGroup}
 use Rattle.reader.specs.Numbers.{followed, atMost, numbersIn}
 
+-- A byte below 128 is a number by itself; one of 128 or more has a second behind it, which is 1 to 127.
 pub data Spells : List ℕ → List ℕ → Type 0 where
   none : Spells [] []
   short : {b : ℕ} {bytes numbers : List ℕ} → b < 128 → Spells bytes numbers → Spells (b ∷ bytes) (b ∷ numbers)

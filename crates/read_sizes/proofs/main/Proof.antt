@@ -1,3 +1,4 @@
+-- `main` lends the first 65,535 bytes of its buffer, which has 65,536.
 use Prim.Native.Nat.{_≤_}
 use mathlib.Core.Path.{sym}
 use native.Mathlib.Omega.{arith}

@@ -1,3 +1,4 @@
+-- `put_file` keeps the list as long as it is, in both loops.
 use mathlib.Core.Path.{_≡_}
 use borrow.Author.Needs.{needs}
 use lib.ListN.{length}

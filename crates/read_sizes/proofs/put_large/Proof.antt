@@ -1,3 +1,4 @@
+-- `put_large` keeps the list as long as it is.
 use mathlib.Core.Path.{_≡_}
 use borrow.Author.Needs.{needs}
 use lib.ListN.{length}

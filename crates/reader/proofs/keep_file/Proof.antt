@@ -1,3 +1,4 @@
+-- `keep_file` takes the step of a file's modules: the count is read back, and as many modules are due.
 use native.Mathlib.Omega.{arith}
 use Rattle.meaning.specs.Reading.{readCount, mostModules}
 use Rattle.reader.specs.Sound.{sound-count}

@@ -1,3 +1,4 @@
+-- `keep_modules` takes the step of so many modules and notes where each begins. The loop's invariant is `Passing`.
 use Prim.Native.Nat.{_-_}
 use native.Mathlib.Omega.{arith}
 use borrow.Author.Needs.{needs}

@@ -1,3 +1,4 @@
+-- `read` answers what `read` of the meaning says, from the way that its modules have gone.
 use native.Mathlib.Omega.{arith}
 use Rattle.reader.proofs.Answered.{decoded-long, decoded-refused, decoded-more, decoded-all, through-some}
 use borrow.Author.Needs.{needs}

@@ -1,3 +1,4 @@
+-- `read_number` answers what `readNumber` says: each return cites the fact about the bytes that led there.
 use mathlib.Core.Logic.{⊎-elim}
 use mathlib.Core.Path.{ap, sym, _∙_}
 use native.Mathlib.Omega.{arith}

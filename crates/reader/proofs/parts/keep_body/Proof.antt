@@ -1,3 +1,4 @@
+-- `keep_body` takes the step of a list of occurrences: the count is read back, and as many occurrences are due.
 use mathlib.Core.Path.{sym}
 use native.Mathlib.Omega.{arith}
 use Rattle.meaning.specs.Reading.{readOccurrence, readCount, readMany, mostOccurrences}

@@ -1,3 +1,4 @@
+-- `keep_module` takes the steps of a number, nets, nets and a list of occurrences, which go the way of a module.
 use Rattle.meaning.specs.Reading.{readNets}
 use Rattle.reader.specs.Sound.{sound-number, sound-nets}
 use Rattle.reader.proofs.Alike.{skip, alike-module}

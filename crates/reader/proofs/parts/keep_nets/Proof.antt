@@ -1,3 +1,4 @@
+-- `keep_nets` takes the step of a list of nets: the count is read back, and as many numbers are due.
 use mathlib.Core.Path.{sym}
 use native.Mathlib.Omega.{arith}
 use Rattle.meaning.specs.Reading.{readNumber, readCount, readMany, readNets, mostNets}

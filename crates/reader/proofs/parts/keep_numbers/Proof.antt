@@ -1,3 +1,4 @@
+-- `keep_numbers` takes the step of so many numbers. The loop's invariant is `Turning`.
 use mathlib.Core.Path.{sym, _∙_}
 use native.Mathlib.Omega.{arith}
 use borrow.Author.Needs.{needs}

@@ -1,3 +1,4 @@
+-- `keep_occurrence` takes the steps of nets, a number and nets, which go the way of an occurrence.
 use Rattle.meaning.specs.Reading.{readNumber, readNets}
 use Rattle.reader.specs.Sound.{sound-number, sound-nets}
 use Rattle.reader.proofs.Alike.{skip, alike-occurrence}

@@ -1,3 +1,4 @@
+-- `keep_occurrences` takes the step of so many occurrences. The loop's invariant is `Turning`.
 use mathlib.Core.Path.{sym, _∙_}
 use native.Mathlib.Omega.{arith}
 use borrow.Author.Needs.{needs}

@@ -1,3 +1,4 @@
+-- `keep_count` takes the step of a count: it is laid behind the numbers in front, or nothing changes.
 use mathlib.Core.Path.{refl, sym, _∙_}
 use native.Mathlib.Omega.{arith}
 use Rattle.reader.proofs.Taken.{unmoved}

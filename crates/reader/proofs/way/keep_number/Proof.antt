@@ -1,3 +1,4 @@
+-- `keep_number` takes the step of a number, which is that of a count at most 16,383.
 use Rattle.reader.specs.Exact.{bytes-all}
 use Rattle.reader.proofs.Largest.{go-largest}
 use Rattle.reader.proofs.Taken.{took-due}
