@@ -34,6 +34,10 @@ took-then {bytes} {old} {next} {last} t u =
 pub took-due : {bytes old new : List ℕ} {way due due′ next : Way} → due ≡ due′ → Took bytes way due old new next → Took bytes way due′ old new next
 took-due e t = record { answers = t .answers ∙ e; lays = t .lays; keeps = t .keeps }
 
+-- The same, where the answer is known by an equation.
+pub took-at : {bytes old new : List ℕ} {way due next next′ : Way} → next ≡ next′ → Took bytes way due old new next → Took bytes way due old new next′
+took-at e t = rw e at t
+
 -- Laying numbers out leaves a list as long as it is.
 pub took-length : {bytes old new : List ℕ} {way due next : Way} → length bytes ≤ length old → Took bytes way due old new next
     → length new ≡ length old

@@ -46,3 +46,9 @@ module _ {bytes numbers mid starts offsets : List ℕ} where
         took = took-due (sym (counted-due readModule (On 0 0) c)) (took-then t (p .took));
         noted = rw (c .step) (p .noted);
       }
+
+-- The same, where the answer is known by an equation.
+pub through-at : {bytes numbers numbers′ starts starts′ offsets offsets′ : List ℕ} {next next′ : Way} → next ≡ next′
+    → Through bytes numbers numbers′ starts starts′ offsets offsets′ next
+    → Through bytes numbers numbers′ starts starts′ offsets offsets′ next′
+through-at e t = rw e at t
