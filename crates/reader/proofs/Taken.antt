@@ -31,12 +31,22 @@ took-then {bytes} {old} {next} {last} t u =
     }
 
 -- The same, where the way is due by an equation.
-pub took-due : {bytes old new : List ℕ} {way due due′ next : Way} → due ≡ due′ → Took bytes way due old new next → Took bytes way due′ old new next
+pub took-due : {bytes old new : List ℕ} {way due due′ next : Way} → due ≡ due′ → Took bytes way due old new next
+    → Took bytes way due′ old new next
 took-due e t = record { answers = t .answers ∙ e; lays = t .lays; keeps = t .keeps }
 
 -- The same, where the answer is known by an equation.
-pub took-at : {bytes old new : List ℕ} {way due next next′ : Way} → next ≡ next′ → Took bytes way due old new next → Took bytes way due old new next′
+pub took-at : {bytes old new : List ℕ} {way due next next′ : Way} → next ≡ next′ → Took bytes way due old new next
+    → Took bytes way due old new next′
 took-at e t = rw e at t
+
+-- Where reading stands is known by an equation.
+pub stands-at : {bytes numbers : List ℕ} {way way′ : Way} → way ≡ way′ → Stands bytes way numbers → Stands bytes way′ numbers
+stands-at e s = rw e at s
+
+pub takes-from : {A : Type 0} (r : Reader A) {bytes old new : List ℕ} {way way′ next : Way} → way ≡ way′
+    → Takes r bytes way′ old new next → Takes r bytes way old new next
+takes-from r e t = rw e t
 
 -- Laying numbers out leaves a list as long as it is.
 pub took-length : {bytes old new : List ℕ} {way due next : Way} → length bytes ≤ length old → Took bytes way due old new next

@@ -13,7 +13,7 @@ use Rattle.meaning.specs.Layout.{each, numberBytes, moduleNumbers, fileNumbers}
 use Rattle.meaning.specs.Reading.{Step, got, refused, File, holds, fails, onward, atEnd, read, readCount, readMany, readModule, readModules, mostModules, mostBytes}
 use Rattle.meaning.specs.Ceilings.{Bytes, Small}
 use Rattle.laws.specs.Reading.{refused-not-got}
-use Rattle.reader.specs.Numbers.{atMost, numbersIn, before}
+use Rattle.reader.specs.Numbers.{atMost, numbersIn, before, laid}
 use Rattle.reader.specs.Exact.{bytes-take, spells-bytes, spells-small}
 use Rattle.reader.specs.Places.{Front, at-start, before-length}
 use Rattle.reader.specs.Sound.{Kept, on, ended, one, sound-count, sound-modules, many-length}
@@ -54,7 +54,8 @@ step-of : (bytes : List ℕ) (ms : List Module) → read bytes ≡ holds ms → 
 unfolding read
 step-of bytes ms = split (leb (length bytes) mostBytes) refl
   where
-    at : leb (length bytes) mostBytes ≡ true → (s : Step (List Module)) → readModules 0 bytes ≡ s → atEnd s ≡ holds ms → Step-of bytes ms
+    at : leb (length bytes) mostBytes ≡ true → (s : Step (List Module)) → readModules 0 bytes ≡ s → atEnd s ≡ holds ms
+        → Step-of bytes ms
     at t (got ns q []) is e = let same : ns ≡ ms = cc in record { short = t; end = q; step = rw same at is }
     at t (got ns q (b ∷ rest)) is e = absurd (fails-not-holds e)
     at t (refused k q) is e = absurd (fails-not-holds e)
@@ -94,7 +95,8 @@ opened bytes ms file =
     let short = s .short in
     at (s .end) (readCount mostModules 0 bytes) refl (sound-count mostModules .keeps bytes 0 (at-start bytes)) (s .step)
   where
-    at : (o : ℕ) (s : Step ℕ) → readCount mostModules 0 bytes ≡ s → Kept one bytes 0 s → onward (readMany readModule) s ≡ got ms o [] → Opened bytes ms
+    at : (o : ℕ) (s : Step ℕ) → readCount mostModules 0 bytes ≡ s → Kept one bytes 0 s
+        → onward (readMany readModule) s ≡ got ms o [] → Opened bytes ms
     at o (got n p rest) is (on w) e =
         let left = w .left in
         let modules : readMany readModule n p (drop p bytes) ≡ got ms o [] = rw left at e in
@@ -158,6 +160,9 @@ pub record Held (bytes : List ℕ) (ms : List Module) (numbers starts offsets : 
   pub few : length (fileNumbers ms) ≤ length bytes
   pub small : All Small (fileNumbers ms)
 
+laid-front : (xs old : List ℕ) (i : ℕ) → i < length xs → getD (laid xs old) i 0 ≡ getD xs i 0
+laid-front xs old i h = List·getD-append xs (drop (length xs) old) 0 i h
+
 pub held : {bytes numbers numbers′ starts starts′ offsets offsets′ : List ℕ} {reading : Reading} {ms : List Module}
     → Bytes bytes → Decoded bytes numbers numbers′ starts starts′ offsets offsets′ reading → read bytes ≡ holds ms
     → Held bytes ms numbers′ starts′ offsets′
@@ -166,10 +171,10 @@ held {bytes} {numbers} {starts} {offsets} {ms} b d file =
       numbersAre = rw (d .numbersLaid, holds-numbers bytes ms file, take-append-seam);
       startsAre = λ i h.
           let l = starts-length bytes ms file in
-          rw (d .startsLaid, List·getD-append (startsOf bytes) (drop (length (startsOf bytes)) starts) 0 i (omega arith)) (start-at bytes ms file i h);
+          rw (d .startsLaid, laid-front (startsOf bytes) starts i (omega arith)) (start-at bytes ms file i h);
       offsetsAre = λ i h.
           let l = offsets-length bytes ms file in
-          rw (d .offsetsLaid, List·getD-append (offsetsOf bytes) (drop (length (offsetsOf bytes)) offsets) 0 i (omega arith)) (offset-at bytes ms file i h b);
+          rw (d .offsetsLaid, laid-front (offsetsOf bytes) offsets i (omega arith)) (offset-at bytes ms file i h b);
       few = holds-few bytes ms file;
       small = holds-small bytes ms file b;
     }

@@ -59,9 +59,9 @@ keep-modules-requires : tie.Need-keep-modules-requires
 keep-modules-requires c κs =
     let p : tie.After-known-told2 = c .before .before .before .before in
     let h = there p .small in
-    let fit = entry p .pre .1 in
-    ( stands-next (sound-count mostModules) (stands-first (entry p .pre .0)) (count p)
-    , record { inNumbers = omega (arith, fit .inNumbers); inBytes = omega (arith, fit .inBytes) }
+    let fit = entry p .pre .1 in (
+      stands-next (sound-count mostModules) (stands-first (entry p .pre .0)) (count p),
+      record { inNumbers = omega (arith, fit .inNumbers); inBytes = omega (arith, fit .inBytes) },
     )
 
 same-length : tie.Need-same-length

@@ -11,15 +11,15 @@ use borrow.Author.Needs.{needs}
 use Rattle.reader.proofs.read.Statement.{statement}
 use Rattle.reader.proofs.read.Tie as tie
 
--- The modules are read: the function's start, and the call that reads them.
-abbrev entry : tie.After-known-told2 → tie.Start
-entry c = c .before .before .before .before .before .before .before .before .before .before .before .before .before .before .before .before .before .before
-
+-- The modules are read: the call that reads them, and the function's start.
 abbrev reading : tie.After-known-told2 → tie.After-keep-file
 reading c = c .before .before .before .before .before .before .before .before .before
 
+abbrev entry : tie.After-known-told2 → tie.Start
+entry c = reading c .before .before .before .before .before .before .before .before .before
+
 short : (c : tie.After-known-told2) → length (entry c .args .bytes .now) ≤ mostBytes
-short c = c .before .before .before .before .before .before .before .before .before .before .before .before .before .if1 .left
+short c = reading c .before .before .before .before .if1 .left
 
 through : (c : tie.After-known-told2)
     → Through (entry c .args .bytes .now)
@@ -73,8 +73,9 @@ same-length-6 c = search needs
 
 returns-3 : tie.Need-returns-3
 returns-3 c =
-    let few = c .before .before .before .before .before .before .before .before .before .before .before .before .before .if1 .left in
-    decoded-refused few (through-at (c .before .number .given .1) (c .before .before .before .before .before .before .before .before .before .keep-file .ensures))
+    let file : tie.After-keep-file = c .before .before .before .before .before .before .before .before .before in
+    decoded-refused (file .before .before .before .before .if1 .left)
+    (through-at (c .before .number .given .1) (file .keep-file .ensures))
 
 same-length-7 : tie.Need-same-length-7
 same-length-7 c = search needs

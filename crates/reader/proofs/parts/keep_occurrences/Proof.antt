@@ -22,7 +22,9 @@ refused-requires : tie.Need-refused-requires Inv-loop μ-loop
 refused-requires c κs = search needs
 
 same-length : tie.Need-same-length Inv-loop μ-loop
-same-length c = took-length (c .before .before .before .before .before .before .pre .room) (c .before .before .before .loop .inv .took)
+same-length c =
+    let head : tie.At-loop Inv-loop μ-loop = c .before .before .before in
+    took-length (head .before .before .before .pre .room) (head .loop .inv .took)
 
 returns : tie.Need-returns Inv-loop μ-loop
 returns c = turn-refused (c .before .before .before .loop .inv) (sym (c .before .refused .ensures) ∙ c .if1 .taken)
@@ -37,7 +39,9 @@ loop-less : tie.Need-loop-less Inv-loop μ-loop
 loop-less c = omega arith
 
 loop-again : tie.Need-loop-again Inv-loop μ-loop
-loop-again c = turn-next (c .before .before .before .before .before .before .before .loop .inv) sound-occurrence (c .before .before .before .before .before .before .loop-test .taken) (c .before .before .keep-occurrence .ensures)
+loop-again c =
+    let turn : tie.In-loop Inv-loop μ-loop = c .before .before .before .before .before .before in
+    turn-next (turn .before .loop .inv) sound-occurrence (turn .loop-test .taken) (c .before .before .keep-occurrence .ensures)
 
 same-length-2 : tie.Need-same-length-2 Inv-loop μ-loop
 same-length-2 c = took-length (c .before .before .before .before .pre .room) (c .before .loop .inv .took)
