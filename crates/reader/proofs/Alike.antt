@@ -1,12 +1,10 @@
 -- Readers that go the same way, whatever they hand back. So an occurrence is nets, a number and nets, and the code takes these
 -- one after the other.
-use Prim.Native.Nat.{ℕ, zero, suc, _≤_}
-use mathlib.Core.Path.{_≡_, refl, ap, sym, _∙_}
-use mathlib.Core.List.{List, [], _∷_}
-use lib.ListN.{length, drop}
+use Prim.Native.Nat.{ℕ, suc}
+use mathlib.Core.Path.{_≡_, refl, ap}
+use mathlib.Core.List.{List, _∷_}
+use lib.ListN.{drop}
 use Rattle.meaning.specs.Reading.{Step, got, refused, Reader, onward, bind, give, readNumber, readCount, readMany, readNets, readOccurrence, readModule, mostOccurrences}
-use Rattle.reader.specs.Numbers.{before}
-use Rattle.reader.specs.Places.{Front, Further}
 use Rattle.reader.specs.Sound.{Kept, on, ended, Sound}
 use Rattle.reader.specs.Steps.{readBody, wayOf, go, Begins, here, over}
 use Rattle.reader.specs.declared.way.Way.{Way}

@@ -1,8 +1,7 @@
 -- The answer to a whole file, from the way that reading its modules has gone.
-use Prim.Native.Nat.{ℕ, zero, suc, _≤_, _<_}
+use Prim.Native.Nat.{ℕ, _≤_, _<_}
 use mathlib.Core.Path.{_≡_, refl, ap, sym, _∙_}
-use mathlib.Core.Bool.{true, false}
-use mathlib.Core.List.{List, [], _∷_, _++_, map}
+use mathlib.Core.List.{List}
 use native.Mathlib.Omega.{arith}
 use borrow.Author.Tests.{le-leb, lt-leb}
 use lib.ListN.{length, drop, getD, drop-of-length-le}
@@ -11,10 +10,11 @@ use Rattle.meaning.specs.Syntax.{Module}
 use Rattle.meaning.specs.Layout.{fileNumbers}
 use Rattle.meaning.specs.Reading.{Step, got, refused, holds, fails, atEnd, read, readModules, mostBytes}
 use Rattle.reader.specs.Numbers.{atMost, numbersIn, before, laid}
-use Rattle.reader.specs.Places.{Further, at-start, before-length}
-use Rattle.reader.specs.Sound.{Kept, on, ended, sound-modules}
-use Rattle.reader.specs.Steps.{wayOf, placeOf, Took}
+use Rattle.reader.specs.Places.{at-start, before-length}
+use Rattle.reader.specs.Sound.{Kept, on, sound-modules}
+use Rattle.reader.specs.Steps.{wayOf, placeOf}
 use Rattle.reader.specs.Noted.{Through}
+use Rattle.reader.proofs.Ways.{on-not-refused}
 use Rattle.reader.proofs.Taken.{took-length}
 use Rattle.reader.specs.Answer.{readingOf, endOf, numbersOf, offsetsOf, startsOf, Decoded}
 use Rattle.reader.specs.declared.way.Way.{Way}
@@ -42,7 +42,7 @@ whole bytes q m e = at (readModules 0 bytes) refl (sound-modules .keeps bytes 0 
           within = rw there at (w .front .within);
           numbers = rw there at (w .numbers);
         }
-    at (refused k o) is w e = let z : _≡_ {A = ℕ} 0 1 = cc in absurd (omega arith)
+    at (refused k o) is w e = absurd (on-not-refused e)
 
 -- Too long a file is refused, and nothing is done.
 pub decoded-long : {bytes numbers starts offsets : List ℕ} → mostBytes < length bytes
@@ -76,7 +76,7 @@ module _ {bytes numbers numbers′ starts starts′ offsets offsets′ : List �
   decoded-refused {number} {place} t = decoded t (rw file) (rw file)
     where
       at : (s : Step (List Module)) → Refused number place ≡ wayOf bytes s → atEnd s ≡ fails number place
-      at (got ms q rest) e = let z : _≡_ {A = ℕ} 0 1 = cc in absurd (omega arith)
+      at (got ms q rest) e = absurd (on-not-refused (sym e))
       at (refused k q) e = cc
 
       file : read bytes ≡ fails number place

@@ -1,6 +1,6 @@
 -- A count that has been laid out is read back, and as many things are due as it says.
-use Prim.Native.Nat.{ℕ, _+_, _-_, _≤_, _<_}
-use mathlib.Core.Path.{_≡_, refl, ap, sym, _∙_}
+use Prim.Native.Nat.{ℕ, _-_, _≤_, _<_}
+use mathlib.Core.Path.{_≡_, refl, ap, _∙_}
 use mathlib.Core.Bool.{Bool, true, false, cond}
 use mathlib.Core.List.{List, [], _∷_, _++_}
 use native.Mathlib.Omega.{arith}
@@ -8,11 +8,13 @@ use borrow.Author.Tests.{leb-true}
 use lib.Dec.{leb}
 use lib.ListN.{length, drop, getD, length-append}
 use Rattle.meaning.specs.Reading.{Step, got, refused, Reader, onward, bind, readNumber, readCount, readMany}
+use Rattle.laws.specs.Reading.{refused-not-got}
 use Rattle.reader.specs.Numbers.{before}
 use Rattle.reader.proofs.Laid.{laid-last}
-use Rattle.reader.specs.Places.{Front, Further, before-length}
+use Rattle.reader.specs.Places.{before-length}
 use Rattle.reader.specs.Single.{Single, single-count}
-use Rattle.reader.specs.Steps.{wayOf, go, Begins, here, over, Stands, Took, Takes}
+use Rattle.reader.specs.Steps.{wayOf, go, Begins, here, over, Stands, Takes}
+use Rattle.reader.proofs.Ways.{on-not-refused}
 use Rattle.reader.proofs.Taken.{took-length}
 use Rattle.reader.specs.declared.way.Way.{Way}
 use Rattle.reader.specs.declared.way.Way.the-variants.{On, Refused}
@@ -35,11 +37,11 @@ count-small ceiling p bytes v q rest = at (readNumber p bytes)
   where
     kept : (n o : ℕ) (left : List ℕ) (t : Bool) → leb n ceiling ≡ t → cond t (got n o left) (refused 4 p) ≡ got v q rest → v ≤ ceiling
     kept n o left true t e = let same : n ≡ v = cc in let h = leb-true n ceiling t in omega arith
-    kept n o left false t e = let z : _≡_ {A = ℕ} 0 1 = cc in absurd (omega arith)
+    kept n o left false t e = absurd (refused-not-got e)
 
     at : (s : Step ℕ) → onward (λ n o left. cond (leb n ceiling) (got n o left) (refused 4 p)) s ≡ got v q rest → v ≤ ceiling
     at (got n o left) e = kept n o left (leb n ceiling) refl e
-    at (refused number place) e = let z : _≡_ {A = ℕ} 0 1 = cc in absurd (omega arith)
+    at (refused number place) e = absurd (refused-not-got e)
 
 pub counted : (ceiling : ℕ) {bytes old mid : List ℕ} {way : Way} {q m : ℕ} → Stands bytes way old
     → Takes (readCount ceiling) bytes way old mid (On q m) → Counted ceiling bytes way mid q m
@@ -62,16 +64,16 @@ counted ceiling {bytes} {old} {mid} {way} {q} {m} stands t = at way (stands .beg
           small = rw value (count-small ceiling p (drop p bytes) v o rest is);
           step = is ∙ rw (value, ← there, w .left);
         }
-    kept p (refused k o) is w e = let z : _≡_ {A = ℕ} 0 1 = cc in absurd (omega arith)
+    kept p (refused k o) is w e = absurd (on-not-refused e)
 
     at : (way : Way) → Begins bytes way → On q m ≡ go bytes (readCount ceiling) way → Counted ceiling bytes way mid q m
     at (On p n) (here front count) e =
         let c = kept p (readCount ceiling p (drop p bytes)) refl (single-count bytes p front ceiling) e in
         record { some = c .some; within = c .within; small = c .small; step = c .step }
-    at (Refused k o) over e = let z : _≡_ {A = ℕ} 0 1 = cc in absurd (omega arith)
+    at (Refused k o) over e = absurd (on-not-refused e)
 
 -- As many things are due as the count says.
 pub counted-due : {A : Type 0} (r : Reader A) {ceiling : ℕ} {bytes mid : List ℕ} (way : Way) {q m : ℕ} → Counted ceiling bytes way mid q m
     → go bytes (bind (readCount ceiling) (readMany r)) way ≡ go bytes (readMany r (getD mid (m - 1) 0)) (On q m)
 counted-due r (On p n) c = rw (c .step)
-counted-due r (Refused number place) c = let e = c .step in let z : _≡_ {A = ℕ} 0 1 = cc in absurd (omega arith)
+counted-due r (Refused number place) c = absurd (refused-not-got (c .step))

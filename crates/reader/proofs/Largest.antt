@@ -1,6 +1,6 @@
 -- A number is at most 16,383: with that ceiling every number reads as a count.
 use Prim.Native.Nat.{ℕ}
-use mathlib.Core.Path.{_≡_, refl, sym}
+use mathlib.Core.Path.{_≡_, refl}
 use mathlib.Core.List.{List}
 use borrow.Author.Tests.{le-leb}
 use lib.Dec.{leb}

@@ -1,5 +1,6 @@
 -- Facts that the functions' proofs share.
 pub mod Laid
+pub mod Ways
 pub mod Bytes
 pub mod Stored
 pub mod Largest

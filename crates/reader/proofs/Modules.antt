@@ -1,25 +1,32 @@
 -- The loop over the modules of a file: it reads each and notes where it begins.
 use Prim.Native.Nat.{ℕ, _+_, _-_, _≤_, _<_}
-use mathlib.Core.Path.{_≡_, refl, ap, sym}
+use mathlib.Core.Path.{_≡_, refl}
 use mathlib.Core.List.{List}
 use native.Mathlib.Omega.{arith}
 use lib.ListN.{length, set}
-use Rattle.meaning.specs.Reading.{readMany, readModule}
+use Rattle.meaning.specs.Reading.{readModule}
 use Rattle.reader.specs.Sound.{sound-module}
-use Rattle.reader.specs.Steps.{go, Stands, Took, Takes}
+use Rattle.reader.specs.Steps.{Stands, Takes}
 use Rattle.reader.specs.Noted.{Fit, placesFrom, Passed}
-use Rattle.reader.proofs.Taken.{took-length}
 use Rattle.reader.proofs.Turns.{Turning, turn-first, turn-next, turn-refused, turn-last}
 use Rattle.reader.proofs.Noting.{Noting, noting-first, noting-next, noting-refused, noting-last, noting-starts, noting-offsets}
 use Rattle.reader.specs.declared.way.Way.{Way}
 use Rattle.reader.specs.declared.way.Way.the-variants.{On, Refused}
 
 -- Of so many, i are.
-pub record Passing (bytes : List ℕ) (start : Way) (count i : ℕ) (numbers numbers′ starts starts′ offsets offsets′ : List ℕ) (way : Way) : Type 0 where
+pub record Passing
+    (bytes : List ℕ) (start : Way) (count i : ℕ) (numbers numbers′ starts starts′ offsets offsets′ : List ℕ) (way : Way)
+    : Type 0 where
   pub left : ℕ
   pub sum : i + left ≡ count
   pub turning : Turning readModule bytes start count numbers left way numbers′
   pub noting : Noting bytes (placesFrom bytes count start) left way i starts starts′ offsets offsets′
+
+-- Where reading stands is known by an equation.
+pub passing-at : {bytes numbers numbers′ starts starts′ offsets offsets′ : List ℕ} {start way way′ : Way} {count i : ℕ} → way ≡ way′
+    → Passing bytes start count i numbers numbers′ starts starts′ offsets offsets′ way
+    → Passing bytes start count i numbers numbers′ starts starts′ offsets offsets′ way′
+passing-at e t = rw e at t
 
 pub passing-first : {bytes numbers starts offsets : List ℕ} {count : ℕ} {way : Way} → Stands bytes way numbers
     → Passing bytes way count 0 numbers numbers starts starts offsets offsets way
@@ -39,7 +46,8 @@ module _ {bytes numbers numbers′ starts starts′ offsets offsets′ : List �
   passing-offsets h = noting-offsets (t .noting) (omega (arith, t .sum))
 
 module _ {bytes numbers numbers′ starts starts′ offsets offsets′ : List ℕ} {start : Way} {count i : ℕ} where
-  pub passing-refused : {number place : ℕ} → Passing bytes start count i numbers numbers′ starts starts′ offsets offsets′ (Refused number place)
+  pub passing-refused : {number place : ℕ}
+      → Passing bytes start count i numbers numbers′ starts starts′ offsets offsets′ (Refused number place)
       → Passed bytes start count numbers numbers′ starts starts′ offsets offsets′ (Refused number place)
   passing-refused t = record { took = turn-refused (t .turning) refl; noted = noting-refused (t .noting) }
 

@@ -1,15 +1,15 @@
 -- A loop that notes where each module begins: the places noted so far and those still to come are all places.
-use Prim.Native.Nat.{ℕ, zero, suc, _+_, _-_, _≤_, _<_}
-use mathlib.Core.Path.{_≡_, refl, ap, sym, _∙_}
+use Prim.Native.Nat.{ℕ, suc, _+_, _-_, _≤_, _<_}
+use mathlib.Core.Path.{_≡_, refl, ap, _∙_}
 use mathlib.Core.List.{List, [], _∷_, _++_, map, append-assoc, append-nil}
 use native.Mathlib.Omega.{arith}
-use lib.ListN.{length, drop, set, length-append, length-map}
+use lib.ListN.{length, set, length-append, length-map}
 use Rattle.meaning.specs.Syntax.{Module}
 use Rattle.meaning.specs.Layout.{moduleNumbers}
-use Rattle.meaning.specs.Reading.{Step, got, refused, readModule}
-use Rattle.reader.specs.Numbers.{before, laid}
+use Rattle.meaning.specs.Reading.{Step, readModule}
+use Rattle.reader.specs.Numbers.{laid}
 use Rattle.reader.proofs.Laid.{laid-more, laid-over, length-laid}
-use Rattle.reader.specs.Sound.{Kept, on, ended, Sound, sound-module}
+use Rattle.reader.specs.Sound.{Kept, on, ended, sound-module}
 use Rattle.reader.specs.Steps.{wayOf, go, Begins, here}
 use Rattle.reader.specs.Starts.{behind, begun, numbersTo}
 use Rattle.reader.specs.Noted.{placesFrom, Noted}

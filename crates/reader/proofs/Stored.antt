@@ -7,13 +7,12 @@ use borrow.Author.Tests.{le-leb, lt-leb}
 use lib.ListN.{length, drop, set, length-append}
 use Rattle.meaning.specs.Reading.{Step, got, refused, readNumber, readCount}
 use Rattle.reader.specs.Numbers.{before}
+use Rattle.reader.proofs.Ways.{is-not-refused}
 use Rattle.reader.proofs.Laid.{laid-more}
 use Rattle.reader.specs.Places.{Front, Further, before-length}
 use Rattle.reader.specs.Single.{Single, single-number}
-use Rattle.reader.specs.Steps.{numberOf, wayOf, Begins, here, Stands, Took, Takes}
-use Rattle.reader.specs.declared.number.Number.{Number}
+use Rattle.reader.specs.Steps.{numberOf, Begins, here, Stands, Took, Takes}
 use Rattle.reader.specs.declared.number.Number.the-variants.{Is, Refused as NoNumber}
-use Rattle.reader.specs.declared.way.Way.{Way}
 use Rattle.reader.specs.declared.way.Way.the-variants.{On, Refused}
 
 pub front-of : {bytes : List ℕ} {p n : ℕ} → Begins bytes (On p n) → Front bytes p
@@ -57,7 +56,7 @@ module _ {bytes old : List ℕ} {p n : ℕ} (stands : Stands bytes (On p n) old)
       let a : u ≡ v = cc in
       let b : o ≡ q = cc in
       record { rest = rest; step = rw (a, b); further = rw (a, b) at w }
-  found {s = refused j o} e w = let z : _≡_ {A = ℕ} 0 1 = cc in absurd (omega arith)
+  found {s = refused j o} e w = absurd (is-not-refused e)
 
   -- A refusal, and the step that it comes from.
   record Failed (s : Step ℕ) (k q : ℕ) : Type 0 where
@@ -65,7 +64,7 @@ module _ {bytes old : List ℕ} {p n : ℕ} (stands : Stands bytes (On p n) old)
     same : before bytes q ≡ before bytes p
 
   failed : {s : Step ℕ} {k q : ℕ} → NoNumber k q ≡ numberOf s → Single bytes p s → Failed s k q
-  failed {s = got u o rest} e w = let z : _≡_ {A = ℕ} 0 1 = cc in absurd (omega arith)
+  failed {s = got u o rest} e w = absurd (is-not-refused (sym e))
   failed {s = refused j o} {k} {q} e w =
       let a : j ≡ k = cc in
       let b : o ≡ q = cc in

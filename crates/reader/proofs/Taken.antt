@@ -1,6 +1,6 @@
 -- Steps of the code one after the other: where they leave reading, and what is laid out by then.
 use Prim.Native.Nat.{ℕ, _≤_}
-use mathlib.Core.Path.{_≡_, refl, ap, sym, subst, _∙_}
+use mathlib.Core.Path.{_≡_, ap, sym, _∙_}
 use mathlib.Core.List.{List}
 use native.Mathlib.Omega.{arith}
 use lib.ListN.{length, drop}
@@ -9,7 +9,8 @@ use Rattle.reader.specs.Numbers.{before, laid}
 use Rattle.reader.proofs.Laid.{laid-over, length-laid}
 use Rattle.reader.specs.Places.{before-length}
 use Rattle.reader.specs.Sound.{Sound}
-use Rattle.reader.specs.Steps.{wayOf, go, placeOf, Begins, Stands, Took, Takes}
+use Rattle.reader.specs.Steps.{wayOf, go, placeOf, Stands, Took, Takes}
+use Rattle.reader.proofs.Ways.{on-not-refused}
 use Rattle.reader.proofs.Alike.{Alike, skip, go-alike, begins-go, go-skip}
 use Rattle.reader.specs.declared.way.Way.{Way}
 use Rattle.reader.specs.declared.way.Way.the-variants.{On, Refused}
@@ -30,8 +31,22 @@ took-then {bytes} {old} {next} {last} t u =
     }
 
 -- The same, where the way is due by an equation.
-pub took-due : {bytes old new : List ℕ} {way due due′ next : Way} → due ≡ due′ → Took bytes way due old new next → Took bytes way due′ old new next
+pub took-due : {bytes old new : List ℕ} {way due due′ next : Way} → due ≡ due′ → Took bytes way due old new next
+    → Took bytes way due′ old new next
 took-due e t = record { answers = t .answers ∙ e; lays = t .lays; keeps = t .keeps }
+
+-- The same, where the answer is known by an equation.
+pub took-at : {bytes old new : List ℕ} {way due next next′ : Way} → next ≡ next′ → Took bytes way due old new next
+    → Took bytes way due old new next′
+took-at e t = rw e at t
+
+-- Where reading stands is known by an equation.
+pub stands-at : {bytes numbers : List ℕ} {way way′ : Way} → way ≡ way′ → Stands bytes way numbers → Stands bytes way′ numbers
+stands-at e s = rw e at s
+
+pub takes-from : {A : Type 0} (r : Reader A) {bytes old new : List ℕ} {way way′ next : Way} → way ≡ way′
+    → Takes r bytes way′ old new next → Takes r bytes way old new next
+takes-from r e t = rw e t
 
 -- Laying numbers out leaves a list as long as it is.
 pub took-length : {bytes old new : List ℕ} {way due next : Way} → length bytes ≤ length old → Took bytes way due old new next
@@ -69,7 +84,7 @@ took-ended {A} r next {bytes} {way} {number} {place} t =
     record { answers = at way (t .answers); lays = t .lays; keeps = t .keeps }
   where
     step : (s : Step A) → Refused number place ≡ wayOf bytes s → Refused number place ≡ wayOf bytes (onward next s)
-    step (got a p rest) e = let z : _≡_ {A = ℕ} 0 1 = cc in absurd (omega arith)
+    step (got a p rest) e = absurd (on-not-refused (sym e))
     step (refused k q) e = e
 
     at : (way : Way) → Refused number place ≡ go bytes r way → Refused number place ≡ go bytes (bind r next) way

@@ -1,15 +1,15 @@
 -- The whole of a file that is not too long: its modules read, and where each begins noted.
 use Prim.Native.Nat.{ℕ, _-_, _≤_}
-use mathlib.Core.Path.{_≡_, refl, ap, sym, _∙_}
-use mathlib.Core.List.{List, []}
-use native.Mathlib.Omega.{arith}
+use mathlib.Core.Path.{_≡_, refl, sym}
+use mathlib.Core.List.{List}
 use lib.ListN.{length, getD}
 use Rattle.meaning.specs.Reading.{Step, got, refused, readCount, readMany, readModule, readModules, mostModules}
 use Rattle.reader.specs.Numbers.{atMost, numbersIn, before}
 use Rattle.reader.specs.Places.{at-start}
-use Rattle.reader.specs.Steps.{wayOf, go, here, Stands, Took, Takes}
+use Rattle.reader.specs.Steps.{wayOf, here, Stands, Takes}
 use Rattle.reader.specs.Starts.{behind, begun}
 use Rattle.reader.specs.Noted.{Noted, Passed, Through}
+use Rattle.reader.proofs.Ways.{on-not-refused}
 use Rattle.reader.proofs.Taken.{took-then, took-due, took-ended}
 use Rattle.reader.proofs.Counted.{Counted, counted-due}
 use Rattle.reader.specs.declared.way.Way.{Way}
@@ -32,7 +32,7 @@ module _ {bytes numbers mid starts offsets : List ℕ} where
       }
     where
       none : (s : Step ℕ) → Refused number place ≡ wayOf bytes s → Noted bytes (behind begun s) starts starts offsets offsets
-      none (got n p rest) e = let z : _≡_ {A = ℕ} 0 1 = cc in absurd (omega arith)
+      none (got n p rest) e = absurd (on-not-refused (sym e))
       none (refused k p) e = record { inNumbers = refl; inBytes = refl }
 
   -- The count of modules is read, and then the modules.
@@ -46,3 +46,9 @@ module _ {bytes numbers mid starts offsets : List ℕ} where
         took = took-due (sym (counted-due readModule (On 0 0) c)) (took-then t (p .took));
         noted = rw (c .step) (p .noted);
       }
+
+-- The same, where the answer is known by an equation.
+pub through-at : {bytes numbers numbers′ starts starts′ offsets offsets′ : List ℕ} {next next′ : Way} → next ≡ next′
+    → Through bytes numbers numbers′ starts starts′ offsets offsets′ next
+    → Through bytes numbers numbers′ starts starts′ offsets offsets′ next′
+through-at e t = rw e at t

@@ -1,5 +1,5 @@
 -- A loop that reads as many things as a count says: the way of what is left is the way of all of it.
-use Prim.Native.Nat.{ℕ, zero, suc, _-_, _≤_, _<_}
+use Prim.Native.Nat.{ℕ, suc, _-_, _≤_, _<_}
 use mathlib.Core.Path.{_≡_, refl, ap, sym, _∙_}
 use mathlib.Core.Bool.{true}
 use mathlib.Core.List.{List}
@@ -13,7 +13,8 @@ use Rattle.reader.specs.declared.way.Way.{Way}
 use Rattle.reader.specs.declared.way.Way.the-variants.{On, Refused}
 
 -- Of `count` things from the way `start` on, so many are left, and reading stands at `way`.
-pub record Turning {A : Type 0} (r : Reader A) (bytes : List ℕ) (start : Way) (count : ℕ) (old : List ℕ) (left : ℕ) (way : Way) (now : List ℕ)
+pub record Turning {A : Type 0} (r : Reader A) (bytes : List ℕ) (start : Way) (count : ℕ) (old : List ℕ)
+    (left : ℕ) (way : Way) (now : List ℕ)
     : Type 0 where
   pub stands : Stands bytes way now
   pub due : go bytes (readMany r left) way ≡ go bytes (readMany r count) start

@@ -40,6 +40,7 @@ pub record Room (bytes numbers starts offsets : List ℕ) : Type 0 where
   pub startsFit : mostModules ≤ length starts
   pub offsetsFit : mostModules ≤ length offsets
 
+-- What the answer is, and what each list holds after: its first entries replaced, and the rest as it was.
 pub record Decoded (bytes numbers numbers′ starts starts′ offsets offsets′ : List ℕ) (reading : Reading) : Type 0 where
   pub answers : reading ≡ readingOf (read bytes)
   pub numbersLaid : numbers′ ≡ laid (numbersOf bytes) numbers

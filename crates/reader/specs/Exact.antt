@@ -1,9 +1,9 @@
 -- Bytes that spell numbers are the bytes of these numbers, and no number is above 16,383.
-use Prim.Native.Nat.{ℕ, zero, suc, _+_, _*_, _-_, _/_, _%_, _≤_, _<_}
-use mathlib.Core.Path.{_≡_, refl, ap, sym, _∙_}
-use mathlib.Core.List.{List, [], _∷_, _++_}
+use Prim.Native.Nat.{ℕ, zero, suc, _+_, _*_, _-_, _/_, _%_, _<_}
+use mathlib.Core.Path.{_≡_, refl, ap, _∙_}
+use mathlib.Core.List.{List, [], _∷_}
 use native.Mathlib.Omega.{arith}
-use lib.ListN.{length, take, getD, length-take}
+use lib.ListN.{take, getD}
 use Rattle.meaning.specs.Lists.{All, none as all-none, more}
 use Rattle.meaning.specs.Layout.{each, numberBytes}
 use Rattle.meaning.specs.Ceilings.{Bytes, Small}

@@ -1,27 +1,48 @@
 -- What whoever reads a file knows where the file reads: the numbers are the file's, and where each module begins.
-use Prim.Native.Nat.{ℕ, zero, suc, _+_, _≤_, _<_}
+use Prim.Native.Nat.{ℕ, _≤_, _<_}
 use mathlib.Core.Path.{_≡_, refl, ap, sym, _∙_}
 use mathlib.Core.Bool.{Bool, true, false, cond}
-use mathlib.Core.List.{List, [], _∷_, _++_, map}
+use mathlib.Core.List.{List, [], _∷_, _++_}
 use native.Mathlib.Omega.{arith}
-use borrow.Author.Tests.{leb-true}
 use lib.Dec.{leb}
-use lib.ListN.{length, take, drop, getD, length-take, length-drop, length-map, List·getD-append, List·getD-map}
-use lib.Seq.{take-append-seam, length-take-le, take-all}
+use lib.ListN.{length, take, drop, getD, length-drop, length-map, List·getD-append, List·getD-map}
+use lib.Seq.{take-append-seam, length-take-le}
 use Rattle.meaning.specs.Lists.{All}
 use Rattle.meaning.specs.Syntax.{Module}
 use Rattle.meaning.specs.Layout.{each, numberBytes, moduleNumbers, fileNumbers}
-use Rattle.meaning.specs.Reading.{Step, got, refused, holds, fails, onward, atEnd, read, readCount, readMany, readModule, readModules, mostModules, mostBytes}
+use Rattle.meaning.specs.Reading.{Step, got, refused, File, holds, fails, onward, atEnd, read, readCount, readMany, readModule, readModules, mostModules, mostBytes}
 use Rattle.meaning.specs.Ceilings.{Bytes, Small}
+use Rattle.laws.specs.Reading.{refused-not-got}
 use Rattle.reader.specs.Numbers.{atMost, numbersIn, before, laid}
-use Rattle.reader.specs.Spelled.{spells-length}
 use Rattle.reader.specs.Exact.{bytes-take, spells-bytes, spells-small}
-use Rattle.reader.specs.Places.{Front, Further, at-start, before-length}
+use Rattle.reader.specs.Places.{Front, at-start, before-length}
 use Rattle.reader.specs.Sound.{Kept, on, ended, one, sound-count, sound-modules, many-length}
 use Rattle.reader.specs.Starts.{behind, begun, numbersTo}
 use Rattle.reader.specs.Placed.{Placed, placed, placed-length, placed-at}
-use Rattle.reader.specs.Answer.{numbersOf, offsetsOf, startsOf, Decoded}
+use Rattle.reader.specs.Answer.{readingOf, numbersOf, offsetsOf, startsOf, Decoded}
 use Rattle.reader.specs.declared.Reading.{Reading}
+use Rattle.reader.specs.declared.Reading.the-variants.{Read, Refused}
+
+fails-not-holds : {number place : ℕ} {ms : List Module} → fails number place ≡ holds ms → ⊥
+fails-not-holds e = let z : _≡_ {A = ℕ} 0 1 = cc in omega arith
+
+read-not-refused : {modules numbers number place : ℕ} → Read modules numbers ≡ Refused number place → ⊥
+read-not-refused e = let z : _≡_ {A = ℕ} 0 1 = cc in omega arith
+
+-- What an answer says of the file.
+pub record IsRead (file : File) (modules numbers : ℕ) : Type 0 where
+  pub ms : List Module
+  pub is : file ≡ holds ms
+  pub modulesAre : modules ≡ length ms
+  pub numbersAre : numbers ≡ length (fileNumbers ms)
+
+pub is-read : {file : File} {modules numbers : ℕ} → Read modules numbers ≡ readingOf file → IsRead file modules numbers
+is-read {file = holds ms} e = record { ms = ms; is = refl; modulesAre = cc; numbersAre = cc }
+is-read {file = fails number place} e = absurd (read-not-refused e)
+
+pub is-refused : {file : File} {number place : ℕ} → Refused number place ≡ readingOf file → file ≡ fails number place
+is-refused {file = holds ms} e = absurd (read-not-refused (sym e))
+is-refused {file = fails number place} e = cc
 
 -- The step that read the modules, with nothing behind it.
 record Step-of (bytes : List ℕ) (ms : List Module) : Type 0 where
@@ -33,14 +54,15 @@ step-of : (bytes : List ℕ) (ms : List Module) → read bytes ≡ holds ms → 
 unfolding read
 step-of bytes ms = split (leb (length bytes) mostBytes) refl
   where
-    at : leb (length bytes) mostBytes ≡ true → (s : Step (List Module)) → readModules 0 bytes ≡ s → atEnd s ≡ holds ms → Step-of bytes ms
+    at : leb (length bytes) mostBytes ≡ true → (s : Step (List Module)) → readModules 0 bytes ≡ s → atEnd s ≡ holds ms
+        → Step-of bytes ms
     at t (got ns q []) is e = let same : ns ≡ ms = cc in record { short = t; end = q; step = rw same at is }
-    at t (got ns q (b ∷ rest)) is e = let z : _≡_ {A = ℕ} 0 1 = cc in absurd (omega arith)
-    at t (refused k q) is e = let z : _≡_ {A = ℕ} 0 1 = cc in absurd (omega arith)
+    at t (got ns q (b ∷ rest)) is e = absurd (fails-not-holds e)
+    at t (refused k q) is e = absurd (fails-not-holds e)
 
     split : (t : Bool) → leb (length bytes) mostBytes ≡ t → cond t (atEnd (readModules 0 bytes)) (fails 1 0) ≡ holds ms → Step-of bytes ms
     split true t e = at t (readModules 0 bytes) refl e
-    split false t e = let z : _≡_ {A = ℕ} 0 1 = cc in absurd (omega arith)
+    split false t e = absurd (fails-not-holds e)
 
 -- All bytes are passed, and they hold the file's numbers.
 record Ended (bytes : List ℕ) (ms : List Module) : Type 0 where
@@ -58,7 +80,7 @@ all-passed bytes ms file = let s = step-of bytes ms file in at (s .end) (sound-m
         let left = sym (length-drop q bytes) ∙ ap length (sym (w .left) ∙ none) in
         let end : q ≡ length bytes = omega (arith, w .front .within) in
         record { front = rw end at (w .front); numbers = rw (end, same) at (w .numbers) }
-    at o ended e = let z : _≡_ {A = ℕ} 0 1 = cc in absurd (omega arith)
+    at o ended e = absurd (refused-not-got e)
 
 -- The place behind the count of modules, and where the modules begin from there.
 record Opened (bytes : List ℕ) (ms : List Module) : Type 0 where
@@ -73,7 +95,8 @@ opened bytes ms file =
     let short = s .short in
     at (s .end) (readCount mostModules 0 bytes) refl (sound-count mostModules .keeps bytes 0 (at-start bytes)) (s .step)
   where
-    at : (o : ℕ) (s : Step ℕ) → readCount mostModules 0 bytes ≡ s → Kept one bytes 0 s → onward (readMany readModule) s ≡ got ms o [] → Opened bytes ms
+    at : (o : ℕ) (s : Step ℕ) → readCount mostModules 0 bytes ≡ s → Kept one bytes 0 s
+        → onward (readMany readModule) s ≡ got ms o [] → Opened bytes ms
     at o (got n p rest) is (on w) e =
         let left = w .left in
         let modules : readMany readModule n p (drop p bytes) ≡ got ms o [] = rw left at e in
@@ -84,7 +107,7 @@ opened bytes ms file =
           numbers = rw count (w .numbers);
           places = rw offsets (placed bytes n p ms o [] (w .front) modules);
         }
-    at o (refused k q) is w e = let z : _≡_ {A = ℕ} 0 1 = cc in absurd (omega arith)
+    at o (refused k q) is w e = absurd (refused-not-got e)
 
 -- The numbers in front of a module: the count of modules, and the numbers of the modules in front.
 abbrev pub inFront : List Module → ℕ → List ℕ
@@ -137,6 +160,9 @@ pub record Held (bytes : List ℕ) (ms : List Module) (numbers starts offsets : 
   pub few : length (fileNumbers ms) ≤ length bytes
   pub small : All Small (fileNumbers ms)
 
+laid-front : (xs old : List ℕ) (i : ℕ) → i < length xs → getD (laid xs old) i 0 ≡ getD xs i 0
+laid-front xs old i h = List·getD-append xs (drop (length xs) old) 0 i h
+
 pub held : {bytes numbers numbers′ starts starts′ offsets offsets′ : List ℕ} {reading : Reading} {ms : List Module}
     → Bytes bytes → Decoded bytes numbers numbers′ starts starts′ offsets offsets′ reading → read bytes ≡ holds ms
     → Held bytes ms numbers′ starts′ offsets′
@@ -145,10 +171,10 @@ held {bytes} {numbers} {starts} {offsets} {ms} b d file =
       numbersAre = rw (d .numbersLaid, holds-numbers bytes ms file, take-append-seam);
       startsAre = λ i h.
           let l = starts-length bytes ms file in
-          rw (d .startsLaid, List·getD-append (startsOf bytes) (drop (length (startsOf bytes)) starts) 0 i (omega arith)) (start-at bytes ms file i h);
+          rw (d .startsLaid, laid-front (startsOf bytes) starts i (omega arith)) (start-at bytes ms file i h);
       offsetsAre = λ i h.
           let l = offsets-length bytes ms file in
-          rw (d .offsetsLaid, List·getD-append (offsetsOf bytes) (drop (length (offsetsOf bytes)) offsets) 0 i (omega arith)) (offset-at bytes ms file i h b);
+          rw (d .offsetsLaid, laid-front (offsetsOf bytes) offsets i (omega arith)) (offset-at bytes ms file i h b);
       few = holds-few bytes ms file;
       small = holds-small bytes ms file b;
     }

@@ -1,5 +1,5 @@
 -- Where the modules of a file that reads begin: behind the count and all modules in front.
-use Prim.Native.Nat.{ℕ, zero, suc, _≤_, _<_}
+use Prim.Native.Nat.{ℕ, zero, suc, _<_}
 use mathlib.Core.Path.{_≡_, refl, ap, sym, _∙_}
 use mathlib.Core.List.{List, [], _∷_, _++_, append-nil, append-assoc}
 use native.Mathlib.Omega.{arith}
@@ -7,6 +7,7 @@ use lib.ListN.{length, take, drop, getD}
 use Rattle.meaning.specs.Syntax.{Module}
 use Rattle.meaning.specs.Layout.{each, moduleNumbers}
 use Rattle.meaning.specs.Reading.{Step, got, refused, onward, bind, give, readMany, readModule}
+use Rattle.laws.specs.Reading.{refused-not-got}
 use Rattle.reader.specs.Numbers.{before}
 use Rattle.reader.specs.Places.{Front, Further}
 use Rattle.reader.specs.Sound.{Kept, on, ended, sound-module}
@@ -35,7 +36,7 @@ placed bytes (suc n) p ms q rest front e =
     more m o w (got ns k left) is later e =
         let same : ms ≡ m ∷ ns = cc in
         rw same (next front (w .numbers) (later o ns k left (w .front) is))
-    more m o w (refused k l) is later e = let z : _≡_ {A = ℕ} 0 1 = cc in absurd (omega arith)
+    more m o w (refused k l) is later e = absurd (refused-not-got e)
 
     first : {s : Step Module} → Kept moduleNumbers bytes p s → Later
         → onward (λ m. bind (readMany readModule n) (λ ms. give (m ∷ ms))) s ≡ got ms q rest
@@ -44,7 +45,7 @@ placed bytes (suc n) p ms q rest front e =
         let same = w .left in
         rw same
         (more m o (rw same at w) (readMany readModule n o (drop o bytes)) refl later (rw same at e))
-    first ended later e = let z : _≡_ {A = ℕ} 0 1 = cc in absurd (omega arith)
+    first ended later e = absurd (refused-not-got e)
 
 pub placed-length : {bytes : List ℕ} {p : ℕ} {ms : List Module} {places : List ℕ} → Placed bytes p ms places
     → length places ≡ length ms

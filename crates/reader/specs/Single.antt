@@ -1,19 +1,20 @@
 -- Reading one number from a place: where it gets to, and that a number that is refused leaves the numbers in front as they are.
-use Prim.Native.Nat.{ℕ, zero, suc, _+_, _*_, _-_, _≤_, _<_}
-use mathlib.Core.Path.{_≡_, refl, ap, sym, _∙_}
+use Prim.Native.Nat.{ℕ, zero, suc, _+_, _*_, _-_, _≤_}
+use mathlib.Core.Path.{_≡_, refl}
 use mathlib.Core.Bool.{Bool, true, false, cond, _||_}
 use mathlib.Core.List.{List, [], _∷_, _++_}
 use native.Mathlib.Omega.{arith}
 use native.Mathlib.Numerals.{add-one}
 use borrow.Author.Tests.{ltb-true, ltb-false, leb-false, eqb-false, le-ltb}
 use lib.Dec.{leb, ltb, eqb}
-use lib.ListN.{length, take, drop}
+use lib.ListN.{take, drop}
 use lib.Seq.{take-add}
 use Rattle.meaning.specs.Reading.{Step, got, refused, onward, readNumber, secondGroup, readCount}
-use Rattle.reader.specs.Numbers.{followed, atMost, numbersIn, before}
-use Rattle.reader.specs.Spelled.{Spells, none, short, long, numbersIn-spelled}
+use Rattle.reader.specs.Numbers.{followed, atMost, before}
+use Rattle.reader.specs.Spelled.{none, short, long, numbersIn-spelled}
 use Rattle.reader.specs.Places.{Front, Further, further}
 
+-- A number that reads is the next; a refusal passes none.
 abbrev pub Single : List ℕ → ℕ → Step ℕ → Type 0
 Single bytes p (got value q rest) = Further bytes p q (value ∷ []) rest
 Single bytes p (refused number q) = before bytes q ≡ before bytes p

@@ -1,12 +1,11 @@
 -- Each reader of a file goes from a place to a place: what it hands back is the numbers that it passed.
-use Prim.Native.Nat.{ℕ, zero, suc, _+_, _≤_}
+use Prim.Native.Nat.{ℕ, zero, suc}
 use mathlib.Core.Path.{_≡_, refl, ap, sym, subst, _∙_}
 use mathlib.Core.List.{List, [], _∷_, _++_, append-assoc, append-nil}
-use native.Mathlib.Omega.{arith}
-use lib.ListN.{length, drop, length-append}
-use Rattle.meaning.specs.Syntax.{Occurrence, Module}
+use lib.ListN.{length, drop}
 use Rattle.meaning.specs.Layout.{each, listNumbers, occurrenceNumbers, moduleNumbers, fileNumbers}
 use Rattle.meaning.specs.Reading.{Step, got, refused, Reader, onward, bind, give, readNumber, readCount, readMany, readNets, readOccurrence, readModule, readModules, mostNets, mostOccurrences, mostModules}
+use Rattle.laws.specs.Reading.{refused-not-got}
 use Rattle.reader.specs.Numbers.{before}
 use Rattle.reader.specs.Places.{Front, Further}
 use Rattle.reader.specs.Single.{Single, single-number, single-count}
@@ -92,12 +91,12 @@ many-length {A} r (suc n) p bytes xs q rest e = first (r p bytes) (many-length r
 
     more : (x : A) (s : Step (List A)) → Shorter s → onward (λ ys. give (x ∷ ys)) s ≡ got xs q rest → length xs ≡ suc n
     more x (got ys o left) ih e = let l = ih ys o left refl in let m : xs ≡ x ∷ ys = cc in rw (m, l)
-    more x (refused number place) ih e = let z : _≡_ {A = ℕ} 0 1 = cc in absurd (omega arith)
+    more x (refused number place) ih e = absurd (refused-not-got e)
 
     first : (s : Step A) → ((o : ℕ) (left : List ℕ) → Shorter (readMany r n o left))
         → onward (λ x. bind (readMany r n) (λ ys. give (x ∷ ys))) s ≡ got xs q rest → length xs ≡ suc n
     first (got x o left) ih e = more x (readMany r n o left) (ih o left) e
-    first (refused number place) ih e = let z : _≡_ {A = ℕ} 0 1 = cc in absurd (omega arith)
+    first (refused number place) ih e = absurd (refused-not-got e)
 
 -- A count, and as many things.
 pub sound-list : {A : Type 0} {f : A → List ℕ} {r : Reader A} (ceiling : ℕ) → Sound f r
@@ -106,14 +105,16 @@ sound-list {A} {f} {r} ceiling sound =
     record {
       keeps = λ bytes p front.
           after (readMany r) (sound-count ceiling) (here front)
-          (λ n q _ w. counted bytes p q n w (readMany r n q (drop q bytes)) refl (beyond (sound-many sound n) w));
+          (λ n q _ w. counted bytes p q n (readMany r n q (drop q bytes)) refl (beyond (sound-many sound n) w));
     }
   where
-    counted : (bytes : List ℕ) (o p n : ℕ) → Further bytes o p (n ∷ []) (drop p bytes)
-        → (s : Step (List A)) → readMany r n p (drop p bytes) ≡ s → Kept (λ xs. n ∷ each f xs) bytes o s → Kept (λ xs. length xs ∷ each f xs) bytes o s
-    counted bytes o p n w (got xs q rest) e (on v) =
-        let v′ : Further bytes o q (length xs ∷ each f xs) rest = rw (many-length r n p (drop p bytes) xs q rest e) v in on v′
-    counted bytes o p n w (refused number q) e ended = ended
+    counted : (bytes : List ℕ) (o p n : ℕ) (s : Step (List A)) → readMany r n p (drop p bytes) ≡ s
+        → Kept (λ xs. n ∷ each f xs) bytes o s → Kept (λ xs. length xs ∷ each f xs) bytes o s
+    counted bytes o p n (got xs q rest) e (on v) =
+        let count = many-length r n p (drop p bytes) xs q rest e in
+        let v′ : Further bytes o q (length xs ∷ each f xs) rest = rw count v in
+        on v′
+    counted bytes o p n (refused number q) e ended = ended
 
 each-one : (xs : List ℕ) → each one xs ≡ xs
 unfolding each

@@ -1,15 +1,14 @@
 -- The bytes that spell a list of numbers, each in one byte or two, and what greedy reading makes of them.
 use Prim.Native.Nat.{ℕ, zero, suc, _+_, _*_, _-_, _≤_, _<_}
-use mathlib.Core.Path.{_≡_, refl, ap, sym, _∙_}
-use mathlib.Core.Bool.{Bool, true, false, cond, _||_}
+use mathlib.Core.Path.{_≡_, ap, _∙_}
 use mathlib.Core.List.{List, [], _∷_, _++_, append-nil}
 use native.Mathlib.Omega.{arith}
 use borrow.Author.Tests.{lt-ltb, le-ltb, lt-leb, ne-eqb}
-use lib.Dec.{leb, ltb, eqb}
 use lib.ListN.{length, length-append}
-use Rattle.meaning.specs.Reading.{Step, got, refused, readNumber, secondGroup}
+use Rattle.meaning.specs.Reading.{got, readNumber, secondGroup}
 use Rattle.reader.specs.Numbers.{followed, atMost, numbersIn}
 
+-- A byte below 128 is a number by itself; one of 128 or more has a second behind it, which is 1 to 127.
 pub data Spells : List ℕ → List ℕ → Type 0 where
   none : Spells [] []
   short : {b : ℕ} {bytes numbers : List ℕ} → b < 128 → Spells bytes numbers → Spells (b ∷ bytes) (b ∷ numbers)

@@ -32,6 +32,7 @@ abbrev pub go : {A : Type 0} → List ℕ → Reader A → Way → Way
 go bytes r (On place filled) = wayOf bytes (r place (drop place bytes))
 go bytes r (Refused number place) = Refused number place
 
+-- Where a way leads.
 abbrev pub placeOf : Way → ℕ
 placeOf (On place filled) = place
 placeOf (Refused number place) = place

@@ -1,3 +1,4 @@
+-- `main` lends the first 65,535 bytes of its buffer, which has 65,536.
 use Prim.Native.Nat.{_≤_}
 use mathlib.Core.Path.{sym}
 use native.Mathlib.Omega.{arith}
@@ -6,13 +7,6 @@ use lib.Seq.{length-take-le}
 use borrow.Author.Needs.{needs}
 use Rattle.read_sizes.proofs.main.Statement.{statement}
 use Rattle.read_sizes.proofs.main.Tie as tie
-use Rattle.read_sizes.proofs.main.Reads as reads
-use Rattle.read_sizes.proofs.main.Lts as lts
-use Rattle.io.proofs.large_buffer.Reads as large-buffer-reads
-use Rattle.io.proofs.print_decimal.Reads as print-decimal-reads
-use Rattle.io.proofs.write_all.Reads as write-all-reads
-use Rattle.read_sizes.proofs.put_file.Reads as put-file-reads
-use Rattle.read_sizes.proofs.read.Reads as read-reads
 
 slice-aggregate-read : tie.Need-slice-aggregate-read
 slice-aggregate-read c = search needs

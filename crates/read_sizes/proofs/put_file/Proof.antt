@@ -1,13 +1,9 @@
+-- `put_file` keeps the list as long as it is, in both loops.
 use mathlib.Core.Path.{_≡_}
 use borrow.Author.Needs.{needs}
 use lib.ListN.{length}
 use Rattle.read_sizes.proofs.put_file.Statement.{statement}
 use Rattle.read_sizes.proofs.put_file.Tie as tie
-use Rattle.read_sizes.proofs.put_file.Reads as reads
-use Rattle.read_sizes.proofs.put_file.Lts as lts
-use Rattle.read_sizes.proofs.put.Reads as put-reads
-use Rattle.read_sizes.proofs.put_large.Reads as put-large-reads
-use Rattle.read_sizes.proofs.put_small.Reads as put-small-reads
 
 abbrev Inv-loop : tie.InvT-loop
 Inv-loop out₀ head at₀ large₀ out at large = length out ≡ length out₀

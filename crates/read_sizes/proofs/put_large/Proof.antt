@@ -1,11 +1,9 @@
+-- `put_large` keeps the list as long as it is.
 use mathlib.Core.Path.{_≡_}
 use borrow.Author.Needs.{needs}
 use lib.ListN.{length}
 use Rattle.read_sizes.proofs.put_large.Statement.{statement}
 use Rattle.read_sizes.proofs.put_large.Tie as tie
-use Rattle.read_sizes.proofs.put_large.Reads as reads
-use Rattle.read_sizes.proofs.put_large.Lts as lts
-use Rattle.read_sizes.proofs.put.Reads as put-reads
 
 abbrev Inv-loop : tie.InvT-loop
 Inv-loop at out₀ at₀ left₀ out at' left = length out ≡ length out₀

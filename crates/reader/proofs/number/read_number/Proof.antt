@@ -1,3 +1,4 @@
+-- `read_number` answers what `readNumber` says: each return cites the fact about the bytes that led there.
 use mathlib.Core.Logic.{⊎-elim}
 use mathlib.Core.Path.{ap, sym, _∙_}
 use native.Mathlib.Omega.{arith}
@@ -7,15 +8,14 @@ use Rattle.reader.proofs.Bytes.{no-byte, one-byte, cut-off, second-zero
 use borrow.Author.Needs.{needs}
 use Rattle.reader.proofs.number.read_number.Statement.{statement}
 use Rattle.reader.proofs.number.read_number.Tie as tie
-use Rattle.reader.proofs.number.read_number.Reads as reads
-use Rattle.reader.proofs.number.read_number.Lts as lts
-use Rattle.reader.proofs.number.refuse.Reads as refuse-reads
 
 refuse-requires : tie.Need-refuse-requires
 refuse-requires c κs = search needs
 
 returns : tie.Need-returns
-returns c = let a = c .before .before .before .args in c .refuse .ensures ∙ ap numberOf (sym (no-byte (a .bytes .now) (a .at) (c .before .if1 .taken)))
+returns c =
+    let a = c .before .before .before .args in
+    c .refuse .ensures ∙ ap numberOf (sym (no-byte (a .bytes .now) (a .at) (c .before .if1 .taken)))
 
 shared-slice-read-first : tie.Need-shared-slice-read-first
 shared-slice-read-first c = search needs
@@ -27,7 +27,9 @@ add-t10 : tie.Need-add-t10
 add-t10 c = search needs
 
 returns-2 : tie.Need-returns-2
-returns-2 c = let a = c .before .before .before .before .args in ap numberOf (sym (one-byte (a .bytes .now) (a .at) (c .before .before .if1 .left) (c .if2 .taken)))
+returns-2 c =
+    let a = c .before .before .before .before .args in
+    ap numberOf (sym (one-byte (a .bytes .now) (a .at) (c .before .before .if1 .left) (c .if2 .taken)))
 
 add-if3 : tie.Need-add-if3
 add-if3 c = search needs
@@ -39,7 +41,11 @@ refuse-requires-2 : tie.Need-refuse-requires-2
 refuse-requires-2 c κs = search needs
 
 returns-3 : tie.Need-returns-3
-returns-3 c = let a = c .before .before .before .before .before .before .args in c .refuse2 .ensures ∙ ap numberOf (sym (cut-off (a .bytes .now) (a .at) (c .before .before .before .before .if1 .left) (c .before .before .if2 .left) (c .before .if3 .taken)))
+returns-3 c =
+    let a = c .before .before .before .before .before .before .args in
+    let some = c .before .before .before .before .if1 .left in
+    let high = c .before .before .if2 .left in
+    c .refuse2 .ensures ∙ ap numberOf (sym (cut-off (a .bytes .now) (a .at) some high (c .before .if3 .taken)))
 
 add-second : tie.Need-add-second
 add-second c = search needs
@@ -53,18 +59,20 @@ refuse-requires-3 c κs = search needs
 returns-4 : tie.Need-returns-4
 returns-4 c =
     let a = c .before .before .before .before .before .before .before .before .args in
-    let h = c .before .before .before .if3 .left in
-    let f = c .before .before .before .before .if2 .left in
+    let two = c .before .before .before .if3 .left in
+    let high = c .before .before .before .before .if2 .left in
     c .refuse3 .ensures
     ∙ ap numberOf
     (sym
     (⊎-elim
-    (λ w. second-zero (a .bytes .now) (a .at) h f (w .taken))
-    (λ w. second-high (a .bytes .now) (a .at) h f (w .0 .left) (leb-true _ _ (w .1 .taken)))
+    (λ w. second-zero (a .bytes .now) (a .at) two high (w .taken))
+    (λ w. second-high (a .bytes .now) (a .at) two high (w .0 .left) (leb-true _ _ (w .1 .taken)))
     (c .before .if4 .came)))
 
 cast-t16 : tie.Need-cast-t16
-cast-t16 c = let a = c .before .before .before .before .before .before .before .before .args in omega (arith, c .before .before .before .before .before .before .before .shared-slice-known .given (a .at))
+cast-t16 c =
+    let start : tie.After-shared-slice-known = c .before .before .before .before .before .before .before in
+    omega (arith, start .shared-slice-known .given (start .before .args .at))
 
 cast-t17 : tie.Need-cast-t17
 cast-t17 c = search needs
@@ -73,7 +81,9 @@ mul-t18 : tie.Need-mul-t18
 mul-t18 c = omega (arith, leb-false)
 
 add-t19 : tie.Need-add-t19
-add-t19 c = let a = c .before .before .before .before .before .before .before .before .args in omega (arith, leb-false, c .before .before .before .before .before .before .before .shared-slice-known .given (a .at))
+add-t19 c =
+    let start : tie.After-shared-slice-known = c .before .before .before .before .before .before .before in
+    omega (arith, leb-false, start .shared-slice-known .given (start .before .args .at))
 
 add-t11 : tie.Need-add-t11
 add-t11 c = search needs
@@ -81,9 +91,9 @@ add-t11 c = search needs
 returns-5 : tie.Need-returns-5
 returns-5 c =
     let a = c .before .before .before .before .before .before .before .before .args in
-    ap numberOf
-    (sym
-    (second-good (a .bytes .now) (a .at) (c .before .before .before .if3 .left) (c .before .before .before .before .if2 .left) (c .before .if4 .left) (leb-false _ _ (c .if5 .left))))
+    let two = c .before .before .before .if3 .left in
+    let high = c .before .before .before .before .if2 .left in
+    ap numberOf (sym (second-good (a .bytes .now) (a .at) two high (c .before .if4 .left) (leb-false _ _ (c .if5 .left))))
 
 pub read-number-spec : {M : Type 1} → statement M
 read-number-spec =

@@ -1,4 +1,5 @@
-use Rattle.meaning.specs.Reading.{readNumber, readNets}
+-- `keep_module` takes the steps of a number, nets, nets and a list of occurrences, which go the way of a module.
+use Rattle.meaning.specs.Reading.{readNets}
 use Rattle.reader.specs.Sound.{sound-number, sound-nets}
 use Rattle.reader.proofs.Alike.{skip, alike-module}
 use Rattle.reader.specs.Steps.{readBody}
@@ -6,42 +7,46 @@ use Rattle.reader.proofs.Taken.{stands-next, took-skip, took-alike}
 use borrow.Author.Needs.{needs}
 use Rattle.reader.proofs.parts.keep_module.Statement.{statement}
 use Rattle.reader.proofs.parts.keep_module.Tie as tie
-use Rattle.reader.proofs.parts.keep_module.Reads as reads
-use Rattle.reader.proofs.parts.keep_module.Lts as lts
-use Rattle.reader.proofs.parts.keep_body.Reads as keep-body-reads
-use Rattle.reader.proofs.parts.keep_nets.Reads as keep-nets-reads
-use Rattle.reader.proofs.way.keep_number.Reads as keep-number-reads
 
 keep-number-requires : tie.Need-keep-number-requires
 keep-number-requires c κs = search needs
 
 keep-nets-requires : tie.Need-keep-nets-requires
-keep-nets-requires c κs = stands-next sound-number (c .before .before .before .before .before .before .before .pre) (c .before .before .before .keep-number .ensures)
+keep-nets-requires c κs =
+    let number : tie.After-keep-number = c .before .before .before in
+    stands-next sound-number (number .before .before .before .before .pre) (number .keep-number .ensures)
 
 keep-nets-requires-2 : tie.Need-keep-nets-requires-2
 keep-nets-requires-2 c κs =
-    let named = stands-next sound-number (c .before .before .before .before .before .before .before .before .before .before .before .pre) (c .before .before .before .before .before .before .before .keep-number .ensures) in
-    stands-next sound-nets named (c .before .before .before .keep-nets .ensures)
+    let inputs : tie.After-keep-nets = c .before .before .before in
+    let number : tie.After-keep-number = inputs .before .before .before .before in
+    let named = stands-next sound-number (number .before .before .before .before .pre) (number .keep-number .ensures) in
+    stands-next sound-nets named (inputs .keep-nets .ensures)
 
 keep-body-requires : tie.Need-keep-body-requires
 keep-body-requires c κs =
-    let named = stands-next sound-number (c .before .before .before .before .before .before .before .before .before .before .before .before .before .before .before .pre) (c .before .before .before .before .before .before .before .before .before .before .before .keep-number .ensures) in
-    let inputs = stands-next sound-nets named (c .before .before .before .before .before .before .before .keep-nets .ensures) in
-    stands-next sound-nets inputs (c .before .before .before .keep-nets2 .ensures)
+    let outputs : tie.After-keep-nets2 = c .before .before .before in
+    let inputs : tie.After-keep-nets = outputs .before .before .before .before in
+    let number : tie.After-keep-number = inputs .before .before .before .before in
+    let named = stands-next sound-number (number .before .before .before .before .pre) (number .keep-number .ensures) in
+    stands-next sound-nets (stands-next sound-nets named (inputs .keep-nets .ensures)) (outputs .keep-nets2 .ensures)
 
 same-length : tie.Need-same-length
 same-length c = search needs
 
 returns : tie.Need-returns
 returns c =
-    let stands = c .before .before .before .before .before .before .before .before .before .before .before .before .before .before .before .before .before .before .pre in
-    let number = c .before .before .before .before .before .before .before .before .before .before .before .before .before .before .keep-number .ensures in
-    let named = stands-next sound-number stands number in
-    let inputs = c .before .before .before .before .before .before .before .before .before .before .keep-nets .ensures in
+    let body : tie.After-keep-body = c .before .before in
+    let outputs : tie.After-keep-nets2 = body .before .before .before .before in
+    let inputs : tie.After-keep-nets = outputs .before .before .before .before in
+    let number : tie.After-keep-number = inputs .before .before .before .before in
+    let stands = number .before .before .before .before .pre in
+    let named = stands-next sound-number stands (number .keep-number .ensures) in
+    let behind = stands-next sound-nets named (inputs .keep-nets .ensures) in
     took-alike alike-module
-    (took-skip (skip readNets (skip readNets readBody)) sound-number stands number
-    (took-skip (skip readNets readBody) sound-nets named inputs
-    (took-skip readBody sound-nets (stands-next sound-nets named inputs) (c .before .before .before .before .before .before .keep-nets2 .ensures) (c .before .before .keep-body .ensures))))
+    (took-skip (skip readNets (skip readNets readBody)) sound-number stands (number .keep-number .ensures)
+    (took-skip (skip readNets readBody) sound-nets named (inputs .keep-nets .ensures)
+    (took-skip readBody sound-nets behind (outputs .keep-nets2 .ensures) (body .keep-body .ensures))))
 
 pub keep-module-spec : {M : Type 1} → statement M
 keep-module-spec =

@@ -1,12 +1,10 @@
+-- `keep_number` takes the step of a number, which is that of a count at most 16,383.
 use Rattle.reader.specs.Exact.{bytes-all}
 use Rattle.reader.proofs.Largest.{go-largest}
 use Rattle.reader.proofs.Taken.{took-due}
 use borrow.Author.Needs.{needs}
 use Rattle.reader.proofs.way.keep_number.Statement.{statement}
 use Rattle.reader.proofs.way.keep_number.Tie as tie
-use Rattle.reader.proofs.way.keep_number.Reads as reads
-use Rattle.reader.proofs.way.keep_number.Lts as lts
-use Rattle.reader.proofs.way.keep_count.Reads as keep-count-reads
 
 keep-count-requires : tie.Need-keep-count-requires
 keep-count-requires c κs = search needs
