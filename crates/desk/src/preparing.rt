@@ -50,3 +50,39 @@ fn check_numbers(
         },
     }
 }
+// Reads a file, checks it and measures its modules.
+pub fn prepare(
+    file: &[u8],
+    numbers: &mut [u16],
+    starts: &mut [usize],
+    offsets: &mut [usize],
+    first: &mut [u16],
+    slots: &mut [u32],
+    marks: &mut [u32],
+    image: &mut [u16],
+    nets: &mut [usize],
+    sizes: &mut [u32],
+    rooms: &mut [u32],
+) -> Prepared
+    requires { ⌜ Space (now file) (now numbers) (now starts) (now offsets) (now first) (now slots) (now marks) (now image) (now nets) (now sizes) (now rooms) ⌝ }
+    ensures { λ r. ⌜ Prepares r (now (file .entry)) (now (numbers .exit)) (now (starts .exit)) (now (image .exit)) (now (nets .exit)) (now (sizes .exit)) (now (rooms .exit)) ⌝ }
+{
+    match reader::read(file, numbers, starts, offsets) {
+        Reading::Refused { number, place } => Prepared::Refused { number, place },
+        Reading::Read {
+            modules,
+            numbers: count,
+        } => check_numbers(
+            &numbers[..count],
+            starts,
+            modules,
+            first,
+            slots,
+            marks,
+            &mut image[..count],
+            nets,
+            sizes,
+            rooms,
+        ),
+    }
+}
