@@ -1,0 +1,2 @@
+-- Facts that the proofs of this crate cite.
+pub mod Counts

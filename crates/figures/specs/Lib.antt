@@ -1,0 +1,3 @@
+-- What counting on the image asks and answers.
+pub mod Places
+pub mod Tallies

@@ -1,0 +1,19 @@
+-- Tallies added kind by kind.
+use Prim.Native.Nat.{ℕ, _+_, _<_, _^_}
+use mathlib.Core.Path.{_≡_}
+use mathlib.Core.Bool.{cond}
+use mathlib.Core.List.{List}
+use lib.Dec.{eqb}
+use lib.ListN.{length, getD}
+
+-- One gate in the tally of its kind.
+abbrev pub oneOf : (gate kind : ℕ) → ℕ
+oneOf gate kind = cond (eqb gate kind) 1 0
+
+-- Each count can hold so many more.
+pub record Addable (counts : List ℕ) (more : ℕ → ℕ) : Type 0 where
+  pub fits : (kind : ℕ) → kind < 16 → getD counts kind 0 + more kind < 2 ^ 32
+
+-- Each count is so many more.
+pub record Added (counts : List ℕ) (more : ℕ → ℕ) (counts′ : List ℕ) : Type 0 where
+  pub sum : (kind : ℕ) → kind < 16 → getD counts′ kind 0 ≡ getD counts kind 0 + more kind
