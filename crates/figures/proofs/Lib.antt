@@ -1,2 +1,5 @@
 -- Facts that the proofs of this crate cite.
 pub mod Counts
+pub mod Walks
+pub mod Beyond
+pub mod Counting

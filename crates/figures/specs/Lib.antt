@@ -1,3 +1,4 @@
 -- What counting on the image asks and answers.
+pub mod Scene
 pub mod Places
 pub mod Tallies

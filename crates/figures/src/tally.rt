@@ -1,10 +1,10 @@
 // The tally of a module: how many gates of each kind it reaches.
 use crate::places::To;
 ghost use mathlib.Core.Path.{_≡_};
-ghost use Prim.Native.Nat.{_<_};
+ghost use Prim.Native.Nat.{_+_, _<_};
 ghost use lib.ListN.{replicate, getD};
 ghost use Rattle.meaning.specs.Figures.{tally};
-ghost use Rattle.figures.specs.Tallies.{oneOf, Addable, Added};
+ghost use Rattle.figures.specs.Tallies.{oneOf, Addable, Added, Countable};
 
 // A record of sixteen gate counts, one a kind.
 pub struct Tally {
@@ -38,4 +38,31 @@ impl Tally {
         }
         self
     }
+}
+
+// The tally of the module at position k: a gate counts for itself, and a module adds its tally each time it is reached. The work is
+// bounded by the expanded size.
+pub fn tally_module(image: &[u16], starts: &[usize], k: usize) -> Tally
+    requires { ⌜ Countable (now image) (now starts) k ⌝ }
+    ensures { λ r. ⌜ ((s : Countable (now (image .entry)) (now (starts .entry)) k) → r .counts ≡ tally (s .rs) (16 + k)) ⌝ }
+{
+    let body = crate::places::body_at(image, starts[k]);
+    let mut at = body.at;
+    let mut left = body.count;
+    let mut tally = Tally::nothing();
+    while 0 < left {
+        let place = crate::places::occurrence_at(image, at);
+        at = place.end;
+        left -= 1;
+        let to = place.to;
+        match to {
+            To::Gate(kind) => {
+                tally = tally.with_gate(kind);
+            }
+            To::Module(j) => {
+                tally = tally.with_tally(tally_module(image, starts, j));
+            }
+        }
+    }
+    tally
 }
