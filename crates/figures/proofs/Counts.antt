@@ -4,23 +4,32 @@ use mathlib.Core.Path.{_≡_, refl, sym, ap, _∙_}
 use mathlib.Core.Bool.{Bool, true, false, cond}
 use mathlib.Core.List.{List}
 use native.Mathlib.Omega.{arith}
-use borrow.Author.Tests.{eqb-true, eqb-false}
+use borrow.Author.Tests.{eqb-true, eqb-false, eq-eqb, ne-eqb}
 use lib.Dec.{eqb}
 use lib.ListN.{length, getD, set, length-set}
 use lib.Seq.{getD-set-same, getD-set-other}
 use Rattle.figures.specs.Tallies.{oneOf, Added}
 
-pub one-more : (counts : List ℕ) (kind : ℕ) → kind < length counts → Added counts (oneOf kind) (set counts kind (getD counts kind 0 + 1))
-one-more counts kind h = record { sum = λ other less. go other (eqb kind other) refl }
+-- One entry made larger.
+pub entry-more :
+    (l : List ℕ) (at more i : ℕ) → at < length l → getD (set l at (getD l at 0 + more)) i 0 ≡ getD l i 0 + cond (eqb i at) more 0
+entry-more l at more i inside = go (eqb i at) refl
   where
-    go : (other : ℕ) (b : Bool) → eqb kind other ≡ b → getD (set counts kind (getD counts kind 0 + 1)) other 0 ≡ getD counts other 0 + cond b 1 0
-    go other true e =
-        let same = eqb-true kind other e in
-        ap (λ (i : ℕ). getD (set counts kind (getD counts kind 0 + 1)) i 0) (sym same)
-        ∙ getD-set-same counts kind (getD counts kind 0 + 1) 0 h
-        ∙ ap (λ (i : ℕ). getD counts i 0 + 1) same
-    go other false e =
-        getD-set-other counts kind other (getD counts kind 0 + 1) 0 (λ same. eqb-false kind other e (sym same)) ∙ omega arith
+    go : (b : Bool) → eqb i at ≡ b → getD (set l at (getD l at 0 + more)) i 0 ≡ getD l i 0 + cond b more 0
+    go true e = rw (eqb-true i at e) (getD-set-same l at (getD l at 0 + more) 0 inside)
+    go false e = getD-set-other l at i (getD l at 0 + more) 0 (eqb-false i at e) ∙ omega arith
+
+eqb-turned : (a b : ℕ) → eqb a b ≡ eqb b a
+eqb-turned a b = go (eqb b a) refl
+  where
+    go : (t : Bool) → eqb b a ≡ t → eqb a b ≡ t
+    go true e = eq-eqb a b (sym (eqb-true b a e))
+    go false e = ne-eqb a b (λ same. eqb-false b a e (sym same))
+
+-- One gate more of a kind.
+pub one-more : (counts : List ℕ) (gate : ℕ) → gate < length counts → Added counts (oneOf gate) (set counts gate (getD counts gate 0 + 1))
+one-more counts gate inside =
+    record { sum = λ kind less. rw (eqb-turned gate kind) (entry-more counts gate 1 kind inside) }
 
 -- The counts of the first kinds are so many more, the others as they were.
 pub record Partly (counts : List ℕ) (more : ℕ → ℕ) (first : ℕ) (counts′ : List ℕ) : Type 0 where
@@ -39,22 +48,20 @@ pub partly-more :
 partly-more {counts} {more} {i} {counts′} h p =
     record {
       long = simp length-set (p .long);
-      passed = λ kind less. go kind less (eqb kind i) refl;
+      passed = λ kind less. entry-more counts′ i (more i) kind (omega (arith, p .long)) ∙ go kind less (eqb kind i) refl;
       ahead = λ kind further. getD-set-other counts′ i kind _ 0 (λ same. omega arith) ∙ p .ahead kind (omega arith);
     }
   where
     go :
-        (kind : ℕ) → kind < i + 1 → (b : Bool) → eqb kind i ≡ b
-        → getD (set counts′ i (getD counts′ i 0 + more i)) kind 0 ≡ getD counts kind 0 + more kind
-    go kind less true e =
-        let same = eqb-true kind i e in
-        ap (λ (j : ℕ). getD (set counts′ i (getD counts′ i 0 + more i)) j 0) same
-        ∙ getD-set-same counts′ i (getD counts′ i 0 + more i) 0 (omega (arith, p .long))
-        ∙ ap (λ (n : ℕ). n + more i) (p .ahead i (omega arith))
-        ∙ ap (λ (j : ℕ). getD counts j 0 + more j) (sym same)
+        (kind : ℕ)
+        → kind < i + 1
+        → (b : Bool)
+        → eqb kind i ≡ b
+        → getD counts′ kind 0 + cond b (more i) 0 ≡ getD counts kind 0 + more kind
+    go kind less true e = rw (eqb-true kind i e) (ap (λ (n : ℕ). n + more i) (p .ahead i (omega arith)))
     go kind less false e =
         let other = eqb-false kind i e in
-        getD-set-other counts′ i kind _ 0 other ∙ p .passed kind (omega arith)
+        omega (arith, p .passed kind (omega arith))
 
 pub partly-all :
     {counts : List ℕ} {more : ℕ → ℕ} {i : ℕ} {counts′ : List ℕ} → 16 ≤ i → Partly counts more i counts′ → Added counts more counts′

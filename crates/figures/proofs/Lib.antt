@@ -3,3 +3,4 @@ pub mod Counts
 pub mod Walks
 pub mod Beyond
 pub mod Counting
+pub mod Placing

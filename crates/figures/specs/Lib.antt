@@ -2,3 +2,4 @@
 pub mod Scene
 pub mod Places
 pub mod Tallies
+pub mod Loads
