@@ -19,10 +19,11 @@ use Rattle.laws.specs.Bounds.{weight-size}
 use Rattle.image.specs.Stands.{Stands}
 use Rattle.image.specs.Stepping.{frame-at}
 use Rattle.image.specs.Searching.{gateWeight-search, expandedSize-search}
-use Rattle.figures.specs.Places.{IsBody, OccurrenceThere, RefersTo, IsPlace}
+use Rattle.figures.specs.Places.{IsBody, RefersTo, IsPlace}
 use Rattle.figures.specs.Tallies.{oneOf, Addable, Added, Countable}
 use Rattle.figures.specs.declared.places.To.{To}
 use Rattle.figures.specs.declared.places.To.the-variants.{Gate, Module as AModule}
+use Rattle.figures.proofs.Entries.{mapped}
 use Rattle.figures.proofs.Walks.{Ahead, all-ahead, Turn, turn}
 use Rattle.figures.proofs.Beyond.{says-here, beyond, says-beyond}
 
@@ -43,14 +44,6 @@ pub record Counting {image starts : List ℕ} {k : ℕ} (s : Countable image sta
   pub long : length counts ≡ 16
 
 -- The count of a kind stands at its place in the tally.
-mapped : (f : ℕ → ℕ) (first count i : ℕ) → i < count → getD (map f (upFrom first count)) i 0 ≡ f (first + i)
-unfolding upFrom
-mapped f first zero i less = absurd (omega arith)
-mapped f first (suc n) zero less = ap f (omega arith)
-mapped f first (suc n) (suc i) less =
-    let further : suc first + i ≡ first + suc i = omega arith in
-    mapped f (suc first) n i (omega arith) ∙ ap f further
-
 count-of-kind : (rs : List Module) (number kind : ℕ) → kind < 16 → getD (tally rs number) kind 0 ≡ kindCount kind rs number
 unfolding tally upFrom
 count-of-kind rs number kind less =
@@ -97,11 +90,7 @@ module _ {image starts : List ℕ} {k : ℕ} (s : Countable image starts k) wher
     pub next :
         {left′ : ℕ} {counts′ : List ℕ} → left′ + 1 ≡ left → Added counts more counts′ → length counts′ ≡ 16 → Counting s behind left′ counts′
 
-  -- An occurrence stands ahead.
-  pub occurrence-there : {at left : ℕ} {counts : List ℕ} → Counting s at left counts → 0 < left → OccurrenceThere image at
-  occurrence-there c some = let t = turn some (c .ahead) in record { o = t .o; stands = t .stands }
-
-  -- One turn: it is read.
+  -- One turn: the occurrence that stands ahead is read.
   module _
       {at left : ℕ} {counts : List ℕ} (c : Counting s at left counts) (some : 0 < left) {to : To} {from behind : ℕ}
       (read : (o : Occurrence) → Stands image at (occurrenceNumbers o) → IsPlace image at o to from behind) where

@@ -1,4 +1,4 @@
--- Counts stored in a list: one of them made larger, and all of them one after the other.
+-- Counts made larger: one of them, and all of them one after the other.
 use Prim.Native.Nat.{ℕ, _+_, _≤_, _<_}
 use mathlib.Core.Path.{_≡_, refl, sym, ap, _∙_}
 use mathlib.Core.Bool.{Bool, true, false, cond}
@@ -7,17 +7,9 @@ use native.Mathlib.Omega.{arith}
 use borrow.Author.Tests.{eqb-true, eqb-false, eq-eqb, ne-eqb}
 use lib.Dec.{eqb}
 use lib.ListN.{length, getD, set, length-set}
-use lib.Seq.{getD-set-same, getD-set-other}
+use lib.Seq.{getD-set-other}
 use Rattle.figures.specs.Tallies.{oneOf, Added}
-
--- One entry made larger.
-pub entry-more :
-    (l : List ℕ) (at more i : ℕ) → at < length l → getD (set l at (getD l at 0 + more)) i 0 ≡ getD l i 0 + cond (eqb i at) more 0
-entry-more l at more i inside = go (eqb i at) refl
-  where
-    go : (b : Bool) → eqb i at ≡ b → getD (set l at (getD l at 0 + more)) i 0 ≡ getD l i 0 + cond b more 0
-    go true e = rw (eqb-true i at e) (getD-set-same l at (getD l at 0 + more) 0 inside)
-    go false e = getD-set-other l at i (getD l at 0 + more) 0 (eqb-false i at e) ∙ omega arith
+use Rattle.figures.proofs.Entries.{entry-more}
 
 eqb-turned : (a b : ℕ) → eqb a b ≡ eqb b a
 eqb-turned a b = go (eqb b a) refl

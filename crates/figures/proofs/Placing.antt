@@ -12,7 +12,7 @@ use lib.ListN.{length, getD, take, drop, set, replicate, length-set, length-drop
 use lib.Seq.{slice, slice-empty, slice-cons, drop-cons, drop-set-lt, getD-take, getD-drop, length-take-le}
 use Rattle.meaning.specs.Figures.{placesLoad}
 use Rattle.figures.specs.Loads.{placeLoads, Placed, LoadsAdded}
-use Rattle.figures.proofs.Counts.{entry-more}
+use Rattle.figures.proofs.Entries.{entry-more}
 
 -- What so many places add, one by one.
 module _ (frame count : ℕ) (before : List ℕ) where

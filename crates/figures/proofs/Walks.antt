@@ -12,7 +12,7 @@ use Rattle.laws.specs.WellFormed.{Reference}
 use Rattle.image.specs.Stands.{Stands, stands-front, stands-skip}
 use Rattle.image.specs.Pieces.{moved}
 use Rattle.image.specs.Frames.{Filled, Framed, done, step, FrameOk}
-use Rattle.figures.specs.Places.{IsBody}
+use Rattle.figures.specs.Places.{IsBody, OccurrenceThere}
 
 pub record Ahead (image : List ℕ) (m : Module) (later : List Module) (at left : ℕ) (rest : List Occurrence) : Type 0 where
   pub filled : ℕ
@@ -75,3 +75,10 @@ turn {image} {m} {later} {at} {left} h ahead = go (ahead .framed) (ahead .frame)
                 many = omega arith;
               };
         }
+
+pub occurrence-there :
+    {image : List ℕ} {m : Module} {later : List Module} {at left : ℕ} {rest : List Occurrence}
+    → 0 < left
+    → Ahead image m later at left rest
+    → OccurrenceThere image at
+occurrence-there some ahead = let t = turn some ahead in record { o = t .o; stands = t .stands }

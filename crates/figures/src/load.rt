@@ -58,3 +58,62 @@ fn add_loads(
         scratch[slot] += load;
     }
 }
+
+// The loads of the nets of the module at position k, left in its frame, and the largest of them and of those of the modules reached.
+// The work is bounded by the expanded size.
+fn load_module(
+    image: &[u16],
+    starts: &[usize],
+    nets: &[usize],
+    k: usize,
+    scratch: &mut [u32],
+) -> u32
+    requires { ⌜ Loadable (now image) (now starts) (now nets) k (length (now scratch)) ⌝ }
+    ensures { λ r. ⌜ ((s : Loadable (now (image .entry)) (now (starts .entry)) (now (nets .entry)) k (length (now (scratch .entry)))) → Loaded (s .rs) (s .scene .m) (s .scene .later) k r (now (scratch .entry)) (now (scratch .exit))) ⌝ }
+{
+    let frame = nets[k];
+    clear(scratch, frame);
+    let body = crate::places::body_at(image, starts[k]);
+    let mut at = body.at;
+    let mut left = body.count;
+    let mut most = 0;
+    while 0 < left {
+        let place = crate::places::occurrence_at(image, at);
+        let from = place.from;
+        let end = place.end;
+        at = end;
+        left -= 1;
+        let to = place.to;
+        match to {
+            To::Gate(_) => {
+                add_loads(image, from, end, false, frame, scratch);
+            }
+            To::Module(j) => {
+                let inner = load_module(image, starts, nets, j, &mut scratch[frame..]);
+                most = larger(most, inner);
+                add_loads(image, from, end, true, frame, scratch);
+            }
+        }
+    }
+    larger(largest(scratch, frame), most)
+}
+
+// The largest load of the module at position k, over its own nets and those of the modules reached. The first `room` entries of scratch
+// are 0 afterwards.
+pub fn largest_load(
+    image: &[u16],
+    starts: &[usize],
+    nets: &[usize],
+    k: usize,
+    room: usize,
+    scratch: &mut [u32],
+) -> u32
+    requires { ⌜ Loadable (now image) (now starts) (now nets) k room ⌝ }
+    requires { ⌜ room ≤ length (now scratch) ⌝ }
+    ensures most { λ r. ⌜ ((s : Loadable (now (image .entry)) (now (starts .entry)) (now (nets .entry)) k room) → r ≡ largestLoad (s .rs) (16 + k)) ⌝ }
+    ensures cleared { λ _. ⌜ now (scratch .exit) ≡ replicate room 0 ++ drop room (now (scratch .entry)) ⌝ }
+{
+    let most = load_module(image, starts, nets, k, scratch);
+    clear(scratch, room);
+    most
+}

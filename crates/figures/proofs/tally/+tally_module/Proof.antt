@@ -7,7 +7,8 @@ use borrow.Fn.Kinds.{In}
 use borrow.Fn.PlainCycle.{Measures, is, falls, and}
 use lib.ListN.{length}
 use Rattle.figures.specs.Tallies.{Countable}
-use Rattle.figures.proofs.Counting.{Counting, none-counted, occurrence-there, at-gate, at-module, all-counted}
+use Rattle.figures.proofs.Counting.{Counting, none-counted, at-gate, at-module, all-counted}
+use Rattle.figures.proofs.Walks.{occurrence-there}
 use Rattle.figures.proofs.Beyond.{scene-inside, module-stands, module-there}
 use Rattle.figures.proofs.tally.tally_module.Reads as reads
 use Rattle.figures.proofs.tally.tally_module.Kinds as kinds
@@ -61,7 +62,8 @@ pub +tally-module-spec : {M : Type 1} → statement M
     (λ c κs. module-there (c .before .before .before .pre .1 .scene))
     (λ c κs. tt)
     (λ c s. none-counted s (c .before .body-at .ensures _ (module-stands (s .scene))) (c .nothing .ensures))
-    (λ c κs. occurrence-there _ (c .before .loop .inv (c .before .before .before .before .before .before .before .pre .1)) (c .loop-test .taken))
+    (λ c κs.
+    occurrence-there (c .loop-test .taken) (c .before .loop .inv (c .before .before .before .before .before .before .before .pre .1) .ahead))
     (λ c. c .before .loop-test .taken)
     (λ c. search needs)
     (λ c κs.
