@@ -88,7 +88,7 @@ module _ {image starts : List ℕ} {k : ℕ} (s : Countable image starts k) wher
   pub record Step (behind left : ℕ) (counts : List ℕ) (more : ℕ → ℕ) : Type 0 where
     pub addable : Addable counts more
     pub next :
-        {left′ : ℕ} {counts′ : List ℕ} → left′ + 1 ≡ left → Added counts more counts′ → length counts′ ≡ 16 → Counting s behind left′ counts′
+        {left′ : ℕ} {counts′ : List ℕ} → left′ + 1 ≡ left → Added counts more counts′ → Counting s behind left′ counts′
 
   -- One turn: the occurrence that stands ahead is read.
   module _
@@ -105,13 +105,13 @@ module _ {image starts : List ℕ} {k : ℕ} (s : Countable image starts k) wher
     step more share =
         record {
           addable = record { fits = λ kind less. omega (arith, split kind less, within kind) };
-          next = λ fewer added long.
+          next = λ fewer added.
               record {
                 rest = here .os;
                 ahead = here .next behind _ (place .next) fewer;
                 counted = λ kind less. omega (arith, split kind less, added .sum kind less);
                 sized = omega (arith, rw (here .is) at (c .sized));
-                long = long;
+                long = added .long;
               };
         }
       where

@@ -19,9 +19,16 @@ eqb-turned a b = go (eqb b a) refl
     go false e = ne-eqb a b (λ same. eqb-false b a e (sym same))
 
 -- One gate more of a kind.
-pub one-more : (counts : List ℕ) (gate : ℕ) → gate < length counts → Added counts (oneOf gate) (set counts gate (getD counts gate 0 + 1))
-one-more counts gate inside =
-    record { sum = λ kind less. rw (eqb-turned gate kind) (entry-more counts gate 1 kind inside) }
+pub one-more :
+    (counts : List ℕ) (gate : ℕ)
+    → length counts ≡ 16
+    → gate < 16
+    → Added counts (oneOf gate) (set counts gate (getD counts gate 0 + 1))
+one-more counts gate long below =
+    record {
+      long = simp length-set long;
+      sum = λ kind less. rw (eqb-turned gate kind) (entry-more counts gate 1 kind (omega arith));
+    }
 
 -- The counts of the first kinds are so many more, the others as they were.
 pub record Partly (counts : List ℕ) (more : ℕ → ℕ) (first : ℕ) (counts′ : List ℕ) : Type 0 where
@@ -57,4 +64,4 @@ partly-more {counts} {more} {i} {counts′} h p =
 
 pub partly-all :
     {counts : List ℕ} {more : ℕ → ℕ} {i : ℕ} {counts′ : List ℕ} → 16 ≤ i → Partly counts more i counts′ → Added counts more counts′
-partly-all h p = record { sum = λ kind less. p .passed kind (omega arith) }
+partly-all h p = record { long = p .long; sum = λ kind less. p .passed kind (omega arith) }

@@ -3,3 +3,5 @@ pub mod Scene
 pub mod Places
 pub mod Tallies
 pub mod Loads
+pub mod Images
+pub mod Answers

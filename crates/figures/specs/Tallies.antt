@@ -4,7 +4,7 @@ use mathlib.Core.Path.{_≡_}
 use mathlib.Core.Bool.{cond}
 use mathlib.Core.List.{List}
 use lib.Dec.{eqb}
-use lib.ListN.{getD}
+use lib.ListN.{length, getD}
 use Rattle.meaning.specs.Syntax.{Module}
 use Rattle.meaning.specs.Limits.{expandedSize, mostSize}
 use Rattle.figures.specs.Scene.{Scene}
@@ -17,8 +17,9 @@ oneOf gate kind = cond (eqb gate kind) 1 0
 pub record Addable (counts : List ℕ) (more : ℕ → ℕ) : Type 0 where
   pub fits : (kind : ℕ) → kind < 16 → getD counts kind 0 + more kind < 2 ^ 32
 
--- Each count is so many more.
+-- Each of the sixteen counts is so many more.
 pub record Added (counts : List ℕ) (more : ℕ → ℕ) (counts′ : List ℕ) : Type 0 where
+  pub long : length counts′ ≡ 16
   pub sum : (kind : ℕ) → kind < 16 → getD counts′ kind 0 ≡ getD counts kind 0 + more kind
 
 -- The module at position k of a file that stands in the image is within the limit of rule 17.

@@ -1,4 +1,4 @@
 // Figures of a module that are counted on the image of a checked file: its tally of gates, and the largest load of a net.
 pub mod load;
-pub mod places;
+mod places;
 pub mod tally;

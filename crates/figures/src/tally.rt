@@ -1,9 +1,10 @@
 // The tally of a module: how many gates of each kind it reaches.
 use crate::places::To;
 ghost use mathlib.Core.Path.{_≡_};
-ghost use Prim.Native.Nat.{_+_, _<_};
+ghost use Prim.Native.Nat.{_+_, _<_, _^_};
 ghost use lib.ListN.{replicate, getD};
 ghost use Rattle.meaning.specs.Figures.{tally};
+ghost use Rattle.laws.specs.Figures.Tally.{total};
 ghost use Rattle.figures.specs.Tallies.{oneOf, Addable, Added, Countable};
 
 // A record of sixteen gate counts, one a kind.
@@ -60,9 +61,22 @@ pub fn tally_module(image: &[u16], starts: &[usize], k: usize) -> Tally
                 tally = tally.with_gate(kind);
             }
             To::Module(j) => {
-                tally = tally.with_tally(tally_module(image, starts, j));
+                let inner = tally_module(image, starts, j);
+                tally = tally.with_tally(inner);
             }
         }
     }
     tally
+}
+
+// How many gates a tally counts.
+pub fn gates_of(tally: Tally) -> u32
+    requires { ⌜ total (tally .counts) < 2 ^ 32 ⌝ }
+    ensures { λ r. ⌜ r ≡ total (tally .counts) ⌝ }
+{
+    let mut gates = 0;
+    for kind in 0..16 {
+        gates += tally.counts[kind];
+    }
+    gates
 }

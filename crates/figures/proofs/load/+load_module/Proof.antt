@@ -78,6 +78,86 @@ module _ (t : ℕ) where
       let s = module-at c in
       omega (arith, frame-is s, frame-fits s, c .loop .inv s .long)
 
+  clear-requires : lts.Need-clear-requires (claims t) (Given t) reads.Post Inv-loop μ-loop
+  clear-requires c κs =
+      let s = c .before .before .before .before .before .before .pre .1 in
+      omega (arith, frame-is s, frame-fits s)
+
+  loop-holds : lts.Need-loop-holds (claims t) (Given t) reads.Post Inv-loop μ-loop
+  loop-holds c s =
+      let zeros = cleared s _ (frame-is s) (c .before .before .before .before .clear .ensures) in
+      none-loaded s (c .body-at .ensures _ (module-stands (s .scene))) refl zeros
+
+  occurrence-at-requires : lts.Need-occurrence-at-requires (claims t) (Given t) reads.Post Inv-loop μ-loop
+  occurrence-at-requires c κs = occurrence-there (c .loop-test .taken) (c .before .loop .inv (module-at (c .before)) .ahead)
+
+  -- At a gate each argument place adds 1.
+  gate-places : lts.Need-add-loads-requires (claims t) (Given t) reads.Post Inv-loop μ-loop
+  gate-places c κs =
+      let read = c .before .before .before in
+      let loop = read .before .before in
+      let s = module-at loop in
+      at-gate s (loop .loop .inv s) (read .before .loop-test .taken) (read .occurrence-at .ensures) (frame-is s) _
+      (c .before .enum-told .given .1) .placed
+
+  again-at-gate : lts.Need-loop-again (claims t) (Given t) reads.Post Inv-loop μ-loop
+  again-at-gate c s =
+      let read = c .before .before .before .before .before .before in
+      let loop = read .before .before in
+      let added = c .before .before in
+      at-gate s (loop .loop .inv s) (read .before .loop-test .taken) (read .occurrence-at .ensures) (frame-is s) _
+      (added .before .before .enum-told .given .1) .next (omega arith) (added .add-loads .kept .1 .1 .1 .1 .1 .0) (added .add-loads .ensures)
+
+  -- At a module the part behind the frame is lent on, and each argument place adds the load of its input.
+  lent-offset : lts.Need-mul-load-module (claims t) (Given t) reads.Post Inv-loop μ-loop
+  lent-offset c =
+      let start = c .before .before .before .before .before .before .before .before .before .before .before .before .before .before .before .before .before in
+      omega (arith, frame-is (start .pre .1), frame-fits (start .pre .1), start .good .1 .1 .1 .1 .0 .1)
+
+  load-module-requires : lts.Need-load-module-requires (claims t) (Given t) reads.Post Inv-loop μ-loop
+  load-module-requires c κs =
+      let start = c .before .before .before .before .before .before .before .before .before .before .before .before .before .before .before .before .before .before in
+      let read = c .before .before .before .before in
+      let loop = read .before .before in
+      let s = module-at loop in
+      let inner = at-module s (loop .loop .inv s) (read .before .loop-test .taken) (read .occurrence-at .ensures) (frame-is s) _
+      (c .before .before .to .given .1) in
+      (omega (arith, start .pre .0, inner .after, inner .inside), inner .loadable)
+
+  module-places : lts.Need-add-loads-requires-2 (claims t) (Given t) reads.Post Inv-loop μ-loop
+  module-places c κs =
+      let read = c .before .before .before .before .before .before .before .before .before in
+      let loop = read .before .before in
+      let called = c .before .before .before .before in
+      let s = module-at loop in
+      let inner = at-module s (loop .loop .inv s) (read .before .loop-test .taken) (read .occurrence-at .ensures) (frame-is s) _
+      (called .before .before .before .to .given .1) in
+      inner .step (called .load-module .ensures) (called .load-module .kept .1 .1 .1 .1 .0) (c .before .larger .ensures) .placed
+
+  again-at-module : lts.Need-loop-again-2 (claims t) (Given t) reads.Post Inv-loop μ-loop
+  again-at-module c s =
+      let read = c .before .before .before .before .before .before .before .before .before .before .before .before in
+      let loop = read .before .before in
+      let called = c .before .before .before .before .before .before .before in
+      let added = c .before .before in
+      let inner = at-module s (loop .loop .inv s) (read .before .loop-test .taken) (read .occurrence-at .ensures) (frame-is s) _
+      (called .before .before .before .to .given .1) in
+      inner .step (called .load-module .ensures) (called .load-module .kept .1 .1 .1 .1 .0) (added .before .before .larger .ensures) .next
+      (omega arith) (added .add-loads2 .kept .1 .1 .1 .1 .1 .0) (added .add-loads2 .ensures)
+
+  same-length : lts.Need-same-length (claims t) (Given t) reads.Post Inv-loop μ-loop
+  same-length c =
+      let loop = c .before .before .before .before in
+      loop .loop .inv (module-at loop) .long ∙ loop .before .before .before .before .before .clear .kept .0
+
+  returns : lts.Need-returns (claims t) (Given t) reads.Post Inv-loop μ-loop
+  returns c s =
+      let loop = c .before .before .before .before in
+      let clearing = loop .before .before .before .before .before .clear in
+      let s′ = moved {entries′ = length (clearing .last .0)} s (omega (arith, s .room, clearing .kept .0)) in
+      all-loaded s′ _ (omega arith) (loop .loop .inv s′) (kept-behind s′ _ (frame-is s′) (clearing .ensures)) (frame-is s′)
+      (c .before .largest .ensures) (c .larger2 .ensures)
+
 pub +load-module-spec : {M : Type 1} → statement M
 +load-module-spec =
     close μ
@@ -85,66 +165,28 @@ pub +load-module-spec : {M : Type 1} → statement M
     lts.spec (claims t) (Given t) reads.Post Inv-loop μ-loop
     (λ c. omega (arith, nets-inside (c .before .before .before .before .pre .1)))
     (λ c. nets-inside (c .before .before .before .before .before .pre .1))
-    (λ c κs.
-    let s = c .before .before .before .before .before .before .pre .1 in
-    omega (arith, frame-is s, frame-fits s))
+    (clear-requires t)
     (λ c. omega (arith, scene-inside (c .before .before .before .before .before .before .before .before .before .pre .1 .scene)))
     (λ c. scene-inside (c .before .before .before .before .before .before .before .before .before .before .pre .1 .scene))
     (λ c κs. module-there (c .before .before .before .before .before .before .before .before .before .before .pre .1 .scene))
-    (λ c s. none-loaded s (c .body-at .ensures _ (module-stands (s .scene))) refl (cleared s _ (frame-is s) (c .before .before .before .before .clear .ensures)))
-    (λ c κs. occurrence-there (c .loop-test .taken) (c .before .loop .inv (module-at t (c .before)) .ahead))
+    (loop-holds t)
+    (occurrence-at-requires t)
     (λ c. c .before .loop-test .taken)
     (λ c. search needs)
-    (λ c κs.
-    let read = c .before .before .before in
-    let s = module-at t (read .before .before) in
-    at-gate s (read .before .before .loop .inv s) (read .before .loop-test .taken) (read .occurrence-at .ensures) (frame-is s) _
-    (c .before .enum-told .given .1) .placed)
+    (gate-places t)
     (λ c. omega arith)
-    (λ c s.
-    let read = c .before .before .before .before .before .before in
-    let added = c .before .before in
-    at-gate s (read .before .before .loop .inv s) (read .before .loop-test .taken) (read .occurrence-at .ensures) (frame-is s) _
-    (added .before .before .enum-told .given .1) .next (omega arith) (added .add-loads .kept .1 .1 .1 .1 .1 .0) (added .add-loads .ensures))
+    (again-at-gate t)
     (λ c. search needs)
-    (λ c.
-    let start = c .before .before .before .before .before .before .before .before .before .before .before .before .before .before .before .before .before in
-    omega (arith, frame-is (start .pre .1), frame-fits (start .pre .1), start .good .1 .1 .1 .1 .0 .1))
+    (lent-offset t)
     (λ c. frame-inside t (c .before .before .before .before .before))
     (λ c. frame-inside t (c .before .before .before .before .before))
     (λ c. le-refl _)
-    (λ c κs.
-    let start = c .before .before .before .before .before .before .before .before .before .before .before .before .before .before .before .before .before .before in
-    let read = c .before .before .before .before in
-    let s = module-at t (read .before .before) in
-    let inner = at-module s (read .before .before .loop .inv s) (read .before .loop-test .taken) (read .occurrence-at .ensures) (frame-is s) _
-    (c .before .before .to .given .1) in
-    (omega (arith, start .pre .0, inner .after, inner .inside), inner .loadable))
+    (load-module-requires t)
     (λ c κs. tt)
-    (λ c κs.
-    let read = c .before .before .before .before .before .before .before .before .before in
-    let called = c .before .before .before .before in
-    let s = module-at t (read .before .before) in
-    let inner = at-module s (read .before .before .loop .inv s) (read .before .loop-test .taken) (read .occurrence-at .ensures) (frame-is s) _
-    (called .before .before .before .to .given .1) in
-    inner .step (called .load-module .ensures) (called .load-module .kept .1 .1 .1 .1 .0) (c .before .larger .ensures) .placed)
+    (module-places t)
     (λ c. omega arith)
-    (λ c s.
-    let read = c .before .before .before .before .before .before .before .before .before .before .before .before in
-    let called = c .before .before .before .before .before .before .before in
-    let added = c .before .before in
-    let inner = at-module s (read .before .before .loop .inv s) (read .before .loop-test .taken) (read .occurrence-at .ensures) (frame-is s) _
-    (called .before .before .before .to .given .1) in
-    inner .step (called .load-module .ensures) (called .load-module .kept .1 .1 .1 .1 .0) (added .before .before .larger .ensures) .next
-    (omega arith) (added .add-loads2 .kept .1 .1 .1 .1 .1 .0) (added .add-loads2 .ensures))
+    (again-at-module t)
     (λ c κs. frame-inside t (c .before .before))
     (λ c κs. tt)
-    (λ c.
-    let loop = c .before .before .before .before in
-    loop .loop .inv (module-at t loop) .long ∙ loop .before .before .before .before .before .clear .kept .0)
-    (λ c s.
-    let loop = c .before .before .before .before in
-    let cleared-scratch = loop .before .before .before .before .before .clear in
-    let s′ = moved s (omega (arith, s .room, cleared-scratch .kept .0)) in
-    all-loaded s′ _ (omega arith) (loop .loop .inv s′) (kept-behind s′ _ (frame-is s′) (cleared-scratch .ensures)) (frame-is s′)
-    (c .before .largest .ensures) (c .larger2 .ensures)))
+    (same-length t)
+    (returns t))

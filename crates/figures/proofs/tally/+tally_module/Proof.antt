@@ -52,6 +52,54 @@ Inv-loop image starts k at₀ left₀ tally₀ at left tally = (s : Countable im
 abbrev μ-loop : lts.MeasureT-loop
 μ-loop image starts k at₀ left₀ tally₀ at left tally = left
 
+module _ (t : ℕ) where
+  occurrence-at-requires : lts.Need-occurrence-at-requires (claims t) (Given t) reads.Post Inv-loop μ-loop
+  occurrence-at-requires c κs =
+      let s = c .before .before .before .before .before .before .before .pre .1 in
+      occurrence-there (c .loop-test .taken) (c .before .loop .inv s .ahead)
+
+  -- A gate counts for itself.
+  with-gate-requires : lts.Need-with-gate-requires (claims t) (Given t) reads.Post Inv-loop μ-loop
+  with-gate-requires c κs =
+      let s = c .before .before .before .before .before .before .before .before .before .before .before .pre .1 in
+      let read = c .before .before .before in
+      let loop = read .before .before .loop in
+      let gate = at-gate s (loop .inv s) (read .before .loop-test .taken) (read .occurrence-at .ensures) _ (c .before .to .given .1) in
+      (gate .below, gate .step .addable)
+
+  again-at-gate : lts.Need-loop-again (claims t) (Given t) reads.Post Inv-loop μ-loop
+  again-at-gate c s =
+      let read = c .before .before .before .before in
+      let loop = read .before .before .loop in
+      let gate = at-gate s (loop .inv s) (read .before .loop-test .taken) (read .occurrence-at .ensures) _ (c .before .before .to .given .1) in
+      gate .step .next (omega arith) (c .with-gate .ensures)
+
+  -- A module adds its tally.
+  tally-module-requires : lts.Need-tally-module-requires (claims t) (Given t) reads.Post Inv-loop μ-loop
+  tally-module-requires c κs =
+      let start = c .before .before .before .before .before .before .before .before .before .before .before in
+      let s = start .pre .1 in
+      let read = c .before .before .before in
+      let loop = read .before .before .loop in
+      let inner = at-module s (loop .inv s) (read .before .loop-test .taken) (read .occurrence-at .ensures) _ (c .before .to2 .given .1) in
+      (omega (arith, start .pre .0, inner .after, inner .inside), inner .countable)
+
+  with-tally-requires : lts.Need-with-tally-requires (claims t) (Given t) reads.Post Inv-loop μ-loop
+  with-tally-requires c κs =
+      let s = c .before .before .before .before .before .before .before .before .before .before .before .before .pre .1 in
+      let read = c .before .before .before .before in
+      let loop = read .before .before .loop in
+      let inner = at-module s (loop .inv s) (read .before .loop-test .taken) (read .occurrence-at .ensures) _ (c .before .before .to2 .given .1) in
+      inner .step (c .tally-module .ensures) .addable
+
+  again-at-module : lts.Need-loop-again-2 (claims t) (Given t) reads.Post Inv-loop μ-loop
+  again-at-module c s =
+      let read = c .before .before .before .before .before in
+      let loop = read .before .before .loop in
+      let called = c .before in
+      let inner = at-module s (loop .inv s) (read .before .loop-test .taken) (read .occurrence-at .ensures) _ (called .before .before .to2 .given .1) in
+      inner .step (called .tally-module .ensures) .next (omega arith) (c .with-tally .ensures)
+
 pub +tally-module-spec : {M : Type 1} → statement M
 +tally-module-spec =
     close μ
@@ -62,35 +110,15 @@ pub +tally-module-spec : {M : Type 1} → statement M
     (λ c κs. module-there (c .before .before .before .pre .1 .scene))
     (λ c κs. tt)
     (λ c s. none-counted s (c .before .body-at .ensures _ (module-stands (s .scene))) (c .nothing .ensures))
-    (λ c κs.
-    occurrence-there (c .loop-test .taken) (c .before .loop .inv (c .before .before .before .before .before .before .before .pre .1) .ahead))
+    (occurrence-at-requires t)
     (λ c. c .before .loop-test .taken)
     (λ c. search needs)
-    (λ c κs.
-    let s = c .before .before .before .before .before .before .before .before .before .before .before .pre .1 in
-    let matched = c .before .before .before in
-    let gate = at-gate s (matched .before .before .loop .inv s) (matched .before .loop-test .taken) (matched .occurrence-at .ensures) _ (c .before .to .given .1) in
-    (gate .below, gate .step .addable))
+    (with-gate-requires t)
     (λ c. omega arith)
-    (λ c s.
-    let matched = c .before .before .before .before in
-    let gate = at-gate s (matched .before .before .loop .inv s) (matched .before .loop-test .taken) (matched .occurrence-at .ensures) _ (c .before .before .to .given .1) in
-    gate .step .next (omega arith) (c .with-gate .ensures) (search needs))
+    (again-at-gate t)
     (λ c. search needs)
-    (λ c κs.
-    let start = c .before .before .before .before .before .before .before .before .before .before .before in
-    let matched = c .before .before .before in
-    let s = start .pre .1 in
-    let inner = at-module s (matched .before .before .loop .inv s) (matched .before .loop-test .taken) (matched .occurrence-at .ensures) _ (c .before .to2 .given .1) in
-    (omega (arith, start .pre .0, inner .after, inner .inside), inner .countable))
-    (λ c κs.
-    let s = c .before .before .before .before .before .before .before .before .before .before .before .before .pre .1 in
-    let matched = c .before .before .before .before in
-    let inner = at-module s (matched .before .before .loop .inv s) (matched .before .loop-test .taken) (matched .occurrence-at .ensures) _ (c .before .before .to2 .given .1) in
-    inner .step (c .tally-module .ensures) .addable)
+    (tally-module-requires t)
+    (with-tally-requires t)
     (λ c. omega arith)
-    (λ c s.
-    let matched = c .before .before .before .before .before in
-    let inner = at-module s (matched .before .before .loop .inv s) (matched .before .loop-test .taken) (matched .occurrence-at .ensures) _ (c .before .before .before .to2 .given .1) in
-    inner .step (c .before .tally-module .ensures) .next (omega arith) (c .with-tally .ensures) (search needs))
+    (again-at-module t)
     (λ c s. all-counted s (omega arith) (c .before .loop .inv s)))

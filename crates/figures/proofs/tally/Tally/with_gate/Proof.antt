@@ -13,7 +13,7 @@ add-self c =
     omega (arith, rw (eq-eqb kind kind refl) at (c .before .pre .1 .fits kind (c .before .pre .0)))
 
 returns : tie.Need-returns
-returns c = one-more (c .before .args .t1 .counts) (c .before .args .kind) (search needs)
+returns c = one-more (c .before .args .t1 .counts) (c .before .args .kind) (search needs) (c .before .pre .0)
 
 pub with-gate-spec : {M : Type 1} → statement M
 with-gate-spec = tie.close (tie.spec (λ c. search needs) (λ c. search needs) add-self (λ c. search needs) returns)

@@ -21,14 +21,14 @@ loop-holds c = partly-none _ _ (search needs)
 add-self : tie.Need-add-self Inv-loop μ-loop
 add-self c =
     let head = c .before .before .before .loop in
-    let room = c .before .before .before .before .pre .fits (head .i) (c .before .before .loop-test .taken) in
+    let room = c .before .before .before .before .pre .fits (head .i) (omega arith) in
     omega (arith, room, head .inv .ahead (head .i) (omega arith))
 
 loop-again : tie.Need-loop-again Inv-loop μ-loop
-loop-again c = partly-more (c .before .before .loop-test .taken) (c .before .before .before .loop .inv)
+loop-again c = partly-more (omega arith) (c .before .before .before .loop .inv)
 
 returns : tie.Need-returns Inv-loop μ-loop
-returns c = partly-all (c .loop-test .left) (c .before .loop .inv)
+returns c = partly-all (omega arith) (c .before .loop .inv)
 
 pub with-tally-spec : {M : Type 1} → statement M
 with-tally-spec =
