@@ -5,7 +5,7 @@ use mathlib.Core.Path.{_≡_, sym, ap, ap₂, subst, _∙_}
 use mathlib.Core.Bool.{false}
 use mathlib.Core.List.{List}
 use native.Mathlib.Omega.{arith}
-use lib.ListN.{length, getD, drop, length-drop}
+use lib.ListN.{length, getD, length-drop}
 use Rattle.meaning.specs.Syntax.{Occurrence, Module}
 use Rattle.meaning.specs.Gates.{isGate}
 use Rattle.meaning.specs.Layout.{moduleNumbers}
@@ -59,7 +59,9 @@ module _
       })
 
   pub says-beyond :
-      {C : Type 0} {f : List Module → ℕ → C} {own : Module → List Module → C} → Search f own → f (s .later) (o .refers) ≡ f rs (16 + j)
+      {C : Type 0} {f : List Module → ℕ → C} {own : Module → List Module → C}
+      → Search f own
+      → f (s .later) (o .refers) ≡ f rs (16 + j)
   says-beyond {f = f} says =
       let frames = s .imaged .frames in
       ap₂ f (sym (behind frames k (s .here))) number

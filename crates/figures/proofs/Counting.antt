@@ -1,9 +1,9 @@
 -- How far counting the gates of a module has come: what is counted and what the occurrences ahead add are the module's tally. So no sum
 -- on the way is above the tally, which the expanded size bounds.
-use Prim.Native.Nat.{ℕ, zero, suc, _+_, _≤_, _<_}
+use Prim.Native.Nat.{ℕ, _+_, _≤_, _<_}
 use mathlib.Core.Path.{_≡_, refl, sym, ap, subst, _∙_}
 use mathlib.Core.Bool.{Bool, true, false, cond}
-use mathlib.Core.List.{List, [], _∷_, map}
+use mathlib.Core.List.{List, [], _∷_}
 use native.Mathlib.Omega.{arith}
 use borrow.Author.Tests.{ltb-true}
 use lib.Dec.{eqb}
@@ -13,7 +13,7 @@ use Rattle.meaning.specs.Syntax.{Occurrence, Module}
 use Rattle.meaning.specs.Gates.{isGate}
 use Rattle.meaning.specs.Layout.{occurrenceNumbers}
 use Rattle.meaning.specs.Limits.{bodySize, expandedSize, mostSize}
-use Rattle.meaning.specs.Figures.{bodyWeight, gateWeight, kindCount, tally}
+use Rattle.meaning.specs.Figures.{bodyWeight, kindCount, tally}
 use Rattle.meaning.specs.Adder.{upFrom}
 use Rattle.laws.specs.Bounds.{weight-size}
 use Rattle.image.specs.Stands.{Stands}

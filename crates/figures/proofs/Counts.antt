@@ -63,5 +63,8 @@ partly-more {counts} {more} {i} {counts′} h p =
         omega (arith, p .passed kind (omega arith))
 
 pub partly-all :
-    {counts : List ℕ} {more : ℕ → ℕ} {i : ℕ} {counts′ : List ℕ} → 16 ≤ i → Partly counts more i counts′ → Added counts more counts′
+    {counts : List ℕ} {more : ℕ → ℕ} {i : ℕ} {counts′ : List ℕ}
+    → 16 ≤ i
+    → Partly counts more i counts′
+    → Added counts more counts′
 partly-all h p = record { long = p .long; sum = λ kind less. p .passed kind (omega arith) }

@@ -55,11 +55,16 @@ pub same-further : (xs ys : List ℕ) (a b : ℕ) → a ≤ b → drop a xs ≡ 
 same-further xs ys a b h e = same-behind xs ys a b h (ap (drop (b - a)) e)
 
 -- What stands in an image, entry by entry and as a part of it.
-pub stands-entry : {image : List ℕ} {at : ℕ} {xs : List ℕ} → Stands image at xs → (i : ℕ) → i < length xs → getD image (at + i) 0 ≡ getD xs i 0
+pub stands-entry :
+    {image : List ℕ} {at : ℕ} {xs : List ℕ} → Stands image at xs → (i : ℕ) → i < length xs → getD image (at + i) 0 ≡ getD xs i 0
 stands-entry {image} {at} {xs} s i less =
     sym (getD-drop at image i 0) ∙ ap (λ (l : List ℕ). getD l i 0) (s .here) ∙ List·getD-append xs (s .rest) 0 i less
 
-pub stands-slice : {image : List ℕ} {from : ℕ} {xs : List ℕ} (end : ℕ) → end ≡ from + length xs → Stands image from xs → slice from end image ≡ xs
+pub stands-slice :
+    {image : List ℕ} {from : ℕ} {xs : List ℕ} (end : ℕ)
+    → end ≡ from + length xs
+    → Stands image from xs
+    → slice from end image ≡ xs
 stands-slice {image} {from} {xs} end e s =
     ap (λ (n : ℕ). drop from (take n image)) e
     ∙ ap (drop from) (take-add from (length xs) image)

@@ -1,30 +1,28 @@
 -- One turn of working out loads: an occurrence is read, what its argument places add stands ready, and the loads go on behind it. At a
 -- gate that is 1 for each; at a module the loads of its inputs, which its own turn has left behind the frame.
-use Prim.Native.Nat.{ℕ, suc, _+_, _-_, _*_, _≤_, _<_, _^_, max}
+use Prim.Native.Nat.{ℕ, _+_, _-_, _≤_, _<_, max}
 use mathlib.Core.Path.{_≡_, refl, sym, ap, ap₂, subst, _∙_}
 use mathlib.Core.Bool.{Bool, true, false, cond}
-use mathlib.Core.List.{List, _∷_, map, map-append}
+use mathlib.Core.List.{List}
 use native.Mathlib.Omega.{arith}
-use lib.ListN.{length, getD, take, drop, replicate, length-map}
-use lib.Seq.{slice, take-take, take-at}
+use lib.ListN.{length, getD, take, drop, replicate}
+use lib.Seq.{slice}
 use Rattle.meaning.specs.Syntax.{Occurrence, Module}
 use Rattle.meaning.specs.Gates.{isGate}
 use Rattle.meaning.specs.Layout.{occurrenceNumbers}
-use Rattle.meaning.specs.Limits.{driven, netCount}
+use Rattle.meaning.specs.Limits.{netCount}
 use Rattle.meaning.specs.Figures.{largestReferred, room, placesLoad, netLoad, inputLoads, largestLoad}
 use Rattle.image.specs.Stands.{Stands}
-use Rattle.image.specs.Resolved.{netsOf}
 use Rattle.image.specs.Searching.{Search, room-search, inputLoads-search, largestLoad-search}
-use Rattle.figures.specs.Scene.{Scene}
 use Rattle.figures.specs.Places.{RefersTo, IsPlace}
 use Rattle.figures.specs.Loads.{Loadable, Loaded, placeLoads, Placed, LoadsAdded}
 use Rattle.figures.specs.declared.places.To.{To}
 use Rattle.figures.specs.declared.places.To.the-variants.{Gate, Module as AModule}
 use Rattle.figures.proofs.Entries.{same-entry, same-behind, same-further, stands-entry, stands-slice}
 use Rattle.figures.proofs.Entries.{lent, returned, lent-is, length-lent, take-returned, drop-returned, length-returned}
-use Rattle.figures.proofs.Walks.{Ahead, Turn, turn}
+use Rattle.figures.proofs.Walks.{Turn, turn}
 use Rattle.figures.proofs.Beyond.{says-here, Beyond, beyond, says-beyond}
-use Rattle.figures.proofs.Loading.{Loading, loadBy, net-within, frame-fits, says-room}
+use Rattle.figures.proofs.Loading.{Loading, loadBy, net-within, frame-fits, says-room, inputs-loaded}
 
 -- What the argument places of an occurrence add, and what it makes of the largest load so far.
 abbrev occurrenceLoads : List Module → Occurrence → List ℕ
@@ -32,20 +30,6 @@ occurrenceLoads later o = cond (isGate (o .refers)) (replicate (length (o .takes
 
 abbrev largestWith : List Module → Occurrence → (most : ℕ) → ℕ
 largestWith later o most = max most (cond (isGate (o .refers)) 0 (largestLoad later (o .refers)))
-
--- The loads of a module's inputs are the first of those that its turn leaves.
-inputs-loaded :
-    {image starts : List ℕ} {rs : List Module} {j most : ℕ} {part part′ : List ℕ} (s : Scene image starts rs j)
-    → Loaded rs (s .m) (s .later) j most part part′
-    → take (length (s .m .inputs)) part′ ≡ inputLoads rs (16 + j)
-unfolding netsOf netCount
-inputs-loaded {part′ = part′} s done =
-    let n = s .m in
-    let load = netLoad (inputLoads (s .later)) (n .occurrences) in
-    sym (take-take (length (n .inputs)) (netCount n) part′ (omega arith))
-    ∙ ap (take (length (n .inputs))) (done .loads ∙ map-append load (n .inputs) (driven (n .occurrences)))
-    ∙ take-at (map load (n .inputs)) (map load (driven (n .occurrences))) (length (n .inputs)) (length-map (n .inputs) load)
-    ∙ sym (says-here s inputLoads-search)
 
 module _
     {image starts nets : List ℕ} {k entries : ℕ} (s : Loadable image starts nets k entries)

@@ -1,29 +1,24 @@
 -- How far working out the loads of a module's nets has come: what the frame holds and what the occurrences ahead add are the loads. So
 -- no sum on the way is above the largest load.
-use Prim.Native.Nat.{ℕ, zero, suc, _+_, _-_, _*_, _≤_, _<_, max}
+use Prim.Native.Nat.{ℕ, _+_, _*_, _≤_, _<_, max}
 use mathlib.Core.Path.{_≡_, refl, sym, ap, _∙_}
-use mathlib.Core.Bool.{Bool, true, false, cond}
-use mathlib.Core.List.{List, [], _∷_, _++_, map}
+use mathlib.Core.List.{List, [], _∷_, _++_, map, map-append}
 use native.Mathlib.Omega.{arith}
-use lib.ListN.{length, getD, take, drop, replicate, length-append, length-replicate, length-drop, length-map, getD-replicate, List·getD-append}
-use lib.Seq.{slice, ext-getD, getD-take, length-take-le, drop-at, drop-append-add}
+use lib.ListN.{length, getD, take, drop, replicate, length-replicate, length-drop, length-map, getD-replicate, List·getD-append}
+use lib.Seq.{ext-getD, getD-take, length-take-le, take-take, take-at, drop-at}
 use Rattle.meaning.specs.Syntax.{Occurrence, Module}
-use Rattle.meaning.specs.Gates.{isGate}
-use Rattle.meaning.specs.Layout.{occurrenceNumbers}
-use Rattle.meaning.specs.Limits.{netCount, mostSize}
-use Rattle.meaning.specs.Figures.{largest, largestReferred, room, placesLoad, netLoad, inputLoads, largestLoad}
-use Rattle.meaning.specs.Adder.{upFrom}
-use Rattle.image.specs.Stands.{Stands}
+use Rattle.meaning.specs.Limits.{driven, netCount, mostSize}
+use Rattle.meaning.specs.Figures.{largest, largestReferred, room, netLoad, inputLoads, largestLoad}
 use Rattle.image.specs.Resolved.{netsOf}
 use Rattle.image.specs.Shapes.{length-of-nets}
 use Rattle.image.specs.Frames.{FrameOk}
 use Rattle.image.specs.Stepping.{frame-at}
-use Rattle.image.specs.Searching.{room-search, largestLoad-search}
-use Rattle.figures.specs.Places.{IsBody, IsPlace}
-use Rattle.figures.specs.Loads.{Loadable, Loaded, placeLoads, Placed, LoadsAdded}
-use Rattle.figures.specs.declared.places.To.{To}
-use Rattle.figures.proofs.Entries.{mapped, within-largest, same-entry, same-further, stands-entry, stands-slice}
-use Rattle.figures.proofs.Walks.{Ahead, all-ahead, Turn, turn}
+use Rattle.image.specs.Searching.{room-search, inputLoads-search, largestLoad-search}
+use Rattle.figures.specs.Scene.{Scene}
+use Rattle.figures.specs.Places.{IsBody}
+use Rattle.figures.specs.Loads.{Loadable, Loaded}
+use Rattle.figures.proofs.Entries.{mapped, within-largest, same-further}
+use Rattle.figures.proofs.Walks.{Ahead, all-ahead}
 use Rattle.figures.proofs.Beyond.{says-here}
 
 -- The load of a net by the occurrences of a list.
@@ -73,7 +68,9 @@ module _ {image starts nets : List ℕ} {k entries : ℕ} (s : Loadable image st
   frame-fits = omega (arith, says-room, s .room)
 
   -- The frame is cleared.
-  module _ {frame : ℕ} (entry : List ℕ) {scratch : List ℕ} (framed : frame ≡ netCount (s .scene .m)) (zeros : scratch ≡ replicate frame 0 ++ drop frame entry) where
+  module _
+      {frame : ℕ} (entry : List ℕ) {scratch : List ℕ} (framed : frame ≡ netCount (s .scene .m))
+      (zeros : scratch ≡ replicate frame 0 ++ drop frame entry) where
     pub cleared : (net : ℕ) → net < netCount (s .scene .m) → getD scratch net 0 ≡ 0
     cleared net less =
         ap (λ (l : List ℕ). getD l net 0) zeros
@@ -168,3 +165,17 @@ module _ {image starts nets : List ℕ} {k entries : ℕ} (s : Loadable image st
           (λ net less.
           let inFrame : net < netCount (s .scene .m) = omega (arith, long) in
           getD-take (netCount (s .scene .m)) scratch net 0 inFrame ∙ at-net net inFrame ∙ sym (load-at net inFrame))
+
+-- The loads of a module's inputs are the first of those that its turn leaves.
+pub inputs-loaded :
+    {image starts : List ℕ} {rs : List Module} {j most : ℕ} {part part′ : List ℕ} (s : Scene image starts rs j)
+    → Loaded rs (s .m) (s .later) j most part part′
+    → take (length (s .m .inputs)) part′ ≡ inputLoads rs (16 + j)
+unfolding netsOf netCount
+inputs-loaded {part′ = part′} s done =
+    let n = s .m in
+    let load = netLoad (inputLoads (s .later)) (n .occurrences) in
+    sym (take-take (length (n .inputs)) (netCount n) part′ (omega arith))
+    ∙ ap (take (length (n .inputs))) (done .loads ∙ map-append load (n .inputs) (driven (n .occurrences)))
+    ∙ take-at (map load (n .inputs)) (map load (driven (n .occurrences))) (length (n .inputs)) (length-map (n .inputs) load)
+    ∙ sym (says-here s inputLoads-search)

@@ -1,14 +1,13 @@
 -- Adding at the argument places of an occurrence, one after the other: what is added and what the places ahead add are what all of them
 -- add.
 use Prim.Native.Nat.{ℕ, suc, _+_, _-_, _≤_, _<_, _^_}
-use mathlib.Core.Path.{_≡_, refl, sym, ap, ap₂, _∙_}
+use mathlib.Core.Path.{_≡_, refl, sym, ap, _∙_}
 use mathlib.Core.Bool.{Bool, true, false, cond}
-use mathlib.Core.List.{List, [], _∷_}
+use mathlib.Core.List.{List, _∷_}
 use native.Mathlib.Omega.{arith}
 use native.Mathlib.Numerals.{add-one}
 use borrow.Author.Tests.{eq-eqb}
-use lib.Dec.{eqb}
-use lib.ListN.{length, getD, take, drop, set, replicate, length-set, length-drop, length-replicate, getD-replicate}
+use lib.ListN.{length, getD, drop, set, length-set, length-drop, length-replicate, getD-replicate}
 use lib.Seq.{slice, slice-empty, slice-cons, drop-cons, drop-set-lt, getD-take, getD-drop, length-take-le}
 use Rattle.meaning.specs.Figures.{placesLoad}
 use Rattle.figures.specs.Loads.{placeLoads, Placed, LoadsAdded}

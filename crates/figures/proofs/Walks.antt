@@ -1,10 +1,10 @@
 -- The occurrences of a module that a walk has ahead: they stand in the image from a place on, and what an occurrence takes are slots of
 -- the module's frame.
-use Prim.Native.Nat.{ℕ, _+_, _-_, _<_, _≤_}
-use mathlib.Core.Path.{_≡_, refl, ap, _∙_}
-use mathlib.Core.List.{List, [], _∷_}
+use Prim.Native.Nat.{ℕ, _+_, _<_}
+use mathlib.Core.Path.{_≡_, refl}
+use mathlib.Core.List.{List, _∷_}
 use native.Mathlib.Omega.{arith}
-use lib.ListN.{length, getD, length-append}
+use lib.ListN.{length, length-append}
 use Rattle.meaning.specs.Syntax.{Occurrence, Module}
 use Rattle.meaning.specs.Layout.{each, occurrenceNumbers}
 use Rattle.meaning.specs.Limits.{driven, netCount}

@@ -54,7 +54,11 @@ module _
   tallied answer = answer countable ∙ tally-resolved (accepted-fits accepted) number m found
 
   -- The largest load.
-  pub loadable : {nets : List ℕ} {entries : ℕ} → Netted nets (resolve ms) → room ms number ≤ entries → Loadable image starts nets (positionOf number ms) entries
+  pub loadable :
+      {nets : List ℕ} {entries : ℕ}
+      → Netted nets (resolve ms)
+      → room ms number ≤ entries
+      → Loadable image starts nets (positionOf number ms) entries
   loadable nets enough =
       record {
         rs = resolve ms;
@@ -77,5 +81,9 @@ module _
 pub tally-fits : {ms : List Module} → Accepted ms → (number : ℕ) → total (tally ms number) < 2 ^ 32
 tally-fits {ms} accepted number = omega (arith, total-of-tally ms number, gates-within accepted number)
 
-pub gates-counted : (ms : List Module) (number : ℕ) {counts : List ℕ} {gates : ℕ} → counts ≡ tally ms number → gates ≡ total counts → gates ≡ gateCount ms number
+pub gates-counted :
+    (ms : List Module) (number : ℕ) {counts : List ℕ} {gates : ℕ}
+    → counts ≡ tally ms number
+    → gates ≡ total counts
+    → gates ≡ gateCount ms number
 gates-counted ms number tallied summed = summed ∙ ap total tallied ∙ total-of-tally ms number

@@ -69,7 +69,8 @@ fn load_module(
     scratch: &mut [u32],
 ) -> u32
     requires { ⌜ Loadable (now image) (now starts) (now nets) k (length (now scratch)) ⌝ }
-    ensures { λ r. ⌜ ((s : Loadable (now (image .entry)) (now (starts .entry)) (now (nets .entry)) k (length (now (scratch .entry)))) → Loaded (s .rs) (s .scene .m) (s .scene .later) k r (now (scratch .entry)) (now (scratch .exit))) ⌝ }
+    ensures { λ r. ⌜ ((s : Loadable (now (image .entry)) (now (starts .entry)) (now (nets .entry)) k (length (now (scratch .entry))))
+      → Loaded (s .rs) (s .scene .m) (s .scene .later) k r (now (scratch .entry)) (now (scratch .exit))) ⌝ }
 {
     let frame = nets[k];
     clear(scratch, frame);
@@ -110,7 +111,8 @@ pub fn largest_load(
 ) -> u32
     requires { ⌜ Loadable (now image) (now starts) (now nets) k room ⌝ }
     requires { ⌜ room ≤ length (now scratch) ⌝ }
-    ensures most { λ r. ⌜ ((s : Loadable (now (image .entry)) (now (starts .entry)) (now (nets .entry)) k room) → r ≡ largestLoad (s .rs) (16 + k)) ⌝ }
+    ensures most { λ r. ⌜ ((s : Loadable (now (image .entry)) (now (starts .entry)) (now (nets .entry)) k room)
+      → r ≡ largestLoad (s .rs) (16 + k)) ⌝ }
     ensures cleared { λ _. ⌜ now (scratch .exit) ≡ replicate room 0 ++ drop room (now (scratch .entry)) ⌝ }
 {
     let most = load_module(image, starts, nets, k, scratch);

@@ -14,7 +14,8 @@ pub struct Body {
 // The occurrences of the module whose numbers begin at a place.
 pub fn body_at(image: &[u16], start: usize) -> Body
     requires { ⌜ ModuleThere (now image) start ⌝ }
-    ensures { λ r. ⌜ ((m : Module) → Stands (now (image .entry)) start (moduleNumbers m) → IsBody (now (image .entry)) m (r .at) (r .count)) ⌝ }
+    ensures { λ r. ⌜ ((m : Module) → Stands (now (image .entry)) start (moduleNumbers m)
+      → IsBody (now (image .entry)) m (r .at) (r .count)) ⌝ }
 {
     let outputs = start + 2 + image::entry(image, start + 1);
     let count = outputs + 1 + image::entry(image, outputs);
@@ -50,7 +51,8 @@ fn referred(number: u16) -> To
 // The occurrence whose numbers begin at a place.
 pub fn occurrence_at(image: &[u16], at: usize) -> Place
     requires { ⌜ OccurrenceThere (now image) at ⌝ }
-    ensures { λ r. ⌜ ((o : Occurrence) → Stands (now (image .entry)) at (occurrenceNumbers o) → IsPlace (now (image .entry)) at o (r .to) (r .from) (r .end)) ⌝ }
+    ensures { λ r. ⌜ ((o : Occurrence) → Stands (now (image .entry)) at (occurrenceNumbers o)
+      → IsPlace (now (image .entry)) at o (r .to) (r .from) (r .end)) ⌝ }
 {
     let refers = at + 1 + image::entry(image, at);
     let from = refers + 2;

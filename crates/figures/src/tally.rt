@@ -45,7 +45,8 @@ impl Tally {
 // bounded by the expanded size.
 pub fn tally_module(image: &[u16], starts: &[usize], k: usize) -> Tally
     requires { ⌜ Countable (now image) (now starts) k ⌝ }
-    ensures { λ r. ⌜ ((s : Countable (now (image .entry)) (now (starts .entry)) k) → r .counts ≡ tally (s .rs) (16 + k)) ⌝ }
+    ensures { λ r. ⌜ ((s : Countable (now (image .entry)) (now (starts .entry)) k)
+      → r .counts ≡ tally (s .rs) (16 + k)) ⌝ }
 {
     let body = crate::places::body_at(image, starts[k]);
     let mut at = body.at;

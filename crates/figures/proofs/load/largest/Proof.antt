@@ -1,6 +1,6 @@
 -- `figures::load::largest` meets its contract. The loop's invariant: the larger of what was met and of what is ahead is the largest of
 -- all. Assumes nothing.
-use Prim.Native.Nat.{ℕ, suc, _+_, _-_, _≤_, _<_, max}
+use Prim.Native.Nat.{ℕ, _+_, _-_, _≤_, _<_, max}
 use mathlib.Core.Path.{_≡_, sym, ap, _∙_}
 use mathlib.Core.List.{List, _∷_}
 use native.Mathlib.Omega.{arith}
@@ -26,7 +26,11 @@ module _ (scratch : List ℕ) (count : ℕ) (fits : count ≤ length scratch) wh
   past : drop count (take count scratch) ≡ drop (length (take count scratch)) (take count scratch)
   past = ap (λ (n : ℕ). drop n (take count scratch)) (sym (length-take-le count scratch fits))
 
-  over : (i most : ℕ) → i ≡ count → max most (largest (drop i (take count scratch))) ≡ largest (take count scratch) → most ≡ largest (take count scratch)
+  over :
+      (i most : ℕ)
+      → i ≡ count
+      → max most (largest (drop i (take count scratch))) ≡ largest (take count scratch)
+      → most ≡ largest (take count scratch)
   unfolding largest
   over i most e inv = omega (arith, rw (e, past, drop-length) at inv)
 

@@ -1,7 +1,7 @@
 -- `figures::load::largest_load` meets its contract: what lies behind the module's room is untouched, and what lies in it is cleared.
 -- Assumes nothing.
 use native.Mathlib.Omega.{arith}
-use mathlib.Core.Path.{_≡_, ap, _∙_}
+use mathlib.Core.Path.{ap, _∙_}
 use mathlib.Core.List.{_++_}
 use borrow.Author.Needs.{needs}
 use lib.ListN.{replicate}

@@ -4,7 +4,7 @@ use Prim.Native.Nat.{_+_, _≤_}
 use mathlib.Core.Path.{_≡_, _∙_}
 use native.Mathlib.Omega.{arith}
 use borrow.Author.Needs.{needs}
-use lib.ListN.{length, getD}
+use lib.ListN.{length}
 use Rattle.meaning.specs.Syntax.{Occurrence}
 use Rattle.meaning.specs.Layout.{occurrenceNumbers}
 use Rattle.image.specs.Stands.{Stands}

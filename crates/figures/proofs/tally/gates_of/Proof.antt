@@ -1,8 +1,8 @@
 -- `figures::tally::gates_of` meets its contract. The loop's invariant: what is summed and what the counts ahead sum up to are the total.
 -- Assumes nothing.
 use Prim.Native.Nat.{ℕ, _+_, _-_, _≤_, _<_}
-use mathlib.Core.Path.{_≡_, sym, ap, _∙_}
-use mathlib.Core.List.{List, _∷_}
+use mathlib.Core.Path.{_≡_}
+use mathlib.Core.List.{List}
 use native.Mathlib.Omega.{arith}
 use native.Mathlib.Numerals.{add-one}
 use borrow.Author.Needs.{needs}
@@ -13,7 +13,10 @@ use Rattle.figures.proofs.tally.gates_of.Statement.{statement}
 use Rattle.figures.proofs.tally.gates_of.Tie as tie
 
 -- The counts from one on, and none behind the last.
-from-one : (counts : List ℕ) (kind : ℕ) → kind < length counts → total (drop kind counts) ≡ getD counts kind 0 + total (drop (kind + 1) counts)
+from-one :
+    (counts : List ℕ) (kind : ℕ)
+    → kind < length counts
+    → total (drop kind counts) ≡ getD counts kind 0 + total (drop (kind + 1) counts)
 unfolding total
 from-one counts kind less = rw (add-one kind, drop-cons counts kind 0 less)
 

@@ -1,7 +1,6 @@
 -- `figures::tally::Tally::with_tally` meets its contract. The loop's invariant: the counts of the kinds passed are added, the others are
 -- as they were. Assumes nothing.
-use Prim.Native.Nat.{_-_, _≤_, _<_}
-use mathlib.Core.Path.{_≡_}
+use Prim.Native.Nat.{_-_}
 use native.Mathlib.Omega.{arith}
 use borrow.Author.Needs.{needs}
 use lib.ListN.{getD}
