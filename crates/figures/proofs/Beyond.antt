@@ -37,6 +37,7 @@ says-here {k = k} s {own = own} says =
     let frames = s .imaged .frames in
     search-at frames says 0 k zero-le (s .here) ∙ ap (own (s .m)) (behind frames k (s .here))
 
+-- The module at a later position that an occurrence refers to.
 pub record Beyond (image starts : List ℕ) (rs : List Module) (k j : ℕ) (o : Occurrence) : Type 0 where
   pub scene : Scene image starts rs j
   pub after : k < j

@@ -6,4 +6,5 @@ pub mod Beyond
 pub mod Counting
 pub mod Placing
 pub mod Loading
+pub mod LoadSteps
 pub mod LoadTurns

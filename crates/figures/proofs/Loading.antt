@@ -56,7 +56,7 @@ module _ {image starts nets : List ℕ} {k entries : ℕ} (s : Loadable image st
   pub frame-is : getD nets k 0 ≡ netCount (s .scene .m)
   frame-is = s .netted .count k (s .scene .here)
 
-  pub frame-ok : FrameOk k (s .scene .m) (s .scene .later)
+  frame-ok : FrameOk k (s .scene .m) (s .scene .later)
   frame-ok = frame-at (s .scene .imaged .frames) k (s .scene .here)
 
   -- The module's room: its frame, and behind it that of the modules referred to.

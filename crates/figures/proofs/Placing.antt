@@ -20,7 +20,7 @@ module _ (frame count : ℕ) (before : List ℕ) where
   loads-long true room = length-take-le count (drop frame before) (omega (arith, length-drop frame before))
   loads-long false room = length-replicate count 1
 
-  pub load-at :
+  load-at :
       (inside : Bool) (i : ℕ)
       → i < count
       → getD (placeLoads inside frame count before) i 0 ≡ cond inside (getD before (frame + i) 0) 1

@@ -5,8 +5,9 @@ ghost use mathlib.Core.List.{_++_};
 ghost use Prim.Native.Nat.{_+_, _≤_, max};
 ghost use lib.ListN.{length, take, drop, replicate};
 ghost use Rattle.meaning.specs.Figures.{largest, largestLoad};
-ghost use Rattle.figures.specs.Loads.{Placed, placeLoads, LoadsAdded, Loadable, Loaded};
+ghost use Rattle.figures.specs.Loads.{Placed, LoadsAdded, Loadable, Loaded};
 
+// The larger of two.
 fn larger(a: u32, b: u32) -> u32
     ensures { λ r. ⌜ r ≡ max a b ⌝ }
 {
@@ -70,7 +71,7 @@ fn load_module(
 ) -> u32
     requires { ⌜ Loadable (now image) (now starts) (now nets) k (length (now scratch)) ⌝ }
     ensures { λ r. ⌜ ((s : Loadable (now (image .entry)) (now (starts .entry)) (now (nets .entry)) k (length (now (scratch .entry))))
-      → Loaded (s .rs) (s .scene .m) (s .scene .later) k r (now (scratch .entry)) (now (scratch .exit))) ⌝ }
+        → Loaded (s .rs) (s .scene .m) (s .scene .later) k r (now (scratch .entry)) (now (scratch .exit))) ⌝ }
 {
     let frame = nets[k];
     clear(scratch, frame);
@@ -112,7 +113,7 @@ pub fn largest_load(
     requires { ⌜ Loadable (now image) (now starts) (now nets) k room ⌝ }
     requires { ⌜ room ≤ length (now scratch) ⌝ }
     ensures most { λ r. ⌜ ((s : Loadable (now (image .entry)) (now (starts .entry)) (now (nets .entry)) k room)
-      → r ≡ largestLoad (s .rs) (16 + k)) ⌝ }
+        → r ≡ largestLoad (s .rs) (16 + k)) ⌝ }
     ensures cleared { λ _. ⌜ now (scratch .exit) ≡ replicate room 0 ++ drop room (now (scratch .entry)) ⌝ }
 {
     let most = load_module(image, starts, nets, k, scratch);

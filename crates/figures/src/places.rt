@@ -15,7 +15,7 @@ pub struct Body {
 pub fn body_at(image: &[u16], start: usize) -> Body
     requires { ⌜ ModuleThere (now image) start ⌝ }
     ensures { λ r. ⌜ ((m : Module) → Stands (now (image .entry)) start (moduleNumbers m)
-      → IsBody (now (image .entry)) m (r .at) (r .count)) ⌝ }
+        → IsBody (now (image .entry)) m (r .at) (r .count)) ⌝ }
 {
     let outputs = start + 2 + image::entry(image, start + 1);
     let count = outputs + 1 + image::entry(image, outputs);
@@ -38,6 +38,7 @@ pub struct Place {
     pub end: usize,
 }
 
+// What a reference in the image is to.
 fn referred(number: u16) -> To
     ensures { λ r. ⌜ RefersTo number r ⌝ }
 {
@@ -52,7 +53,7 @@ fn referred(number: u16) -> To
 pub fn occurrence_at(image: &[u16], at: usize) -> Place
     requires { ⌜ OccurrenceThere (now image) at ⌝ }
     ensures { λ r. ⌜ ((o : Occurrence) → Stands (now (image .entry)) at (occurrenceNumbers o)
-      → IsPlace (now (image .entry)) at o (r .to) (r .from) (r .end)) ⌝ }
+        → IsPlace (now (image .entry)) at o (r .to) (r .from) (r .end)) ⌝ }
 {
     let refers = at + 1 + image::entry(image, at);
     let from = refers + 2;

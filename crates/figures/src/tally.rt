@@ -13,6 +13,7 @@ pub struct Tally {
 }
 
 impl Tally {
+    // No gate.
     fn nothing() -> Tally
         ensures { λ r. ⌜ r .counts ≡ replicate 16 0 ⌝ }
     {
@@ -46,7 +47,7 @@ impl Tally {
 pub fn tally_module(image: &[u16], starts: &[usize], k: usize) -> Tally
     requires { ⌜ Countable (now image) (now starts) k ⌝ }
     ensures { λ r. ⌜ ((s : Countable (now (image .entry)) (now (starts .entry)) k)
-      → r .counts ≡ tally (s .rs) (16 + k)) ⌝ }
+        → r .counts ≡ tally (s .rs) (16 + k)) ⌝ }
 {
     let body = crate::places::body_at(image, starts[k]);
     let mut at = body.at;
