@@ -1,0 +1,10 @@
+-- Facts that the proofs of this crate cite.
+pub mod Entries
+pub mod Counts
+pub mod Walks
+pub mod Beyond
+pub mod Counting
+pub mod Placing
+pub mod Loading
+pub mod LoadSteps
+pub mod LoadTurns

@@ -1,0 +1,89 @@
+-- From an accepted file to the answers: its image meets what the functions ask, and what they answer of a module's position are the
+-- figures of the module's number in the file.
+use Prim.Native.Nat.{ℕ, _+_, _≤_, _<_, _^_}
+use mathlib.Core.Path.{_≡_, ap, fun-ext, _∙_}
+use mathlib.Core.List.{List, map}
+use native.Mathlib.Omega.{arith}
+use Rattle.meaning.specs.Syntax.{Module}
+use Rattle.meaning.specs.Boxlist.{box, assoc}
+use Rattle.meaning.specs.Figures.{gateCount, kindCount, tally, room, largestLoad}
+use Rattle.meaning.specs.Adder.{upFrom}
+use Rattle.laws.specs.WellFormed.{Accepted}
+use Rattle.laws.specs.Acceptable.{size-within}
+use Rattle.laws.specs.Bounds.{gates-within}
+use Rattle.laws.specs.Figures.Tally.{total, total-of-tally}
+use Rattle.laws.specs.Figures.Bounds.{largestLoad-within}
+use Rattle.image.specs.Resolved.{positionOf, resolve}
+use Rattle.image.specs.Fitting.{Fits, accepted-fits}
+use Rattle.image.specs.Positions.{found-at}
+use Rattle.image.specs.ResolvedLayout.{resolved-at}
+use Rattle.image.specs.ResolvedFigures.{expandedSize-resolved, gateWeight-resolved, room-resolved}
+use Rattle.image.specs.ResolvedLoads.{largestLoad-resolved}
+use Rattle.figures.specs.Scene.{Imaged, Scene}
+use Rattle.figures.specs.Tallies.{oneOf, Countable}
+use Rattle.figures.specs.Loads.{Netted, Loadable}
+
+-- Resolution keeps the tally.
+pub tally-resolved :
+    {ms : List Module} → Fits ms → (number : ℕ) (m : Module) → assoc number ms ≡ box m
+    → tally (resolve ms) (16 + positionOf number ms) ≡ tally ms number
+unfolding tally kindCount upFrom
+tally-resolved fits number m found =
+    ap (λ (count : ℕ → ℕ). map count (upFrom 0 16)) (fun-ext (λ kind. gateWeight-resolved fits number m found (λ gate. oneOf gate kind)))
+
+module _
+    {image starts : List ℕ} {ms : List Module} (accepted : Accepted ms) (stands : Imaged image starts (resolve ms))
+    (number : ℕ) (m : Module) (found : assoc number ms ≡ box m) where
+  scene : Scene image starts (resolve ms) (positionOf number ms)
+  scene = record { imaged = stands; m = _; later = _; here = resolved-at ms (positionOf number ms) (found-at number ms found) }
+
+  -- The tally.
+  pub countable : Countable image starts (positionOf number ms)
+  countable =
+      record {
+        rs = resolve ms;
+        scene = scene;
+        size = omega (arith, expandedSize-resolved (accepted-fits accepted) number m found, size-within accepted number);
+      }
+
+  pub tallied :
+      {counts : List ℕ}
+      → ((s : Countable image starts (positionOf number ms)) → counts ≡ tally (s .rs) (16 + positionOf number ms))
+      → counts ≡ tally ms number
+  unfolding countable
+  tallied answer = answer countable ∙ tally-resolved (accepted-fits accepted) number m found
+
+  -- The largest load.
+  pub loadable :
+      {nets : List ℕ} {entries : ℕ}
+      → Netted nets (resolve ms)
+      → room ms number ≤ entries
+      → Loadable image starts nets (positionOf number ms) entries
+  loadable nets enough =
+      record {
+        rs = resolve ms;
+        scene = scene;
+        netted = nets;
+        room = omega (arith, room-resolved (accepted-fits accepted) number m found);
+        loads = omega (arith, largestLoad-resolved (accepted-fits accepted) number m found, largestLoad-within accepted number);
+      }
+
+  pub loaded :
+      {nets : List ℕ} {entries most : ℕ}
+      → Netted nets (resolve ms)
+      → room ms number ≤ entries
+      → ((s : Loadable image starts nets (positionOf number ms) entries) → most ≡ largestLoad (s .rs) (16 + positionOf number ms))
+      → most ≡ largestLoad ms number
+  unfolding loadable
+  loaded nets enough answer = answer (loadable nets enough) ∙ largestLoad-resolved (accepted-fits accepted) number m found
+
+-- The sum of the tally: it fits, and it is the gate count.
+pub tally-fits : {ms : List Module} → Accepted ms → (number : ℕ) → total (tally ms number) < 2 ^ 32
+tally-fits {ms} accepted number = omega (arith, total-of-tally ms number, gates-within accepted number)
+
+pub gates-counted :
+    (ms : List Module) (number : ℕ) {counts : List ℕ} {gates : ℕ}
+    → counts ≡ tally ms number
+    → gates ≡ total counts
+    → gates ≡ gateCount ms number
+gates-counted ms number tallied summed = summed ∙ ap total tallied ∙ total-of-tally ms number

@@ -1,0 +1,7 @@
+-- What counting on the image asks and answers.
+pub mod Scene
+pub mod Places
+pub mod Tallies
+pub mod Loads
+pub mod Images
+pub mod Answers
