@@ -1,0 +1,3 @@
+-- What the library's answers rest on.
+pub mod Answering
+pub mod Zeros

@@ -1,0 +1,3 @@
+-- What the library answers, in document 01's numbers.
+pub mod Answers
+pub mod Tables
