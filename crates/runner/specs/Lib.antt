@@ -1,0 +1,4 @@
+-- What the contracts of `runner` cite, and the laws that turn them into what a file means.
+pub mod Job
+pub mod Slots
+pub mod Places
