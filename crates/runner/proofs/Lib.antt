@@ -1,3 +1,9 @@
 -- Facts that the functions' proofs share.
 pub mod Reading
 pub mod Copying
+pub mod Standing
+pub mod Parts
+pub mod Steps
+pub mod Called
+pub mod Calls
+pub mod Progress

@@ -2,3 +2,4 @@
 pub mod Job
 pub mod Slots
 pub mod Places
+pub mod Running
