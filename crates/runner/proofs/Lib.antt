@@ -7,3 +7,5 @@ pub mod Steps
 pub mod Called
 pub mod Calls
 pub mod Progress
+pub mod Turns
+pub mod ModuleTurns
