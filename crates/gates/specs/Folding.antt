@@ -1,10 +1,10 @@
--- What is seen of a list of arguments, and the value that a rule gives to it, is the rule's Boolean function by fillings: for any
--- number of arguments, since each is looked at once and the order does not matter.
+-- What a rule gives to what is seen of a list of arguments is the rule's Boolean function by fillings. It holds for any number of
+-- arguments: what is seen does not depend on their order, and each argument changes it as the gate of two arguments would.
 use Prim.Native.Nat.{ℕ}
-use mathlib.Core.Bool.{Bool, true, false, not, cond}
+use mathlib.Core.Bool.{Bool, true, false, not}
 use mathlib.Core.List.{List, [], _∷_, map, foldr}
 use mathlib.Core.Path.{_≡_, refl, ap, sym, _∙_}
-use Rattle.meaning.specs.Values.{Val, known, un, value, code, byFillings}
+use Rattle.meaning.specs.Values.{Val, known, un, value, byFillings}
 use Rattle.meaning.specs.Gates.{one, two, B-AND, B-OR, B-XOR}
 use Rattle.laws.specs.Folds.{after, fold-step}
 use Rattle.gates.specs.Seen.{nothing, see, seeAll, settled, resultOf}
@@ -40,7 +40,7 @@ unfolding seeAll
 see-late s v [] = refl
 see-late s v (x ∷ xs) = ap (λ t. seeAll t xs) (see-swap s v (value x)) ∙ see-late (see s (value x)) v xs
 
--- What a rule gives to what is seen changes with each argument as the gate of two would have it.
+-- What a rule gives to what is seen, after one argument more, is the gate of two on that argument and what it gave before.
 Steps : (Bool → Bool → Bool) → Rule → Seen → Type 0
 Steps f rule s =
     (resultOf rule (see s (known false)) ≡ byFillings (two f .function) (known false ∷ resultOf rule s ∷ []))
@@ -51,19 +51,19 @@ abbrev seen : (zero one even unknown : Bool) → Seen
 seen z o e u = record { zero = z; one = o; even = e; unknown = u }
 
 and-steps : (zero one even unknown : Bool) → Steps B-AND And (seen zero one even unknown)
-unfolding byFillings see resultOf Steps
+unfolding byFillings see settled resultOf Steps
 and-steps true one even unknown = (refl, refl, refl)
 and-steps false one even true = (refl, refl, refl)
 and-steps false one even false = (refl, refl, refl)
 
 or-steps : (zero one even unknown : Bool) → Steps B-OR Or (seen zero one even unknown)
-unfolding byFillings see resultOf Steps
+unfolding byFillings see settled resultOf Steps
 or-steps zero true even unknown = (refl, refl, refl)
 or-steps zero false even true = (refl, refl, refl)
 or-steps zero false even false = (refl, refl, refl)
 
 xor-steps : (zero one even unknown : Bool) → Steps B-XOR Xor (seen zero one even unknown)
-unfolding byFillings see resultOf Steps
+unfolding byFillings see settled resultOf Steps
 xor-steps zero one even true = (refl, refl, refl)
 xor-steps zero one true false = (refl, refl, refl)
 xor-steps zero one false false = (refl, refl, refl)
@@ -85,10 +85,22 @@ folded f z rule start steps (x ∷ xs) =
     step s (known true) = steps (s .zero) (s .one) (s .even) (s .unknown) .1
     step s un = steps (s .zero) (s .one) (s .even) (s .unknown) .2
 
+and-folded : (xs : List ℕ) → resultOf And (seeAll nothing xs) ≡ byFillings (means And) (map value xs)
+unfolding settled resultOf
+and-folded = folded B-AND true And refl and-steps
+
+or-folded : (xs : List ℕ) → resultOf Or (seeAll nothing xs) ≡ byFillings (means Or) (map value xs)
+unfolding settled resultOf
+or-folded = folded B-OR false Or refl or-steps
+
+xor-folded : (xs : List ℕ) → resultOf Xor (seeAll nothing xs) ≡ byFillings (means Xor) (map value xs)
+unfolding settled resultOf
+xor-folded = folded B-XOR false Xor refl xor-steps
+
 -- The opposite result is the negated function's.
 opposite : (forced unknown to : Bool) (f : List Bool → Bool) (vs : List Val)
     → settled forced unknown to ≡ byFillings f vs → settled forced unknown (not to) ≡ byFillings (λ bs. not (f bs)) vs
-unfolding byFillings
+unfolding byFillings settled
 opposite forced unknown to f vs e =
     go forced unknown ∙ ap (λ v. byFillings (one not .function) (v ∷ [])) e ∙ sym (after not f vs)
   where
@@ -101,15 +113,9 @@ opposite forced unknown to f vs e =
 -- The value of a rule on what is seen of a list is the rule's function by fillings.
 pub by-seeing : (rule : Rule) (xs : List ℕ) → resultOf rule (seeAll nothing xs) ≡ byFillings (means rule) (map value xs)
 unfolding resultOf
-by-seeing And xs = folded B-AND true And refl and-steps xs
-by-seeing Nand xs =
-    let s = seeAll nothing xs in
-    opposite (s .zero) (s .unknown) false (means And) (map value xs) (folded B-AND true And refl and-steps xs)
-by-seeing Or xs = folded B-OR false Or refl or-steps xs
-by-seeing Nor xs =
-    let s = seeAll nothing xs in
-    opposite (s .one) (s .unknown) true (means Or) (map value xs) (folded B-OR false Or refl or-steps xs)
-by-seeing Xor xs = folded B-XOR false Xor refl xor-steps xs
-by-seeing Eqv xs =
-    let s = seeAll nothing xs in
-    opposite false (s .unknown) (s .even) (means Xor) (map value xs) (folded B-XOR false Xor refl xor-steps xs)
+by-seeing And xs = and-folded xs
+by-seeing Nand xs = opposite _ _ _ (means And) (map value xs) (and-folded xs)
+by-seeing Or xs = or-folded xs
+by-seeing Nor xs = opposite _ _ _ (means Or) (map value xs) (or-folded xs)
+by-seeing Xor xs = xor-folded xs
+by-seeing Eqv xs = opposite _ _ _ (means Xor) (map value xs) (xor-folded xs)

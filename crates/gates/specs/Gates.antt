@@ -17,7 +17,8 @@ use Rattle.gates.specs.declared.Rule.{Rule}
 use Rattle.gates.specs.declared.Rule.the-variants.{And}
 use Rattle.gates.specs.declared.Kind.the-variants.{Gate, Module}
 
--- A number is that of the gate with this rule and this count of arguments.
+-- A number is that of a gate with this rule and this count of arguments: the rule gives the gate's value to what is seen of as many,
+-- and a missing one counts as 0.
 pub record GateIs (number : ℕ) (rule : Rule) (arity : ℕ) : Type 0 where
   pub below : number < 16
   pub arity-is : arity ≡ gate number .arity
@@ -26,7 +27,9 @@ pub record GateIs (number : ℕ) (rule : Rule) (arity : ℕ) : Type 0 where
 -- The gate's value on exactly as many arguments as it takes.
 pub value-of-all : {number : ℕ} {rule : Rule} {arity : ℕ} → GateIs number rule arity → (xs : List ℕ) → length xs ≡ arity
     → code (resultOf rule (seeAll nothing xs)) ≡ gateCode number xs
-value-of-all {rule = rule} g xs e = ap (λ ys. code (resultOf rule (seeAll nothing ys))) (sym (firsts-all 0 xs) ∙ ap (λ n. firsts 0 n xs) e) ∙ g .value-is xs
+value-of-all {rule = rule} g xs e =
+    ap (λ ys. code (resultOf rule (seeAll nothing ys))) (sym (firsts-all 0 xs) ∙ ap (λ n. firsts 0 n xs) e)
+    ∙ g .value-is xs
 
 value-firsts : (n : ℕ) (xs : List ℕ) → map value (firsts 0 n xs) ≡ firsts (known false) n (map value xs)
 value-firsts zero xs = refl
@@ -38,7 +41,8 @@ unfolding gateCode gateValue
 gate-is number below = record { below = below; arity-is = refl; value-is = λ xs. ap code (by-rule xs) }
   where
     by-rule : (xs : List ℕ)
-        → resultOf (getD rules number And) (seeAll nothing (firsts 0 (gate number .arity) xs)) ≡ byFillings (gate number .function) (map value xs)
+        → resultOf (getD rules number And) (seeAll nothing (firsts 0 (gate number .arity) xs))
+        ≡ byFillings (gate number .function) (map value xs)
     by-rule xs =
         by-seeing (getD rules number And) (firsts 0 (gate number .arity) xs)
         ∙ ap (byFillings (means (getD rules number And))) (value-firsts (gate number .arity) xs)

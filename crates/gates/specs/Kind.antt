@@ -13,5 +13,6 @@ use Rattle.gates.specs.declared.Kind.the-variants.{Gate, Module}
 unfoldable pub rules : List Rule
 rules = And ∷ Nand ∷ Nand ∷ Nand ∷ Nand ∷ Or ∷ Or ∷ Or ∷ Eqv ∷ Xor ∷ And ∷ And ∷ And ∷ Nor ∷ Nor ∷ Nor ∷ []
 
+-- What `kind_of` answers.
 unfoldable pub kindOf : ℕ → Kind
 kindOf number = cond (isGate number) (Gate (getD rules number And) (gate number .arity)) Module

@@ -1,19 +1,21 @@
 -- The Boolean function of each gate is that of its rule on its first arguments: a fold of B-AND, B-OR or B-XOR, negated or not.
 use Prim.Native.Nat.{ℕ, zero, suc, _<_}
-use mathlib.Core.Bool.{Bool, true, false, not, _&&_, _||_, cond, and-true, or-false}
+use mathlib.Core.Bool.{Bool, true, false, not, and-true, or-false}
 use mathlib.Core.List.{List, [], _∷_, Forall₂, Forall₂·nil, Forall₂·cons}
 use mathlib.Core.Path.{_≡_, refl, _∙_}
 use native.Mathlib.Omega.{arith}
-use lib.ListN.{length, getD, drop}
+use lib.ListN.{length, getD}
 use lib.Seq.{getD-drop, drop-drop}
 use Rattle.meaning.specs.Gates.{Gate, one, two, three, four, gates, gate}
-use Rattle.meaning.specs.Gates.{B-BUF, B-NOT, B-NAND, B-NAND3, B-NAND4, B-OR, B-OR3, B-OR4, B-EQV, B-XOR, B-AND, B-AND3, B-AND4, B-NOR, B-NOR3, B-NOR4}
+use Rattle.meaning.specs.Gates.{B-BUF, B-NOT, B-NAND, B-NAND3, B-NAND4, B-OR, B-OR3, B-OR4, B-EQV, B-XOR}
+use Rattle.meaning.specs.Gates.{B-AND, B-AND3, B-AND4, B-NOR, B-NOR3, B-NOR4}
 use Rattle.laws.specs.Folds.{firsts}
 use Rattle.gates.specs.Kind.{rules}
 use Rattle.gates.specs.Folding.{means}
 use Rattle.gates.specs.declared.Rule.{Rule}
 use Rattle.gates.specs.declared.Rule.the-variants.{And, Nand, Or, Nor, Xor, Eqv}
 
+-- A gate's function is that of a rule.
 pub record Computes (g : Gate) (rule : Rule) : Type 0 where
   pub computes : (bs : List Bool) → g .function bs ≡ means rule (firsts false (g .arity) bs)
 
@@ -57,6 +59,7 @@ _then_ : {g : Gate} {rule : Rule} {gs : List Gate} {rs : List Rule}
     → Computes g rule → Forall₂ Computes gs rs → Forall₂ Computes (g ∷ gs) (rule ∷ rs)
 h then hs = Forall₂·cons h hs
 
+-- The sixteen gates and their rules, in order.
 in-order : Forall₂ Computes gates rules
 unfolding gates rules
 in-order =
@@ -78,6 +81,7 @@ in-order =
     then of-four B-NOR4 Nor (λ a b c d. simp or-false)
     then Forall₂·nil
 
+-- What holds of two lists in step holds at each number.
 at : {gs : List Gate} {rs : List Rule} → Forall₂ Computes gs rs → (n : ℕ) → n < length gs → (g : Gate) (rule : Rule)
     → Computes (getD gs n g) (getD rs n rule)
 at Forall₂·nil n less g rule = absurd (omega arith)

@@ -7,6 +7,7 @@ use Rattle.gates.specs.declared.Rule.{Rule}
 use Rattle.gates.specs.declared.Rule.the-variants.{And, Nand, Or, Nor, Xor, Eqv}
 use Rattle.gates.specs.declared.Seen.{Seen}
 
+-- Before the first argument.
 abbrev pub nothing : Seen
 nothing = record { zero = false; one = false; even = true; unknown = false }
 
@@ -22,7 +23,7 @@ seeAll s [] = s
 seeAll s (x ∷ xs) = seeAll (see s (value x)) xs
 
 -- A result that one argument can force; where none did it is unknown with an unknown among them, and the opposite without.
-abbrev pub settled : Bool → Bool → Bool → Val
+unfoldable pub settled : Bool → Bool → Bool → Val
 settled forced unknown to = cond forced (known to) (cond unknown un (known (not to)))
 
 -- The value that a rule gives to what is seen.

@@ -17,9 +17,9 @@ pub enum Rule {
     Eqv,
 }
 
-// What a number stands for.
+// What a number stands for: a gate, with its rule and its count of arguments, or a module.
 pub enum Kind {
-    Gate { rule: Rule, arity: usize },
+    Gate(Rule, usize),
     Module,
 }
 
@@ -28,43 +28,20 @@ pub fn kind_of(number: u16) -> Kind
 {
     let n = number as usize;
     match n {
-        0 => Kind::Gate {
-            rule: Rule::And,
-            arity: 1,
-        },
-        1 => Kind::Gate {
-            rule: Rule::Nand,
-            arity: 1,
-        },
-        2..=4 => Kind::Gate {
-            rule: Rule::Nand,
-            arity: n,
-        },
-        5..=7 => Kind::Gate {
-            rule: Rule::Or,
-            arity: n - 3,
-        },
-        8 => Kind::Gate {
-            rule: Rule::Eqv,
-            arity: 2,
-        },
-        9 => Kind::Gate {
-            rule: Rule::Xor,
-            arity: 2,
-        },
-        10..=12 => Kind::Gate {
-            rule: Rule::And,
-            arity: n - 8,
-        },
-        13..=15 => Kind::Gate {
-            rule: Rule::Nor,
-            arity: n - 11,
-        },
+        0 => Kind::Gate(Rule::And, 1),
+        1 => Kind::Gate(Rule::Nand, 1),
+        2..=4 => Kind::Gate(Rule::Nand, n),
+        5..=7 => Kind::Gate(Rule::Or, n - 3),
+        8 => Kind::Gate(Rule::Eqv, 2),
+        9 => Kind::Gate(Rule::Xor, 2),
+        10..=12 => Kind::Gate(Rule::And, n - 8),
+        13..=15 => Kind::Gate(Rule::Nor, n - 11),
         _ => Kind::Module,
     }
 }
 
-// All that any rule asks of the arguments seen so far: whether a 0, a 1 or an unknown was among them, and whether the 1s are even in number.
+// All that any rule asks of the arguments seen so far: whether a 0, a 1 or an unknown is among them, and whether the number of 1s is
+// even.
 pub struct Seen {
     zero: bool,
     one: bool,
@@ -118,6 +95,8 @@ impl Seen {
     }
 }
 
+const UNKNOWN: u32 = 2;
+
 // A result that one argument can force; where none did it is unknown with an unknown among them, and the opposite without.
 fn settled(forced: bool, unknown: bool, to: bool) -> u32
     ensures { λ r. ⌜ r ≡ code (settled forced unknown to) ⌝ }
@@ -125,7 +104,7 @@ fn settled(forced: bool, unknown: bool, to: bool) -> u32
     if forced {
         to as u32
     } else if unknown {
-        2
+        UNKNOWN
     } else {
         !to as u32
     }
@@ -148,7 +127,7 @@ pub fn value(number: u16, args: &[u8]) -> u8
     ensures { λ r. ⌜ r ≡ gateCode number (now (args .entry)) ⌝ }
 {
     match kind_of(number) {
-        Kind::Gate { rule, arity } => look(args, arity).result(rule) as u8,
+        Kind::Gate(rule, arity) => look(args, arity).result(rule) as u8,
         Kind::Module => 0,
     }
 }

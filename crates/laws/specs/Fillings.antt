@@ -27,7 +27,8 @@ common-same (known false) = refl
 common-same un = refl
 
 -- A known result is that of each filling.
-known-sound : (f : List Bool → Bool) {vs : List Val} {bs : List Bool} {b : Bool} → byFillings f vs ≡ known b → Fills vs bs → f bs ≡ b
+known-sound : (f : List Bool → Bool) {vs : List Val} {bs : List Bool} {b : Bool}
+    → byFillings f vs ≡ known b → Fills vs bs → f bs ≡ b
 unfolding byFillings
 known-sound f e done = cc
 known-sound f e (kept {b = c} r) = known-sound (λ bs. f (c ∷ bs)) e r
@@ -37,7 +38,8 @@ known-sound f e (put {b = true} {vs = vs} r) =
     known-sound (λ bs. f (true ∷ bs)) (common-known (byFillings (λ bs. f (false ∷ bs)) vs) _ e .1) r
 
 -- A result that each filling gives is known.
-known-complete : (f : List Bool → Bool) (vs : List Val) {b : Bool} → ((bs : List Bool) → Fills vs bs → f bs ≡ b) → byFillings f vs ≡ known b
+known-complete : (f : List Bool → Bool) (vs : List Val) {b : Bool}
+    → ((bs : List Bool) → Fills vs bs → f bs ≡ b) → byFillings f vs ≡ known b
 unfolding byFillings
 known-complete f [] h = ap known (h [] done)
 known-complete f (known c ∷ vs) h = known-complete (λ bs. f (c ∷ bs)) vs (λ bs r. h (c ∷ bs) (kept r))
@@ -48,7 +50,8 @@ known-complete f (un ∷ vs) {b} h =
     ∙ common-same (known b)
 
 -- The result is known exactly when every filling gives it.
-pub known-exactly : (f : List Bool → Bool) (vs : List Val) (b : Bool) → byFillings f vs ≡ known b ↔ ((bs : List Bool) → Fills vs bs → f bs ≡ b)
+pub known-exactly : (f : List Bool → Bool) (vs : List Val) (b : Bool)
+    → byFillings f vs ≡ known b ↔ ((bs : List Bool) → Fills vs bs → f bs ≡ b)
 known-exactly f vs b = (λ e bs r. known-sound f e r, known-complete f vs)
 
 -- A filling that gives a Boolean.

@@ -2,6 +2,7 @@
 pub mod Fillings
 pub mod Folds
 pub mod Gates
+pub mod Arity
 pub mod Lists
 pub mod Written
 pub mod Reading
@@ -34,4 +35,9 @@ pub mod Pairlist
 pub mod Heval
 pub mod WrongEvaluators
 pub mod EvaluationRows
+pub mod Calls
 pub mod Adder
+pub mod Flatten
+pub mod Figures
+pub mod WithinTests
+pub mod Counter

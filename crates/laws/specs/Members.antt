@@ -29,6 +29,10 @@ member-tells x (y ∷ ys) = tells either neither (tells-or (eqb-tells x y) (memb
 pub twice-none : ¬ (Twice [])
 twice-none t = elim t [ ]
 
+pub twice-one : {x : ℕ} → ¬ (Twice (x ∷ []))
+twice-one (again i) = in-none i
+twice-one (further t) = twice-none t
+
 pub duplicates-tells : (xs : List ℕ) → Tells (Twice xs) (¬ (Twice xs)) (duplicates xs)
 unfolding duplicates
 duplicates-tells [] = tells-false twice-none

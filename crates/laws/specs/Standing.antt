@@ -7,6 +7,7 @@ use mathlib.Core.List.{List, [], _∷_}
 use lib.Dec.{eqb}
 use borrow.Author.Tests.{eqb-true}
 use native.Mathlib.Omega.{arith}
+use Rattle.meaning.specs.Lists.{All, more}
 use Rattle.meaning.specs.Syntax.{Module}
 use Rattle.meaning.specs.Boxlist.{box, assoc}
 use Rattle.laws.specs.WellFormed.{ModuleOk, Accepted, some}
@@ -45,3 +46,8 @@ pub keeps-rules :
     → (later : List Module) × ModuleOk m later
 keeps-rules (some {later} ok rest) (here h) = (later, ok)
 keeps-rules (some ok rest) (there h s) = keeps-rules rest s
+
+-- What holds of every module of a list holds of one that stands in it.
+pub holds-standing : {P : Module → Type 0} {number : ℕ} {m : Module} {ms : List Module} → All P ms → Stands number m ms → P m
+holds-standing (more p rest) (here h) = p
+holds-standing (more p rest) (there h s) = holds-standing rest s

@@ -16,6 +16,8 @@ pub mod Acceptable
 pub mod Evaluation
 pub mod Heval
 pub mod Adder
+pub mod Counter
 pub mod Figures
 pub mod Flattening
 pub mod Calls
+pub mod Listing

@@ -1,12 +1,12 @@
 -- `gates::kind_of` meets its contract: each arm gives what stands in the tables of the gates and their rules.
 use Prim.Native.Nat.{ℕ, zero, suc, _+_, _-_, _≤_, _<_}
-use mathlib.Core.Path.{_≡_, refl, sym, subst}
+use mathlib.Core.Path.{_≡_, refl, subst}
 use native.Mathlib.Omega.{arith}
 use borrow.Author.Needs.{needs}
 use borrow.Author.Tests.{le-ltb}
 use Rattle.meaning.specs.Gates.{gate, gates}
 use Rattle.gates.specs.Kind.{kindOf, rules}
-use Rattle.gates.specs.declared.Kind.the-variants.{Gate, Module}
+use Rattle.gates.specs.declared.Kind.the-variants.{Gate}
 use Rattle.gates.specs.declared.Rule.the-variants.{Nand, Or, And, Nor}
 use Rattle.gates.proofs.kind_of.Statement.{statement}
 use Rattle.gates.proofs.kind_of.Tie as tie

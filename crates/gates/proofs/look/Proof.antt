@@ -1,13 +1,13 @@
 -- `gates::look` meets its contract. The loop's invariant: seeing the arguments that are left leads to what is to be seen.
-use Prim.Native.Nat.{ℕ, zero, suc, _+_, _-_, _≤_, _<_}
+use Prim.Native.Nat.{ℕ, suc, _+_, _-_, _≤_, _<_}
 use mathlib.Core.List.{List, _∷_}
 use mathlib.Core.Logic.{⊎-elim}
-use mathlib.Core.Path.{_≡_, refl, sym, ap, _∙_}
+use mathlib.Core.Path.{_≡_, sym, ap, _∙_}
 use native.Mathlib.Nat.{add-zero, sub-zero}
 use native.Mathlib.Omega.{arith}
 use denote.Ref.{now}
 use borrow.Author.Needs.{needs}
-use lib.ListN.{length, getD, drop, List·getD-eq-default}
+use lib.ListN.{getD, drop, List·getD-eq-default}
 use lib.Seq.{getD-drop, drop-drop}
 use Rattle.meaning.specs.Values.{value}
 use Rattle.laws.specs.Folds.{firsts}
@@ -17,7 +17,8 @@ use Rattle.gates.proofs.look.Statement.{statement}
 use Rattle.gates.proofs.look.Tie as tie
 
 -- The first of the arguments that are left is the next one.
-firsts-next : (n i : ℕ) (xs : List ℕ) → i < n → firsts 0 (n - i) (drop i xs) ≡ getD xs i 0 ∷ firsts 0 (n - (i + 1)) (drop (i + 1) xs)
+firsts-next : (n i : ℕ) (xs : List ℕ) → i < n
+    → firsts 0 (n - i) (drop i xs) ≡ getD xs i 0 ∷ firsts 0 (n - (i + 1)) (drop (i + 1) xs)
 firsts-next n i xs less =
     let more : n - i ≡ suc (n - (i + 1)) = omega arith in
     rw (more, getD-drop, drop-drop, add-zero)
@@ -31,32 +32,18 @@ next n i xs s t v less e k =
     ∙ ap (seeAll s) (sym (firsts-next n i xs less))
 
 abbrev Inv-loop : tie.InvT-loop
-Inv-loop args arity seen₀ i₀ seen i = (i ≤ arity) × (seeAll seen (firsts 0 (arity - i) (drop i args)) ≡ seeAll nothing (firsts 0 arity args))
+Inv-loop args arity seen₀ i₀ seen i =
+    (i ≤ arity) × (seeAll seen (firsts 0 (arity - i) (drop i args)) ≡ seeAll nothing (firsts 0 arity args))
 
 abbrev μ-loop : tie.MeasureT-loop
 μ-loop args arity seen₀ i₀ seen i = arity - i
 
-nothing-requires : tie.Need-nothing-requires Inv-loop μ-loop
-nothing-requires c κs = search needs
-
-loop-holds : tie.Need-loop-holds Inv-loop μ-loop
-loop-holds c = (search needs, rw (c .nothing .ensures, sub-zero))
-
-shared-slice-read-v : tie.Need-shared-slice-read-v Inv-loop μ-loop
-shared-slice-read-v c = search needs
-
-see-requires : tie.Need-see-requires Inv-loop μ-loop
-see-requires c κs = search needs
-
-add-i : tie.Need-add-i Inv-loop μ-loop
-add-i c = search needs
-
-loop-less : tie.Need-loop-less Inv-loop μ-loop
-loop-less c = search needs
-
 -- What is looked at is the argument, or 0 where it is missing.
-argument : (c : tie.Joined1 Inv-loop μ-loop) → c .if1 .v ≡ getD (now (c .before .before .before .before .before .args .args)) (c .before .before .loop .i) 0
-argument c = ⊎-elim (λ w. w .2) (λ w. w .1 ∙ sym (List·getD-eq-default (now (c .before .before .before .before .before .args .args)) 0 (w .0 .left))) (c .if1 .came)
+argument : (c : tie.Joined1 Inv-loop μ-loop)
+    → c .if1 .v ≡ getD (now (c .before .before .before .before .before .args .args)) (c .before .before .loop .i) 0
+argument c =
+    let args = now (c .before .before .before .before .before .args .args) in
+    ⊎-elim (λ w. w .2) (λ w. w .1 ∙ sym (List·getD-eq-default args 0 (w .0 .left))) (c .if1 .came)
 
 loop-again : tie.Need-loop-again Inv-loop μ-loop
 loop-again c =
@@ -66,7 +53,9 @@ loop-again c =
 
 returns : tie.Need-returns Inv-loop μ-loop
 unfolding seeAll
-returns c = let done : c .before .before .before .before .args .arity - c .before .loop .i ≡ 0 = omega arith in rw done at (c .before .loop .inv .1)
+returns c =
+    let done : c .before .before .before .before .args .arity - c .before .loop .i ≡ 0 = omega arith in
+    rw done at (c .before .loop .inv .1)
 
 pub look-spec : {M : Type 1} → statement M
 look-spec =
@@ -74,11 +63,11 @@ look-spec =
     (tie.spec
     Inv-loop
     μ-loop
-    nothing-requires
-    loop-holds
-    shared-slice-read-v
-    see-requires
-    add-i
-    loop-less
+    (λ c κs. search needs)
+    (λ c. (search needs, rw (c .nothing .ensures, sub-zero)))
+    (λ c. search needs)
+    (λ c κs. search needs)
+    (λ c. search needs)
+    (λ c. search needs)
     loop-again
     returns)

@@ -32,10 +32,10 @@ count-of-number x = go (decLt x 128)
     go (yes low) = inl (low, ap length (bytes-of-low x low))
     go (no high) = let large : 128 ≤ x = omega arith in inr (large, ap length (bytes-of-high x large))
 
-most-count : (x : ℕ) → length (numberBytes x) ≤ 2
+pub most-count : (x : ℕ) → length (numberBytes x) ≤ 2
 most-count x = ⊎-elim (λ w. omega arith) (λ w. omega arith) (count-of-number x)
 
-low-count : (x : ℕ) → x < 128 → length (numberBytes x) ≡ 1
+pub low-count : (x : ℕ) → x < 128 → length (numberBytes x) ≡ 1
 low-count x low = ⊎-elim (λ w. w .1) (λ w. omega arith) (count-of-number x)
 
 -- Of a run of nets those from 128 on have a byte more.

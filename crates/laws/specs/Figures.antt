@@ -1,0 +1,9 @@
+-- Laws of the figures of a module (document 01, 'What a module means').
+
+-- Sums over the gates reached: the sum of the tally is the gate count.
+pub mod Weights
+pub mod Tally
+-- What delay and load are at most.
+pub mod Delay
+pub mod Load
+pub mod Bounds
