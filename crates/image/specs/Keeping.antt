@@ -1,7 +1,7 @@
 -- One induction for all that resolution keeps. Of each module of a file that fits, what a search says of it and what a search in the
 -- resolved file says at its position are related, if that follows for one module from the same for the modules after it.
 use Prim.Native.Nat.{ℕ, suc, _+_}
-use mathlib.Core.Path.{_≡_, refl, sym, ap, subst, _∙_}
+use mathlib.Core.Path.{_≡_, refl, sym, subst, _∙_}
 use mathlib.Core.Bool.{Bool, true, false, cond}
 use mathlib.Core.List.{List, _∷_}
 use native.Mathlib.Omega.{arith}

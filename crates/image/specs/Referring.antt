@@ -1,16 +1,15 @@
 -- How references are renumbered in the part of a file that begins at a position: a gate keeps its number, and the number of a module
 -- of that part becomes 16 plus the module's position. It holds of the whole file, and with it of every part.
 use Prim.Native.Nat.{ℕ, suc, _+_, _≤_}
-use mathlib.Core.Path.{_≡_, refl, sym, ap, _∙_}
+use mathlib.Core.Path.{_≡_, refl, _∙_}
 use mathlib.Core.Bool.{Bool, true, false}
 use mathlib.Core.List.{List, _∷_}
 use native.Mathlib.Omega.{arith}
 use borrow.Author.Tests.{eqb-true, le-ltb}
 use lib.Dec.{eqb}
-use Rattle.meaning.specs.Syntax.{Occurrence, Module}
+use Rattle.meaning.specs.Syntax.{Module}
 use Rattle.meaning.specs.Gates.{isGate}
 use Rattle.meaning.specs.Boxlist.{box, assoc}
-use Rattle.laws.specs.WellFormed.{Reference, toGate, toModule}
 use Rattle.laws.specs.Standing.{Stands, here, there, stands, number-of}
 use Rattle.image.specs.Resolved.{positionOf, referTo}
 use Rattle.image.specs.Fitting.{ModuleFits, Fits, some}

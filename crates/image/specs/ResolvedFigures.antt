@@ -48,7 +48,7 @@ references-same {C} {f} {refer} {position} {later} refers before = record { same
 
 -- The same summed up over occurrences.
 module _ {refer : ℕ → ℕ} {later : List Module} {l l′ : ℕ → ℕ} (references : SameReferred refer later l l′) (slot : ℕ → ℕ) where
-  bodySize-kept :
+  pub bodySize-kept :
       {signals : List ℕ} {os : List Occurrence}
       → Body later signals os
       → bodySize l′ (map (resolveOccurrence slot refer) os) ≡ bodySize l os

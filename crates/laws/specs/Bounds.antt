@@ -63,7 +63,7 @@ kinds-within {ms} kind a x =
     one false = omega arith
 
 -- Room is at most as many times the limit on a module's nets as there are modules.
-largest-within :
+pub largest-within :
     (inner : ℕ → ℕ) (most : ℕ) → ((x : ℕ) → inner x ≤ most) → (os : List Occurrence) → largestReferred inner os ≤ most
 unfolding largestReferred
 largest-within inner most h [] = omega arith

@@ -50,7 +50,7 @@ unfolding each moduleNumbers occurrenceNumbers
 numbers-of-tail = refl
 
 -- The numbers of module 18.
-numbers-of-first : (n : ℕ) → moduleNumbers (rippleAdder n)
+pub numbers-of-first : (n : ℕ) → moduleNumbers (rippleAdder n)
     ≡ 18
     ∷ (2 * n + 1)
     ∷ (upFrom 0 (2 * n + 1)

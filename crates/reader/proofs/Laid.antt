@@ -1,0 +1,40 @@
+-- Lists whose first entries have been replaced, one store after the other.
+use Prim.Native.Nat.{ℕ, suc, _+_, _-_, _≤_, _<_}
+use mathlib.Core.Path.{_≡_, refl, ap, sym, _∙_}
+use mathlib.Core.List.{List, [], _∷_, _++_, append-assoc}
+use native.Mathlib.Omega.{arith}
+use lib.ListN.{length, drop, set, getD, length-append, length-drop}
+use lib.Seq.{drop-append-add, drop-drop, drop-cons, set-at, getD-at, append-snoc}
+use Rattle.reader.specs.Numbers.{laid}
+
+-- What covers a layer leaves nothing of it.
+pub laid-over : (xs ys old : List ℕ) → length xs ≤ length ys → laid ys (laid xs old) ≡ laid ys old
+laid-over xs ys old h =
+    let k : ℕ = length ys - length xs in
+    let e : length ys ≡ length xs + k = omega arith in
+    ap (λ (t : List ℕ). ys ++ t)
+    (ap (λ (n : ℕ). drop n (laid xs old)) e
+    ∙ drop-append-add xs (drop (length xs) old) k
+    ∙ drop-drop k (length xs) old
+    ∙ ap (λ (n : ℕ). drop n old) (sym e))
+
+pub length-laid : (xs old : List ℕ) → length xs ≤ length old → length (laid xs old) ≡ length old
+length-laid xs old h = simp (length-append, length-drop) (omega arith)
+
+-- The entry behind xs is stored.
+pub laid-more : (xs old : List ℕ) (n v : ℕ) → laid xs old ≡ old → n ≡ length xs → n < length old
+    → set old n v ≡ laid (xs ++ (v ∷ [])) old
+laid-more xs old n v lies e fits =
+    let tail : drop (length xs) old ≡ getD old (length xs) 0 ∷ drop (suc (length xs)) old =
+    drop-cons old (length xs) 0 (omega arith)
+    in
+    let old≡ : old ≡ xs ++ (getD old (length xs) 0 ∷ drop (suc (length xs)) old) = sym lies ∙ ap (λ (t : List ℕ). xs ++ t) tail in
+    let m : length (xs ++ (v ∷ [])) ≡ suc (length xs) = simp length-append (omega arith) in
+    ap (λ (t : List ℕ). set t n v) old≡
+    ∙ set-at xs (getD old (length xs) 0) (drop (suc (length xs)) old) v n (sym e)
+    ∙ sym (append-snoc xs v (drop (suc (length xs)) old))
+    ∙ ap (λ (k : ℕ). (xs ++ (v ∷ [])) ++ drop k old) (sym m)
+
+-- The entry behind xs is read back.
+pub laid-last : (xs old : List ℕ) (n v : ℕ) → n ≡ length xs → getD (laid (xs ++ (v ∷ [])) old) n 0 ≡ v
+laid-last xs old n v e = rw append-assoc (getD-at xs v (drop (length (xs ++ (v ∷ []))) old) 0 n (sym e))

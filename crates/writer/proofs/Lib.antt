@@ -1,0 +1,8 @@
+-- Facts that the functions' proofs share.
+pub mod Puts
+pub mod Laying
+pub mod Runs
+pub mod Cells
+pub mod Modules
+pub mod Answering
+pub mod Promise

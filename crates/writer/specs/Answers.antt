@@ -1,0 +1,23 @@
+-- What a writer answers, and what it leaves in the buffer that was lent to it.
+use Prim.Native.Nat.{ℕ}
+use mathlib.Core.Path.{_≡_}
+use mathlib.Core.List.{List}
+use lib.Dec.{leb}
+use lib.ListN.{length}
+use Rattle.meaning.specs.Calls.{Decision, refusal, answer, demand, Written, outAfter}
+use Rattle.writer.specs.declared.answer.Writing.{Writing}
+use Rattle.writer.specs.declared.answer.Writing.the-variants.{Wrote, Refused}
+
+-- Document 01's answer for each case. `Wrote` is number 0 with place 0, beside the number of bytes written.
+abbrev pub writingOf : Decision Written → Writing
+writingOf (refusal number place) = Refused number place
+writingOf (answer w) = Wrote (length (w .bytes))
+
+-- The last part of `writing`: 22 where the buffer is shorter than the bytes of the file.
+abbrev pub fitting : (bytes : List ℕ) (out : ℕ) → Decision Written
+fitting bytes out = demand 22 0 (leb (length bytes) out) (answer (record { bytes = bytes; cleared = 0 }))
+
+-- What a call comes to is answered, and the buffer is as it says.
+pub record Answers (decision : Decision Written) (before after : List ℕ) (result : Writing) : Type 0 where
+  pub is : result ≡ writingOf decision
+  pub out : after ≡ outAfter decision before

@@ -1,0 +1,8 @@
+// Writers: code that writes modules to order. Each lays out the numbers of its file in a list of its own, then their bytes are
+// written into the lent buffer: nothing lent is touched before the call is sure to be answered.
+mod answer;
+mod pieces;
+mod ripple;
+
+pub use answer::Writing;
+pub use ripple::adder;
