@@ -21,7 +21,6 @@ pub record Called (rs : List Module) (k : ℕ) (later : List Module) (o : Occurr
   pub further : List Module
   pub here : drop j rs ≡ sub ∷ further
   pub after : k < j
-  pub inside : j < length rs
   pub takes : length (o .takes) ≡ length (sub .inputs)
   pub drives : length (o .drives) ≡ length (sub .outputs)
   pub ok : FrameOk j sub further
@@ -44,7 +43,6 @@ called {rs} {k} {later = later} {o = o} {j = j} frames e reference is-module num
       further = there .later;
       here = there .here;
       after = there .after;
-      inside = there .inside;
       takes = there .takes;
       drives = there .drives;
       ok = frame-at frames (there .j) (there .here);

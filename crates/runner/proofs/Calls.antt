@@ -6,7 +6,7 @@ use mathlib.Core.Bool.{Bool, false, cond}
 use mathlib.Core.List.{List, _++_, append-assoc}
 use native.Mathlib.Omega.{arith}
 use lib.ListN.{length, take, drop, length-append}
-use lib.Seq.{drop-drop, take-take, take-at, length-take-le}
+use lib.Seq.{take-take, take-at, length-take-le}
 use Rattle.meaning.specs.Syntax.{Occurrence, Module}
 use Rattle.meaning.specs.Gates.{isGate}
 use Rattle.meaning.specs.Limits.{netCount}
@@ -18,14 +18,9 @@ use Rattle.runner.specs.Job.{jobMeaning}
 use Rattle.runner.specs.Running.{needed, Ran}
 use Rattle.runner.specs.declared.gate.Job.{Job}
 use Rattle.runner.proofs.Standing.{read-front}
-use Rattle.runner.proofs.Parts.{Back}
+use Rattle.runner.proofs.Parts.{drop-further, Back}
 use Rattle.runner.proofs.Steps.{Stepped}
 use Rattle.runner.proofs.Called.{Called}
-
-split : (a b : ℕ) (l : List ℕ) → a ≤ b → drop b l ≡ drop (b - a) (drop a l)
-split a b l h =
-    let all : a + (b - a) ≡ b = omega arith in
-    sym (drop-drop (b - a) a l ∙ ap (λ (n : ℕ). drop n l) all)
 
 front-of-laid :
     (xs : List ℕ) (at : ℕ) (ys : List ℕ) → at + length ys ≤ length xs → take (at + length ys) (laid xs at ys) ≡ take at xs ++ ys
@@ -122,13 +117,13 @@ module _
         ∙ sym (from-args scratch)
       where
         from-frame : (l : List ℕ) → drop bound l ≡ drop (bound - frame) (drop frame l)
-        from-frame l = split frame bound l (omega arith)
+        from-frame l = drop-further frame bound l (omega arith)
 
         from-room : (l : List ℕ) → drop (bound - frame) l ≡ drop (bound - frame - needed (c .sub) (c .further)) (drop (needed (c .sub) (c .further)) l)
-        from-room l = split (needed (c .sub) (c .further)) (bound - frame) l (omega arith)
+        from-room l = drop-further (needed (c .sub) (c .further)) (bound - frame) l (omega arith)
 
         from-args : (l : List ℕ) → drop bound l ≡ drop (bound - (frame + length args)) (drop (frame + length args) l)
-        from-args l = split (frame + length args) bound l (omega (arith, args-long, inputs-fit))
+        from-args l = drop-further (frame + length args) bound l (omega (arith, args-long, inputs-fit))
 
     applied :
         isGate (o .refers) ≡ false
@@ -159,4 +154,4 @@ module _
         }
       where
         from-outputs : (l : List ℕ) → drop bound l ≡ drop (bound - (filled + length outputs)) (drop (filled + length outputs) l)
-        from-outputs l = split (filled + length outputs) bound l (omega (arith, outputs-long))
+        from-outputs l = drop-further (filled + length outputs) bound l (omega (arith, outputs-long))

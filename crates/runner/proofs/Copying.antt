@@ -6,18 +6,9 @@ use mathlib.Core.List.{List, [], _∷_, _++_}
 use native.Mathlib.Omega.{arith}
 use lib.ListN.{length, getD, drop, set, length-set, length-append}
 use lib.Seq.{slice, length-slice, getD-set-other}
-use Rattle.image.specs.Frames.{readSlots}
-use Rattle.image.specs.FrameLengths.{length-of-readSlots}
 use Rattle.image.specs.Laid.{laid, set-laid, laid-after, laid-nothing}
 use Rattle.runner.specs.Slots.{Readable, Copyable, valuesAt}
-use Rattle.runner.proofs.Reading.{values-here, values-end}
-
-pub length-of-values :
-    (image : List ℕ) (from to source : ℕ) (scratch : List ℕ)
-    → to ≤ length image
-    → length (valuesAt image from to source scratch) ≡ to - from
-length-of-values image from to source scratch inside =
-    length-of-readSlots 0 (drop source scratch) (slice from to image) ∙ length-slice from to image inside
+use Rattle.runner.proofs.Reading.{values-here, values-end, length-of-values}
 
 -- A place is not written.
 abbrev Spared : (target count p : ℕ) → Type 0

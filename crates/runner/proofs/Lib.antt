@@ -2,6 +2,7 @@
 pub mod Reading
 pub mod Copying
 pub mod Standing
+pub mod Positions
 pub mod Parts
 pub mod Steps
 pub mod Called
@@ -9,3 +10,5 @@ pub mod Calls
 pub mod Progress
 pub mod Turns
 pub mod ModuleTurns
+pub mod Front
+pub mod Answers

@@ -26,6 +26,7 @@ use Rattle.runner.specs.declared.gate.Job.{Job}
 use Rattle.runner.specs.declared.places.Header.{Header}
 use Rattle.runner.specs.declared.places.Place.{Place}
 use Rattle.runner.proofs.Standing.{values-stand, slot-below, readable-stands}
+use Rattle.runner.proofs.Positions.{in-starts, module-there}
 use Rattle.runner.proofs.Parts.{lent-is, Back, back}
 use Rattle.runner.proofs.Called.{Called, called}
 use Rattle.runner.proofs.Calls.{Done, module-step}
@@ -48,13 +49,13 @@ module _
         called (s .loaded .frames) (s .here) (t .now .reference) is-module (omega (arith, above, t .read .refers))
 
     pub target-listed : place .refers - 16 < length starts
-    target-listed = omega (arith, target .inside, s .loaded .started)
+    target-listed = in-starts (s .loaded) (place .refers - 16) (target .here)
 
     pub target-stands : Stands image (getD starts (place .refers - 16) 0) (moduleNumbers (target .sub))
     target-stands = s .loaded .standing (place .refers - 16) (target .here)
 
     pub target-there : ModuleThere image (getD starts (place .refers - 16) 0)
-    target-there = record { m = target .sub; stands = target-stands }
+    target-there = module-there (s .loaded) (place .refers - 16) (target .here)
 
     pub falls : 2 * (length starts - (place .refers - 16)) + 1 < 2 * (length starts - k)
     falls = omega (arith, target .after, target-listed)

@@ -4,8 +4,14 @@ use mathlib.Core.Path.{_≡_, refl, sym, ap, _∙_}
 use mathlib.Core.List.{List, [], _∷_, _++_, append-nil}
 use native.Mathlib.Omega.{arith}
 use lib.ListN.{length, take, drop, length-drop, length-append, drop-of-length-le}
-use lib.Seq.{take-all, take-at, drop-at, length-take-le}
+use lib.Seq.{drop-drop, take-all, take-at, drop-at, length-take-le}
 use borrow.Rule.Slice.PartMut.{midOf, putMid}
+
+-- What lies behind a place, counted from a place before it.
+pub drop-further : (a b : ℕ) (l : List ℕ) → a ≤ b → drop b l ≡ drop (b - a) (drop a l)
+drop-further a b l h =
+    let all : a + (b - a) ≡ b = omega arith in
+    sym (drop-drop (b - a) a l ∙ ap (λ (n : ℕ). drop n l) all)
 
 -- What was lent is all that stands there.
 pub lent-is : (a : ℕ) (xs : List ℕ) → midOf a (length xs - a) xs ≡ drop a xs

@@ -1,13 +1,14 @@
 -- Reading values at slots one after the other: what is read so far, and what is left of the slots, make up the whole.
-use Prim.Native.Nat.{ℕ, suc, _+_, _≤_, _<_}
+use Prim.Native.Nat.{ℕ, zero, suc, _+_, _-_, _≤_, _<_}
 use mathlib.Core.Path.{_≡_, refl, sym, ap, _∙_}
 use mathlib.Core.List.{List, [], _∷_}
 use native.Mathlib.Omega.{arith}
 use native.Mathlib.Nat.{zero-add}
 use native.Mathlib.Numerals.{add-one}
-use lib.ListN.{length, getD, drop}
-use lib.Seq.{slice, slice-cons, slice-empty, getD-drop}
+use lib.ListN.{length, getD, take, drop}
+use lib.Seq.{slice, slice-cons, slice-empty, length-slice, getD-take, getD-drop}
 use Rattle.image.specs.Frames.{readSlots}
+use Rattle.image.specs.FrameLengths.{length-of-readSlots}
 use Rattle.runner.specs.Slots.{Readable, valuesAt}
 
 -- The next value, and those behind it.
@@ -25,6 +26,29 @@ values-here image i to source scratch more inside =
 pub values-end : (image : List ℕ) (i to source : ℕ) (scratch : List ℕ) → i ≡ to → valuesAt image i to source scratch ≡ []
 unfolding readSlots
 values-end image i to source scratch e = rw (e, slice-empty to image)
+
+-- The value at the i-th slot.
+getD-readSlots : (frame : List ℕ) (slots : List ℕ) (i : ℕ) → i < length slots → getD (readSlots 0 frame slots) i 0 ≡ getD frame (getD slots i 0) 0
+unfolding readSlots
+getD-readSlots frame [] i h = absurd (omega arith)
+getD-readSlots frame (s ∷ slots) zero h = refl
+getD-readSlots frame (s ∷ slots) (suc i) h = getD-readSlots frame slots i (omega arith)
+
+pub length-of-values :
+    (image : List ℕ) (from to source : ℕ) (scratch : List ℕ)
+    → to ≤ length image
+    → length (valuesAt image from to source scratch) ≡ to - from
+length-of-values image from to source scratch inside =
+    length-of-readSlots 0 (drop source scratch) (slice from to image) ∙ length-slice from to image inside
+
+pub value-at :
+    (image : List ℕ) (from to : ℕ) (scratch : List ℕ) (i : ℕ)
+    → i < to - from
+    → to ≤ length image
+    → getD (valuesAt image from to 0 scratch) i 0 ≡ getD scratch (getD image (from + i) 0) 0
+value-at image from to scratch i h inside =
+    getD-readSlots scratch (slice from to image) i (omega (arith, length-slice from to image inside))
+    ∙ ap (λ (slot : ℕ). getD scratch slot 0) (getD-drop from (take to image) i 0 ∙ getD-take to image (from + i) 0 (omega arith))
 
 -- A walk over the slots: what remains to be done with those from place i on is what was to be done with all of them.
 pub record Going

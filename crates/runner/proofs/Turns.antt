@@ -3,7 +3,7 @@ use Prim.Native.Nat.{ℕ, _+_, _-_, _≤_, _<_}
 use mathlib.Core.Path.{_≡_, refl, sym, ap, subst, _∙_}
 use mathlib.Core.List.{List}
 use native.Mathlib.Omega.{arith}
-use lib.ListN.{length, getD, set, length-drop}
+use lib.ListN.{length, getD, set}
 use Rattle.meaning.specs.Layout.{each, occurrenceNumbers}
 use Rattle.meaning.specs.Limits.{driven, netCount}
 use Rattle.gates.specs.Kind.{kindOf}
@@ -22,12 +22,6 @@ use Rattle.runner.specs.declared.places.Place.{Place}
 use Rattle.runner.proofs.Standing.{values-stand, readable-stands}
 use Rattle.runner.proofs.Steps.{gate-drives-one, gate-step}
 use Rattle.runner.proofs.Progress.{Progress, begin, Current, advance}
-
--- The position is one of the tables'.
-pub listed : {image starts nets : List ℕ} {k : ℕ} {scratch : List ℕ} → Runnable image starts nets k scratch → (k < length starts) × (k < length nets)
-listed {k = k} s =
-    let inside : k < length (s .rs) = omega (arith, ap length (s .here), length-drop k (s .rs)) in
-    (omega (arith, s .loaded .started), omega (arith, s .loaded .tabled))
 
 -- Where the walk starts: at the module's occurrences, all of them left, with the inputs in the frame.
 pub record Walk {image starts nets : List ℕ} {k : ℕ} {scratch : List ℕ} (s : Runnable image starts nets k scratch) (at left filled : ℕ) : Type 0 where

@@ -3,3 +3,4 @@ pub mod Job
 pub mod Slots
 pub mod Places
 pub mod Running
+pub mod Calls

@@ -5,7 +5,7 @@ use mathlib.Core.List.{List}
 use lib.ListN.{length, getD, drop}
 use lib.Seq.{slice}
 use Rattle.image.specs.Frames.{readSlots}
-use Rattle.image.specs.Laid.{laid}
+use Rattle.meaning.specs.Ceilings.{Bytes}
 
 -- The slots at the places `from` to `to` of the image are indices of a list of that length, `source` entries into it.
 pub record Readable (image : List ℕ) (from to source size : ℕ) : Type 0 where
@@ -23,3 +23,9 @@ pub record Copyable (image : List ℕ) (from to source target : ℕ) (scratch : 
   pub room : target + (to - from) ≤ length scratch
   pub apart :
       (i : ℕ) → from ≤ i → i < to → (j : ℕ) → target ≤ j → j < target + (to - from) → source + getD image i 0 ≡ j → ⊥
+
+-- The values at the slots are bytes, for which the buffer has room.
+pub record Givable (image : List ℕ) (from to : ℕ) (scratch out : List ℕ) : Type 0 where
+  pub readable : Readable image from to 0 (length scratch)
+  pub bytes : Bytes (valuesAt image from to 0 scratch)
+  pub room : to - from ≤ length out

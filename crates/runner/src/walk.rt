@@ -45,7 +45,7 @@ fn walk(
         left -= 1;
         filled += o.drives;
         match gates::kind_of(o.refers) {
-            Kind::Gate { rule, arity: _ } => {
+            Kind::Gate(rule, _) => {
                 scratch[here] = crate::gate::at_gate(job, rule, image, o.from, o.to, scratch);
             }
             Kind::Module => {

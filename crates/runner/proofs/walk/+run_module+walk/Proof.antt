@@ -12,8 +12,9 @@ use Rattle.gates.specs.Kind.{kindOf}
 use Rattle.gates.specs.declared.Kind.the-variants.{Gate, Module}
 use Rattle.image.specs.Pieces.{module-at}
 use Rattle.runner.specs.Running.{Runnable, Walkable}
+use Rattle.runner.proofs.Positions.{in-starts, in-nets, module-there}
 use Rattle.runner.proofs.Progress.{current, finish}
-use Rattle.runner.proofs.Turns.{Turn, Walk, Walking, listed, enter, walking-begins, turn-readable, frame-room, scratch-room, gate-room, turn-gate}
+use Rattle.runner.proofs.Turns.{Turn, Walk, Walking, enter, walking-begins, turn-readable, frame-room, scratch-room, gate-room, turn-gate}
 use Rattle.runner.proofs.ModuleTurns as turns
 use Rattle.runner.proofs.walk.run_module.Reads as run-module
 use Rattle.runner.proofs.walk.run_module.Kinds as run-module-kinds
@@ -120,16 +121,16 @@ pub +run-module+walk-spec : {M : Type 1} → statement M
     close μ-run-module μ-walk
     (λ t.
     run-module-lts.spec (run-module-claims t) (run-module-at t) run-module.Post
-    (λ c. let h = listed (c .before .before .before .before .pre .1) in omega arith)
-    (λ c. listed (c .before .before .before .before .before .pre .1) .0)
-    (λ c κs. let s = c .before .before .before .before .before .pre .1 in record { m = s .m; stands = s .loaded .standing (c .before .before .before .before .before .args .k) (s .here) })
+    (λ c. let s = c .before .before .before .before .pre .1 in omega (arith, in-starts (s .loaded) (c .before .before .before .before .args .k) (s .here)))
+    (λ c. let s = c .before .before .before .before .before .pre .1 in in-starts (s .loaded) (c .before .before .before .before .before .args .k) (s .here))
+    (λ c κs. let s = c .before .before .before .before .before .pre .1 in module-there (s .loaded) (c .before .before .before .before .before .args .k) (s .here))
     (λ c κs. (omega (arith, c .before .before .before .before .before .before .before .pre .0), walkable t (c .before) (c .before .before .before .before .before .before .before .pre .1)))
     (λ c. c .before .before .walk .kept .1 .1 .1 .1 .1 .1 .0)
     (λ c s. c .before .before .walk .ensures (walkable t (c .before .before .before .before) s)))
     (λ t.
     walk-lts.spec (walk-claims t) (walk-at t) walk.Post walk-Inv-loop walk-μ-loop
-    (λ c. let h = listed (c .before .before .before .before .pre .1 .runnable) in omega arith)
-    (λ c. listed (c .before .before .before .before .before .pre .1 .runnable) .1)
+    (λ c. let s = c .before .before .before .before .pre .1 .runnable in omega (arith, in-nets (s .loaded) (c .before .before .before .before .args .k) (s .here)))
+    (λ c. let s = c .before .before .before .before .before .pre .1 .runnable in in-nets (s .loaded) (c .before .before .before .before .before .args .k) (s .here))
     (λ c. let s = c .before .before .before .before .before .before .pre .1 in omega (arith, s .header .to, module-at (s .runnable .m) (s .runnable .loaded .standing (c .before .before .before .before .before .before .args .k) (s .runnable .here)) .end, c .before .before .before .before .before .before .good))
     (λ c. walking-begins (c .before .before .before .before .before .before .args .job) (c .before .before .before .before .before .before .args .scratch .now))
     (λ c κs. let now = current (let w = c .before .before .before .before .before .before .before .before .pre .1 in c .before .loop .inv (w .runnable) (enter w)) (c .loop-test .taken) in record { o = now .o; stands = now .stands })
