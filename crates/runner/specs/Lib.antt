@@ -4,3 +4,6 @@ pub mod Slots
 pub mod Places
 pub mod Running
 pub mod Calls
+pub mod Mapped
+pub mod Evaluating
+pub mod Arriving
