@@ -7,3 +7,4 @@ pub mod Calls
 pub mod Mapped
 pub mod Evaluating
 pub mod Arriving
+pub mod Loading
