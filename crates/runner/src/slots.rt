@@ -15,9 +15,7 @@ pub fn copy(
     requires { ⌜ Copyable (now image) from to source target (now scratch) ⌝ }
     ensures { λ _. ⌜ now (scratch .exit) ≡ laid (now (scratch .entry)) target (valuesAt (now (image .entry)) from to source (now (scratch .entry))) ⌝ }
 {
-    let mut next = target;
     for i in from..to {
-        scratch[next] = scratch[source + image::entry(image, i)];
-        next += 1;
+        scratch[target + (i - from)] = scratch[source + image::entry(image, i)];
     }
 }

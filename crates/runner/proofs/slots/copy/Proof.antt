@@ -1,6 +1,6 @@
 -- `runner::slots::copy` meets its contract. The loop's invariant: what is copied and what is left to copy make up the whole. Assumes
 -- nothing.
-use Prim.Native.Nat.{ℕ, _+_, _-_, _<_}
+use Prim.Native.Nat.{ℕ, _+_, _-_, _≤_, _<_}
 use mathlib.Core.Path.{_≡_, sym, subst}
 use native.Mathlib.Omega.{arith}
 use lib.ListN.{length, getD, set}
@@ -9,75 +9,60 @@ use Rattle.runner.proofs.slots.copy.Statement.{statement}
 use Rattle.runner.proofs.slots.copy.Tie as tie
 
 abbrev Inv-loop : tie.InvT-loop
-Inv-loop image from to source target scratch₀ next₀ i₀ scratch next i = Copying image from to source target scratch₀ i next scratch
+Inv-loop image from to source target scratch₀ i₀ scratch i = Copying image from to source target scratch₀ i scratch
 
 abbrev μ-loop : tie.MeasureT-loop
-μ-loop image from to source target scratch₀ next₀ i₀ scratch next i = to - i
+μ-loop image from to source target scratch₀ i₀ scratch i = to - i
 
 loop-holds : tie.Need-loop-holds Inv-loop μ-loop
 loop-holds c =
     let a = c .before .before .args in
     copying-start (a .image .now) (a .from) (a .to) (a .source) (a .target) (a .scratch .now) (c .before .before .pre)
 
-entry-requires : tie.Need-entry-requires Inv-loop μ-loop
-entry-requires c κs = omega (arith, c .before .before .before .before .pre .readable .inside)
+-- What holds in a turn once the slot is read: it is one of scratch, and so is the place that is written.
+record Reads (target from source i slot size : ℕ) : Type 0 where
+  after : from ≤ i
+  read : source + slot < size
+  write : target + (i - from) < size
 
--- What holds in a turn once the slot is read.
-reads :
+turn :
     (c : tie.After-entry Inv-loop μ-loop)
-    → (c .before .before .before .before .before .args .source + c .entry .result < length (c .before .before .loop .scratch))
-    × (c .before .before .loop .next < length (c .before .before .loop .scratch))
-reads c =
+    → let a = c .before .before .before .before .before .args in
+    Reads (a .target) (a .from) (a .source) (c .before .before .loop .i) (c .entry .result) (length (a .scratch .now))
+turn c =
     let start = c .before .before .before .before .before in
     let a = start .args in
-    let loop = c .before .before .loop in (
-      omega (arith, copying-reads (a .image .now) (a .from) (a .to) (a .source) (a .target) (a .scratch .now) (start .pre) (loop .inv) (c .before .loop-test .taken), c .entry .ensures),
-      copying-room (a .image .now) (a .from) (a .to) (a .source) (a .target) (a .scratch .now) (start .pre) (loop .inv) (c .before .loop-test .taken),
-    )
-
-add-scratch : tie.Need-add-scratch Inv-loop μ-loop
-add-scratch c = let h = reads c in omega arith
-
-mul-scratch : tie.Need-mul-scratch Inv-loop μ-loop
-mul-scratch c = let h = reads c in omega arith
-
-slice-read-scratch : tie.Need-slice-read-scratch Inv-loop μ-loop
-slice-read-scratch c = reads (c .before) .0
-
-mul-scratch-2 : tie.Need-mul-scratch-2 Inv-loop μ-loop
-mul-scratch-2 c = let h = reads (c .before) in omega arith
-
-slice-write-scratch : tie.Need-slice-write-scratch Inv-loop μ-loop
-slice-write-scratch c = reads (c .before) .1
-
-add-next : tie.Need-add-next Inv-loop μ-loop
-add-next c = let h = reads (c .before) in omega arith
-
-add-i : tie.Need-add-i Inv-loop μ-loop
-add-i c = omega arith
-
-loop-less : tie.Need-loop-less Inv-loop μ-loop
-loop-less c = omega arith
+    let loop = c .before .before .loop in
+    let taken = c .before .loop-test .taken in
+    record {
+      after = loop .inv .after;
+      read =
+          omega
+          (arith, copying-reads (a .image .now) (a .from) (a .to) (a .source) (a .target) (a .scratch .now) (start .pre) (loop .inv) taken, loop .inv .size, c .entry .ensures);
+      write =
+          omega
+          (arith, copying-room (a .image .now) (a .from) (a .to) (a .source) (a .target) (a .scratch .now) (start .pre) (loop .inv) taken, loop .inv .size);
+    }
 
 loop-again : tie.Need-loop-again Inv-loop μ-loop
 loop-again c =
-    let head = c .before .before .before in
-    let start = head .before .before .before in
+    let start = c .before .before .before .before .before .before in
     let a = start .args in
-    let loop = head .loop in
+    let loop = c .before .before .before .loop in
     subst
-    (λ (slot : ℕ). Copying (a .image .now) (a .from) (a .to) (a .source) (a .target) (a .scratch .now) (loop .i + 1) (loop .next + 1) (set (loop .scratch) (loop .next) (getD (loop .scratch) (a .source + slot) 0)))
+    (λ (slot : ℕ).
+    Copying (a .image .now) (a .from) (a .to) (a .source) (a .target) (a .scratch .now) (loop .i + 1)
+    (set (loop .scratch) (a .target + (loop .i - a .from)) (getD (loop .scratch) (a .source + slot) 0)))
     (sym (c .before .entry .ensures))
-    (copying-more (a .image .now) (a .from) (a .to) (a .source) (a .target) (a .scratch .now) (start .pre) (loop .inv) (c .before .before .loop-test .taken))
-
-same-length : tie.Need-same-length Inv-loop μ-loop
-same-length c = c .before .loop .inv .size
+    (copying-more (a .image .now) (a .from) (a .to) (a .source) (a .target) (a .scratch .now) (start .pre) (loop .inv)
+    (c .before .before .loop-test .taken))
 
 returns : tie.Need-returns Inv-loop μ-loop
 returns c =
     let start = c .before .before .before .before in
     let a = start .args in
-    copying-all (a .image .now) (a .from) (a .to) (a .source) (a .target) (a .scratch .now) (start .pre) (c .before .loop .inv) (c .loop-test .left)
+    copying-all (a .image .now) (a .from) (a .to) (a .source) (a .target) (a .scratch .now) (start .pre) (c .before .loop .inv)
+    (c .loop-test .left)
 
 pub copy-spec : {M : Type 1} → statement M
 copy-spec =
@@ -86,15 +71,16 @@ copy-spec =
     Inv-loop
     μ-loop
     loop-holds
-    entry-requires
-    add-scratch
-    mul-scratch
-    slice-read-scratch
-    mul-scratch-2
-    slice-write-scratch
-    add-next
-    add-i
-    loop-less
+    (λ c κs. omega (arith, c .before .before .before .before .pre .readable .inside))
+    (λ c. let h = turn c in omega arith)
+    (λ c. let h = turn c in omega arith)
+    (λ c. let h = turn (c .before) in omega (arith, c .before .before .before .loop .inv .size))
+    (λ c. turn (c .before) .after)
+    (λ c. let h = turn (c .before) in omega arith)
+    (λ c. let h = turn (c .before) in omega arith)
+    (λ c. let h = turn (c .before) in omega (arith, c .before .before .before .loop .inv .size))
+    (λ c. omega arith)
+    (λ c. omega arith)
     loop-again
-    same-length
+    (λ c. c .before .loop .inv .size)
     returns)
