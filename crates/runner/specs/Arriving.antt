@@ -12,11 +12,12 @@ use Rattle.meaning.specs.Figures.{largest, gateArrival, arrivals, inputCount, d
 use Rattle.laws.specs.WellFormed.{Accepted}
 use Rattle.laws.specs.Related.{Respects}
 use Rattle.laws.specs.Figures.Bounds.{delay-within}
-use Rattle.image.specs.Resolved.{positionOf, resolve}
+use Rattle.image.specs.Resolved.{positionOf, referTo, resolveModule, resolve}
+use Rattle.image.specs.Shapes.{inputs-of-resolved}
 use Rattle.image.specs.Fitting.{accepted-fits}
 use Rattle.image.specs.FramesMean.{frames-mean}
 use Rattle.runner.specs.Job.{latest, arrival, atGate, jobMeaning}
-use Rattle.runner.specs.Calls.{answers}
+use Rattle.runner.specs.Calls.{answers, Timed}
 use Rattle.runner.specs.Mapped.{Mapped, is-mapped, run-mapped}
 use Rattle.runner.specs.declared.gate.Job.the-variants.{Arrival}
 
@@ -52,21 +53,34 @@ pub delayed :
     → Accepted ms
     → (number : ℕ) (m : Module)
     → assoc number ms ≡ box m
-    → largest (answers Arrival (resolve ms) (positionOf number ms) (replicate (length (m .inputs)) 0)) ≡ delay ms number
+    → (n : ℕ)
+    → n ≡ length (m .inputs)
+    → largest (answers Arrival (resolve ms) (positionOf number ms) (replicate n 0)) ≡ delay ms number
 unfolding delay delayBy
-delayed {ms} accepted number m found =
+delayed {ms} accepted number m found n count =
     ap largest
-    (frames-mean 0 (jobMeaning Arrival) (λ kind xs h. refl) (accepted-fits accepted) number m found zeros (length-replicate n 0)
+    (frames-mean 0 (jobMeaning Arrival) (λ kind xs h. refl) (accepted-fits accepted) number m found zeros (length-replicate n 0 ∙ count)
     ∙ ap (run 0 (jobMeaning Arrival) ms number) (sym (zeros-capped n))
     ∙ arrivals-capped ms number zeros)
     ∙ largest-capped (is-mapped capped (arrivals (λ kind. 1) ms number zeros))
     ∙ omega (arith, delay-is, delay-within accepted number)
   where
-    n : ℕ
-    n = length (m .inputs)
-
     zeros : List ℕ
     zeros = replicate n 0
 
     delay-is : delay ms number ≡ largest (arrivals (λ kind. 1) ms number zeros)
-    delay-is = ap (λ (count : ℕ). largest (arrivals (λ kind. 1) ms number (replicate count 0))) (ap inputCount found)
+    delay-is = ap (λ (k : ℕ). largest (arrivals (λ kind. 1) ms number (replicate k 0))) (ap inputCount found ∙ sym count)
+
+-- What is promised of the answer, said of the file.
+pub delay-means :
+    {ms : List Module}
+    → Accepted ms
+    → (number : ℕ) (m : Module)
+    → assoc number ms ≡ box m
+    → {given r : ℕ} {scratch scratch′ : List ℕ}
+    → Timed (resolve ms) (resolveModule (referTo ms) (positionOf number ms) m) (positionOf number ms) given scratch scratch′ r
+    → r ≡ delay ms number
+delay-means {ms} accepted number m found t =
+    let p = positionOf number ms in
+    t .latest
+    ∙ delayed accepted number m found (length (resolveModule (referTo ms) p m .inputs)) (inputs-of-resolved (referTo ms) p m)

@@ -2,9 +2,9 @@
 use Prim.Native.Nat.{ℕ, zero, suc, _≤_}
 use mathlib.Core.Path.{_≡_, refl, sym, ap, ap₂, _∙_}
 use mathlib.Core.Bool.{true, false}
-use mathlib.Core.List.{List, [], _∷_, map, Forall₂·nil, Forall₂·cons}
+use mathlib.Core.List.{List, [], _∷_, _++_, map, Forall₂·nil, Forall₂·cons}
 use native.Mathlib.Omega.{arith}
-use lib.ListN.{length}
+use lib.ListN.{length, drop}
 use Rattle.meaning.specs.Lists.{All, none, more}
 use Rattle.meaning.specs.Syntax.{Module}
 use Rattle.meaning.specs.Values.{Val, known, un, value, code}
@@ -17,7 +17,7 @@ use Rattle.image.specs.Resolved.{positionOf, resolve}
 use Rattle.image.specs.Fitting.{accepted-fits}
 use Rattle.image.specs.FramesMean.{frames-mean}
 use Rattle.runner.specs.Job.{atGate, jobMeaning}
-use Rattle.runner.specs.Calls.{answers}
+use Rattle.runner.specs.Calls.{answers, Evaluated}
 use Rattle.runner.specs.Mapped.{Mapped, mapped-is, run-mapped}
 use Rattle.runner.specs.declared.gate.Job.the-variants.{Value}
 
@@ -65,3 +65,18 @@ evaluated {ms} accepted number m found values count small =
     frames-mean 0 (jobMeaning Value) (λ kind xs h. refl) (accepted-fits accepted) number m found values count
     ∙ ap (run 0 (jobMeaning Value) ms number) (sym (code-of-value small))
     ∙ run-mapped code (known false) gates-coded ms number (map value values)
+
+-- What is promised of the buffer, said of the file.
+pub evaluate-means :
+    {ms : List Module}
+    → Accepted ms
+    → (number : ℕ) (m : Module)
+    → assoc number ms ≡ box m
+    → {given : ℕ} {values scratch out scratch′ out′ : List ℕ}
+    → length values ≡ length (m .inputs)
+    → All (λ v. v ≤ 2) values
+    → Evaluated (resolve ms) (positionOf number ms) given values scratch out scratch′ out′
+    → let outputs = map code (evaluate ms number (map value values)) in
+    out′ ≡ outputs ++ drop (length outputs) out
+evaluate-means accepted number m found {values = values} {out = out} count small e =
+    e .outputs ∙ ap (λ (l : List ℕ). l ++ drop (length l) out) (evaluated accepted number m found values count small)

@@ -25,11 +25,11 @@ pub fn give(image: &[u16], from: usize, to: usize, scratch: &[u32], out: &mut [u
     }
 }
 
-pub fn clear(count: usize, scratch: &mut [u32])
-    requires { ⌜ count ≤ length (now scratch) ⌝ }
-    ensures { λ _. ⌜ now (scratch .exit) ≡ replicate count 0 ++ drop count (now (scratch .entry)) ⌝ }
+pub fn clear(entries: usize, scratch: &mut [u32])
+    requires { ⌜ entries ≤ length (now scratch) ⌝ }
+    ensures { λ _. ⌜ now (scratch .exit) ≡ replicate entries 0 ++ drop entries (now (scratch .entry)) ⌝ }
 {
-    for i in 0..count {
+    for i in 0..entries {
         scratch[i] = 0;
     }
 }
