@@ -8,7 +8,7 @@ use lib.ListN.{getD}
 use Rattle.meaning.specs.Lists.{All, none, more}
 use Rattle.meaning.specs.Syntax.{Occurrence, Module}
 use Rattle.meaning.specs.Gates.{isGate}
-use Rattle.meaning.specs.Evaluation.{Meaning, apply}
+use Rattle.meaning.specs.Evaluation.{Meaning}
 use Rattle.image.specs.Frames.{readSlots, walkFrame, runFrame, runFrames}
 
 -- A meaning gives only such values where it is given only such values.

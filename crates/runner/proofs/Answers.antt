@@ -7,11 +7,10 @@ use native.Mathlib.Omega.{arith}
 use lib.ListN.{length, getD, take, drop, length-append, length-drop, replicate, length-replicate}
 use lib.Seq.{take-append-seam, drop-append-seam}
 use Rattle.meaning.specs.Syntax.{Module}
-use Rattle.meaning.specs.Lists.{All, none, more}
+use Rattle.meaning.specs.Lists.{none, more}
 use Rattle.meaning.specs.Ceilings.{Bytes}
 use Rattle.meaning.specs.Gates.{gateCode}
 use Rattle.meaning.specs.Limits.{netCount}
-use Rattle.meaning.specs.Figures.{room}
 use Rattle.laws.specs.Gates.{gate-code-small}
 use Rattle.image.specs.Stands.{Stands}
 use Rattle.image.specs.Frames.{readSlots, walkFrame, runFrame, runFrames}

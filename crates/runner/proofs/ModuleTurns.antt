@@ -1,12 +1,12 @@
 -- A turn at an occurrence that refers to a module: what each step of the call asks, and that the walk goes on.
 use Prim.Native.Nat.{ℕ, _+_, _-_, _*_, _≤_, _<_}
-use mathlib.Core.Path.{_≡_, refl, sym, ap, ap₂, subst, _∙_}
-use mathlib.Core.Bool.{false, cond}
+use mathlib.Core.Path.{_≡_, ap, subst, _∙_}
+use mathlib.Core.Bool.{false}
 use mathlib.Core.List.{List}
 use native.Mathlib.Omega.{arith}
 use borrow.Author.Tests.{le-ltb}
 use borrow.Rule.Slice.PartMut.{midOf, putMid}
-use lib.ListN.{length, getD, drop, length-drop}
+use lib.ListN.{length, getD, length-drop}
 use Rattle.meaning.specs.Gates.{isGate}
 use Rattle.meaning.specs.Layout.{moduleNumbers}
 use Rattle.meaning.specs.Limits.{netCount}
@@ -16,11 +16,11 @@ use Rattle.gates.specs.Gates.{module-of-kind}
 use Rattle.gates.specs.declared.Kind.the-variants.{Module}
 use Rattle.image.specs.Stands.{Stands}
 use Rattle.image.specs.Pieces.{module-at}
-use Rattle.image.specs.Frames.{readSlots, Filled}
+use Rattle.image.specs.Frames.{readSlots}
 use Rattle.image.specs.FrameLengths.{length-of-readSlots}
 use Rattle.image.specs.Laid.{laid, length-laid}
-use Rattle.runner.specs.Slots.{Readable, Copyable, valuesAt}
-use Rattle.runner.specs.Places.{ModuleThere, HeaderOf, PlaceOf}
+use Rattle.runner.specs.Slots.{Copyable, valuesAt}
+use Rattle.runner.specs.Places.{ModuleThere, HeaderOf}
 use Rattle.runner.specs.Running.{needed, Runnable, Ran}
 use Rattle.runner.specs.declared.gate.Job.{Job}
 use Rattle.runner.specs.declared.places.Header.{Header}
@@ -29,8 +29,8 @@ use Rattle.runner.proofs.Standing.{values-stand, slot-below, readable-s
 use Rattle.runner.proofs.Positions.{in-starts, module-there}
 use Rattle.runner.proofs.Parts.{lent-is, Back, back}
 use Rattle.runner.proofs.Called.{Called, called}
-use Rattle.runner.proofs.Calls.{Done, module-step}
-use Rattle.runner.proofs.Progress.{Progress, Current, advance}
+use Rattle.runner.proofs.Calls.{module-step}
+use Rattle.runner.proofs.Progress.{Progress, advance}
 use Rattle.runner.proofs.Turns.{Turn, arguments, arguments-end, frame-room, scratch-room, turn-readable}
 
 module _

@@ -1,9 +1,9 @@
 -- How far the walk over a module's occurrences has come: what is left to run from the frame so far fills the frame as the whole does
 -- from the inputs.
-use Prim.Native.Nat.{ℕ, zero, suc, _+_, _≤_, _<_}
-use mathlib.Core.Path.{_≡_, refl, sym, ap, ap₂, subst, _∙_}
+use Prim.Native.Nat.{ℕ, _+_, _≤_, _<_}
+use mathlib.Core.Path.{_≡_, refl, sym, ap, subst, _∙_}
 use mathlib.Core.Bool.{cond}
-use mathlib.Core.List.{List, [], _∷_, _++_}
+use mathlib.Core.List.{List, [], _∷_}
 use native.Mathlib.Omega.{arith}
 use lib.ListN.{length, take, drop, length-append}
 use Rattle.meaning.specs.Syntax.{Occurrence, Module}
@@ -14,7 +14,7 @@ use Rattle.meaning.specs.Figures.{largestReferred, room}
 use Rattle.laws.specs.WellFormed.{Reference}
 use Rattle.image.specs.Stands.{Stands, stands-front, stands-skip}
 use Rattle.image.specs.Pieces.{moved, length-of-occurrence}
-use Rattle.image.specs.Frames.{walkFrame, runFrames, Filled, Framed, done, step, FrameOk}
+use Rattle.image.specs.Frames.{walkFrame, runFrames, Filled, Framed, step, FrameOk}
 use Rattle.runner.specs.Job.{jobMeaning}
 use Rattle.runner.specs.Running.{needed, Ran}
 use Rattle.runner.specs.declared.gate.Job.{Job}

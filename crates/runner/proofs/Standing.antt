@@ -1,9 +1,9 @@
 -- Lists of slots that stand in the image: reading at them there is reading at the slots.
 use Prim.Native.Nat.{ℕ, suc, _+_, _-_, _≤_, _<_}
 use mathlib.Core.Path.{_≡_, refl, sym, ap, ap₂, _∙_}
-use mathlib.Core.List.{List, [], _∷_, _++_}
+use mathlib.Core.List.{List, [], _∷_}
 use native.Mathlib.Omega.{arith}
-use lib.ListN.{length, getD, take, drop, List·getD-append, length-drop}
+use lib.ListN.{length, getD, take, drop, List·getD-append}
 use lib.Seq.{slice, take-add, drop-at, getD-drop, getD-take, length-take-le}
 use Rattle.image.specs.Stands.{Stands, stands-part}
 use Rattle.image.specs.Frames.{readSlots, Filled}

@@ -1,31 +1,26 @@
 -- One occurrence is run: the frame grows by what it refers to makes of its arguments, at a gate and at a module.
-use Prim.Native.Nat.{ℕ, suc, _+_, _-_, _≤_, _<_}
-use mathlib.Core.Path.{_≡_, refl, sym, ap, ap₂, _∙_}
-use mathlib.Core.Bool.{Bool, true, false, cond, true≢false}
+use Prim.Native.Nat.{ℕ, suc, _+_, _<_}
+use mathlib.Core.Path.{_≡_, refl, sym, ap, _∙_}
+use mathlib.Core.Bool.{Bool, true, cond, true≢false}
 use mathlib.Core.List.{List, [], _∷_, _++_}
 use native.Mathlib.Omega.{arith}
-use native.Mathlib.Numerals.{add-one}
 use borrow.Author.Tests.{lt-ltb}
 use lib.ListN.{length, take, drop, set, length-set}
-use lib.Seq.{take-suc-set, drop-set-lt, drop-drop, take-take, take-at}
+use lib.Seq.{take-suc-set, drop-set-lt}
 use Rattle.meaning.specs.Syntax.{Occurrence, Module}
 use Rattle.meaning.specs.Gates.{isGate, gate}
-use Rattle.meaning.specs.Limits.{netCount}
 use Rattle.meaning.specs.Evaluation.{apply}
 use Rattle.laws.specs.WellFormed.{Reference, toGate, toModule}
 use Rattle.gates.specs.Kind.{kindOf}
 use Rattle.gates.specs.Gates.{GateIs, gate-of-kind, value-of-all}
 use Rattle.gates.specs.declared.Rule.{Rule}
 use Rattle.gates.specs.declared.Kind.the-variants.{Gate}
-use Rattle.image.specs.Frames.{readSlots, walkFrame, runFrame, runFrames, Filled}
+use Rattle.image.specs.Frames.{readSlots, runFrames, Filled}
 use Rattle.image.specs.FrameLengths.{length-of-readSlots}
-use Rattle.image.specs.Laid.{laid, length-laid, from-laid, take-laid, drop-laid}
 use Rattle.runner.specs.Job.{atGate, jobMeaning, byRule}
-use Rattle.runner.specs.Running.{needed, Ran}
 use Rattle.runner.specs.declared.gate.Job.{Job}
 use Rattle.runner.specs.declared.gate.Job.the-variants.{Value, Arrival}
 use Rattle.runner.proofs.Standing.{read-front}
-use Rattle.runner.proofs.Parts.{Back}
 
 -- The frame has `filled` values before, and those that the occurrence drives besides afterwards. From `bound` on nothing changes.
 pub record Stepped (job : Job) (later : List Module) (o : Occurrence) (filled bound : ℕ) (scratch scratch′ : List ℕ) : Type 0 where

@@ -1,11 +1,11 @@
 -- A turn of the walk over a module's occurrences: what each step asks, and that the walk goes on.
 use Prim.Native.Nat.{ℕ, _+_, _-_, _≤_, _<_}
-use mathlib.Core.Path.{_≡_, refl, sym, ap, subst, _∙_}
+use mathlib.Core.Path.{_≡_, sym, ap, _∙_}
 use mathlib.Core.List.{List}
 use native.Mathlib.Omega.{arith}
-use lib.ListN.{length, getD, set}
+use lib.ListN.{length, set}
 use Rattle.meaning.specs.Layout.{each, occurrenceNumbers}
-use Rattle.meaning.specs.Limits.{driven, netCount}
+use Rattle.meaning.specs.Limits.{netCount}
 use Rattle.gates.specs.Kind.{kindOf}
 use Rattle.gates.specs.declared.Rule.{Rule}
 use Rattle.gates.specs.declared.Kind.the-variants.{Gate}
@@ -14,8 +14,8 @@ use Rattle.image.specs.Stepping.{frame-at}
 use Rattle.image.specs.Pieces.{module-at, occurrence-at}
 use Rattle.runner.specs.Job.{byRule}
 use Rattle.runner.specs.Slots.{Readable, valuesAt}
-use Rattle.runner.specs.Places.{HeaderOf, PlaceOf}
-use Rattle.runner.specs.Running.{needed, Runnable, Walkable}
+use Rattle.runner.specs.Places.{PlaceOf}
+use Rattle.runner.specs.Running.{Runnable, Walkable}
 use Rattle.runner.specs.declared.gate.Job.{Job}
 use Rattle.runner.specs.declared.places.Header.{Header}
 use Rattle.runner.specs.declared.places.Place.{Place}

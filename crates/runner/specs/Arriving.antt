@@ -1,7 +1,7 @@
 -- What `delay` answers on the resolved file is the module's delay. Arrivals in scratch stay at the latest that an entry can hold, so each
 -- is the smaller of that and the true one; and the delay of an accepted file's module is far below it.
-use Prim.Native.Nat.{ℕ, zero, suc, _+_, _≤_, min, max}
-use mathlib.Core.Path.{_≡_, refl, sym, ap, ap₂, _∙_}
+use Prim.Native.Nat.{ℕ, zero, suc, _+_, min}
+use mathlib.Core.Path.{_≡_, refl, sym, ap, _∙_}
 use mathlib.Core.List.{List, _∷_, map, Forall₂, Forall₂·nil, Forall₂·cons}
 use native.Mathlib.Omega.{arith}
 use lib.ListN.{length, replicate, length-replicate}

@@ -1,5 +1,4 @@
 // Where the parts of a module and of an occurrence stand in the image.
-ghost use mathlib.Core.List.{List};
 ghost use Rattle.meaning.specs.Syntax.{Occurrence, Module};
 ghost use Rattle.meaning.specs.Layout.{occurrenceNumbers, moduleNumbers};
 ghost use Rattle.image.specs.Stands.{Stands};

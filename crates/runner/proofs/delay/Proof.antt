@@ -1,6 +1,6 @@
 -- `runner::delay` meets its contract: the run starts from zeros, the largest is that of the outputs, and scratch is cleared. Assumes
 -- nothing.
-use mathlib.Core.Path.{_≡_, ap, _∙_}
+use mathlib.Core.Path.{ap, _∙_}
 use native.Mathlib.Omega.{arith}
 use borrow.Author.Needs.{needs}
 use Rattle.meaning.specs.Figures.{largest}

@@ -1,6 +1,6 @@
 -- `runner::evaluate` meets its contract: the values are loaded, the outputs are read off the frame, and scratch is cleared. Assumes
 -- nothing.
-use mathlib.Core.Path.{_≡_, sym, ap, subst, _∙_}
+use mathlib.Core.Path.{sym, ap, subst, _∙_}
 use mathlib.Core.List.{List, _++_}
 use Prim.Native.Nat.{ℕ}
 use native.Mathlib.Omega.{arith}

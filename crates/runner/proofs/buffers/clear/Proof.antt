@@ -1,7 +1,7 @@
 -- `runner::buffers::clear` meets its contract. The loop's invariant: the entries passed are 0. Assumes nothing.
 use Prim.Native.Nat.{ℕ, _-_, _<_}
-use mathlib.Core.Path.{_≡_, sym, ap, _∙_}
-use mathlib.Core.List.{List, _++_}
+use mathlib.Core.Path.{sym, ap, _∙_}
+use mathlib.Core.List.{_++_}
 use native.Mathlib.Omega.{arith}
 use lib.ListN.{length, drop, replicate, length-replicate, getD-replicate}
 use Rattle.runner.proofs.Front.{Front, front-none, front-more, front-all}

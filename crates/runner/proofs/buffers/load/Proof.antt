@@ -1,6 +1,6 @@
 -- `runner::buffers::load` meets its contract. The loop's invariant: the values passed stand at the front of scratch. Assumes nothing.
 use Prim.Native.Nat.{_-_, _<_}
-use mathlib.Core.Path.{_≡_, refl}
+use mathlib.Core.Path.{refl}
 use native.Mathlib.Omega.{arith}
 use lib.ListN.{length}
 use Rattle.runner.proofs.Front.{Front, front-none, front-more, front-all}

@@ -1,8 +1,7 @@
 -- `runner::gate::largest` meets its contract. The loop's invariant: the largest so far and the largest of the values that are left give
 -- the largest of all. Assumes nothing.
 use Prim.Native.Nat.{ℕ, _-_, _<_, max}
-use mathlib.Core.Path.{_≡_, sym, ap, _∙_}
-use mathlib.Core.List.{List}
+use mathlib.Core.Path.{ap}
 use mathlib.Core.Logic.{⊎-elim}
 use native.Mathlib.Omega.{arith}
 use lib.ListN.{length, getD}

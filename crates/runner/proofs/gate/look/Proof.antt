@@ -1,7 +1,7 @@
 -- `runner::gate::look` meets its contract. The loop's invariant: what is seen so far, and then the values that are left, is what is seen
 -- of all. Assumes nothing.
 use Prim.Native.Nat.{ℕ, _-_, _<_}
-use mathlib.Core.Path.{_≡_, sym, ap, _∙_}
+use mathlib.Core.Path.{sym, ap, _∙_}
 use native.Mathlib.Omega.{arith}
 use borrow.Author.Needs.{needs}
 use lib.ListN.{length, getD}

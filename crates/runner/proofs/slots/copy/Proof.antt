@@ -1,7 +1,7 @@
 -- `runner::slots::copy` meets its contract. The loop's invariant: what is copied and what is left to copy make up the whole. Assumes
 -- nothing.
 use Prim.Native.Nat.{ℕ, _+_, _-_, _≤_, _<_}
-use mathlib.Core.Path.{_≡_, sym, subst}
+use mathlib.Core.Path.{sym, subst}
 use native.Mathlib.Omega.{arith}
 use lib.ListN.{length, getD, set}
 use Rattle.runner.proofs.Copying.{Copying, copying-start, copying-reads, copying-room, copying-more, copying-all}
