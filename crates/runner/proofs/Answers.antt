@@ -10,7 +10,6 @@ use Rattle.meaning.specs.Syntax.{Module}
 use Rattle.meaning.specs.Lists.{none, more}
 use Rattle.meaning.specs.Ceilings.{Bytes}
 use Rattle.meaning.specs.Gates.{gateCode}
-use Rattle.meaning.specs.Limits.{netCount}
 use Rattle.laws.specs.Gates.{gate-code-small}
 use Rattle.image.specs.Stands.{Stands}
 use Rattle.image.specs.Frames.{readSlots, walkFrame, runFrame, runFrames}
@@ -27,6 +26,7 @@ use Rattle.runner.specs.declared.gate.Job.{Job}
 use Rattle.runner.specs.declared.gate.Job.the-variants.{Value}
 use Rattle.runner.specs.declared.places.Header.{Header}
 use Rattle.runner.proofs.Standing.{values-stand, readable-stands, read-front}
+use Rattle.runner.proofs.Positions.{inputs-within}
 use Rattle.runner.proofs.Parts.{drop-further}
 
 module _ {image starts nets : List ℕ} {k given : ℕ} {scratch : List ℕ} (e : Callable image starts nets k given scratch) where
@@ -36,8 +36,7 @@ module _ {image starts nets : List ℕ} {k given : ℕ} {scratch : List ℕ} (e 
       (arith, e .wide, search-at (e .loaded .frames) room-search 0 k zero-le (e .here), ap (needed (e .m)) (behind (e .loaded .frames) k (e .here)))
 
   pub inputs-fit : length (e .m .inputs) ≤ needed (e .m) (e .later)
-  unfolding netCount
-  inputs-fit = omega arith
+  inputs-fit = omega (arith, inputs-within (e .m))
 
   -- The inputs stand at the front of scratch.
   pub record Fed (vs scratch₁ : List ℕ) : Type 0 where

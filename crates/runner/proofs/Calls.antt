@@ -9,7 +9,6 @@ use lib.ListN.{length, take, drop, length-append}
 use lib.Seq.{take-take, take-at, length-take-le}
 use Rattle.meaning.specs.Syntax.{Occurrence, Module}
 use Rattle.meaning.specs.Gates.{isGate}
-use Rattle.meaning.specs.Limits.{netCount}
 use Rattle.meaning.specs.Evaluation.{Meaning, apply}
 use Rattle.image.specs.Frames.{readSlots, walkFrame, runFrame, runFrames, Filled}
 use Rattle.image.specs.FrameLengths.{length-of-readSlots}
@@ -18,6 +17,7 @@ use Rattle.runner.specs.Job.{jobMeaning}
 use Rattle.runner.specs.Running.{needed, Ran}
 use Rattle.runner.specs.declared.gate.Job.{Job}
 use Rattle.runner.proofs.Standing.{read-front}
+use Rattle.runner.proofs.Positions.{inputs-within}
 use Rattle.runner.proofs.Parts.{drop-further, Back}
 use Rattle.runner.proofs.Steps.{Stepped}
 use Rattle.runner.proofs.Called.{Called}
@@ -58,12 +58,8 @@ module _
     args-long : length args ≡ length (c .sub .inputs)
     args-long = length-of-readSlots 0 scratch (o .takes) ∙ c .takes
 
-    inputs-fit : length (c .sub .inputs) ≤ netCount (c .sub)
-    unfolding netCount
-    inputs-fit = omega arith
-
     room₁ : frame + length args ≤ length scratch
-    room₁ = omega (arith, args-long, inputs-fit)
+    room₁ = omega (arith, args-long, inputs-within (c .sub))
 
     long₁ : length scratch₁ ≡ length scratch
     long₁ = ap length (d .passed) ∙ length-laid scratch frame args room₁
@@ -123,7 +119,7 @@ module _
         from-room l = drop-further (needed (c .sub) (c .further)) (bound - frame) l (omega arith)
 
         from-args : (l : List ℕ) → drop bound l ≡ drop (bound - (frame + length args)) (drop (frame + length args) l)
-        from-args l = drop-further (frame + length args) bound l (omega (arith, args-long, inputs-fit))
+        from-args l = drop-further (frame + length args) bound l (omega (arith, args-long, inputs-within (c .sub)))
 
     applied :
         isGate (o .refers) ≡ false

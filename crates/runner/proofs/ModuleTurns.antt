@@ -26,7 +26,7 @@ use Rattle.runner.specs.declared.gate.Job.{Job}
 use Rattle.runner.specs.declared.places.Header.{Header}
 use Rattle.runner.specs.declared.places.Place.{Place}
 use Rattle.runner.proofs.Standing.{values-stand, slot-below, readable-stands}
-use Rattle.runner.proofs.Positions.{in-starts, module-there}
+use Rattle.runner.proofs.Positions.{in-starts, module-there, inputs-within}
 use Rattle.runner.proofs.Parts.{lent-is, Back, back}
 use Rattle.runner.proofs.Called.{Called, called}
 use Rattle.runner.proofs.Calls.{module-step}
@@ -67,15 +67,11 @@ module _
     pub call-room : getD nets k 0 + needed (target .sub) (target .further) ≤ needed (s .m) (s .later)
     call-room = omega (arith, frame-is, target .room-is, rw is-module at (t .now .call))
 
-    inputs-fit : length (target .sub .inputs) ≤ netCount (target .sub)
-    unfolding netCount
-    inputs-fit = omega arith
-
     pub passes : Copyable image (place .from) (place .to) 0 (getD nets k 0) scratch
     passes =
         record {
           readable = turn-readable t;
-          room = omega (arith, call-room, target .takes, inputs-fit, arguments-end t, s .enough, t .progress .size);
+          room = omega (arith, call-room, target .takes, inputs-within (target .sub), arguments-end t, s .enough, t .progress .size);
           apart = λ i after before j low high e.
               omega (arith, slot-below (place .from) (arguments t) (arguments-end t) (t .now .slots) i after before, frame-is, frame-room t);
         }

@@ -1,10 +1,11 @@
 -- The module at a position of a file that stands in the image: the tables have an entry for it, and it stands where its start is.
-use Prim.Native.Nat.{ℕ, _<_}
+use Prim.Native.Nat.{ℕ, _≤_, _<_}
 use mathlib.Core.Path.{_≡_, ap}
 use mathlib.Core.List.{List, _∷_}
 use native.Mathlib.Omega.{arith}
 use lib.ListN.{length, getD, drop, length-drop}
 use Rattle.meaning.specs.Syntax.{Module}
+use Rattle.meaning.specs.Limits.{netCount}
 use Rattle.runner.specs.Places.{ModuleThere}
 use Rattle.runner.specs.Running.{Loaded}
 
@@ -23,3 +24,8 @@ module _
 
     pub module-there : ModuleThere image (getD starts k 0)
     module-there = record { m = m; stands = loaded .standing k here }
+
+-- Inputs are nets.
+pub inputs-within : (m : Module) → length (m .inputs) ≤ netCount m
+unfolding netCount
+inputs-within m = omega arith

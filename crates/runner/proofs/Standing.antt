@@ -27,10 +27,10 @@ module _ {im xs : List ℕ} (at : ℕ) {to : ℕ} (s : Stands im at xs) (e : to 
       ∙ ap (λ (l : List ℕ). getD l (i - at) 0) (s .here)
       ∙ List·getD-append xs (s .rest) 0 (i - at) (omega (arith, e))
 
-  -- Slots that have values in a part of scratch from `source` on can be read there.
   pub slot-below : {filled : ℕ} → Filled filled xs → (i : ℕ) → at ≤ i → i < to → getD im i 0 < filled
   slot-below slots i after before = rw (entry-stands i after before) (slots .slot (i - at) (omega (arith, e)))
 
+  -- Slots that have values in a part of scratch from `source` on can be read there.
   pub readable-stands :
       (source size : ℕ) {filled : ℕ} → Filled filled xs → source + filled ≤ size → Readable im at to source size
   readable-stands source size slots within =

@@ -41,7 +41,9 @@ enter {k = k} {h = h} w =
     }
 
 -- The walk, however far it has come.
-abbrev pub Walking : (job : Job) (image starts nets : List ℕ) (k : ℕ) (scratch₀ : List ℕ) (at₀ left₀ filled₀ at left filled : ℕ) (scratch : List ℕ) → Type 0
+abbrev pub Walking :
+    (job : Job) (image starts nets : List ℕ) (k : ℕ) (scratch₀ : List ℕ) (at₀ left₀ filled₀ at left filled : ℕ) (scratch : List ℕ)
+    → Type 0
 Walking job image starts nets k scratch₀ at₀ left₀ filled₀ at left filled scratch =
     (s : Runnable image starts nets k scratch₀)
     → Walk s at₀ left₀ filled₀

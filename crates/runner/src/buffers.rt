@@ -17,7 +17,10 @@ pub fn load(values: &[u8], scratch: &mut [u32])
 // The values at the slots, which are bytes.
 pub fn give(image: &[u16], from: usize, to: usize, scratch: &[u32], out: &mut [u8])
     requires { ⌜ Givable (now image) from to (now scratch) (now out) ⌝ }
-    ensures { λ _. ⌜ now (out .exit) ≡ valuesAt (now (image .entry)) from to 0 (now (scratch .entry)) ++ drop (length (valuesAt (now (image .entry)) from to 0 (now (scratch .entry)))) (now (out .entry)) ⌝ }
+    ensures { λ _.
+        ⌜ now (out .exit)
+        ≡ valuesAt (now (image .entry)) from to 0 (now (scratch .entry))
+        ++ drop (length (valuesAt (now (image .entry)) from to 0 (now (scratch .entry)))) (now (out .entry)) ⌝ }
 {
     let count = to - from;
     for i in 0..count {

@@ -41,6 +41,9 @@ pub fn largest(image: &[u16], from: usize, to: usize, scratch: &[u32]) -> u32
     most
 }
 
+// The latest arrival that an entry of scratch can hold.
+const LATEST: u32 = 4294967295;
+
 // What a gate of a rule makes of the values at the slots. An arrival stays where no later one can be written.
 pub fn at_gate(job: Job, rule: Rule, image: &[u16], from: usize, to: usize, scratch: &[u32]) -> u32
     requires { ⌜ Readable (now image) from to 0 (length (now scratch)) ⌝ }
@@ -50,7 +53,7 @@ pub fn at_gate(job: Job, rule: Rule, image: &[u16], from: usize, to: usize, scra
         Job::Value => look(image, from, to, scratch).result(rule),
         Job::Arrival => {
             let most = largest(image, from, to, scratch);
-            if most < 4294967295 { most + 1 } else { most }
+            if most < LATEST { most + 1 } else { most }
         }
     }
 }

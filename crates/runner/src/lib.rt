@@ -22,7 +22,9 @@ pub fn evaluate(
     out: &mut [u8],
 )
     requires { ⌜ Evaluable (now image) (now starts) (now nets) k room (now values) (now scratch) (now out) ⌝ }
-    ensures { λ _. ⌜ ((e : Evaluable (now (image .entry)) (now (starts .entry)) (now (nets .entry)) k room (now (values .entry)) (now (scratch .entry)) (now (out .entry))) → Evaluated (e .callable .rs) k room (now (values .entry)) (now (scratch .entry)) (now (out .entry)) (now (scratch .exit)) (now (out .exit))) ⌝ }
+    ensures { λ _.
+        ⌜ ((e : Evaluable (now (image .entry)) (now (starts .entry)) (now (nets .entry)) k room (now (values .entry)) (now (scratch .entry)) (now (out .entry)))
+        → Evaluated (e .callable .rs) k room (now (values .entry)) (now (scratch .entry)) (now (out .entry)) (now (scratch .exit)) (now (out .exit))) ⌝ }
 {
     let header = crate::places::module_at(image, starts[k]);
     crate::buffers::load(values, scratch);
@@ -42,7 +44,9 @@ pub fn delay(
     scratch: &mut [u32],
 ) -> u32
     requires { ⌜ Callable (now image) (now starts) (now nets) k room (now scratch) ⌝ }
-    ensures { λ r. ⌜ ((e : Callable (now (image .entry)) (now (starts .entry)) (now (nets .entry)) k room (now (scratch .entry))) → Timed (e .rs) (e .m) k room (now (scratch .entry)) (now (scratch .exit)) r) ⌝ }
+    ensures { λ r.
+        ⌜ ((e : Callable (now (image .entry)) (now (starts .entry)) (now (nets .entry)) k room (now (scratch .entry)))
+        → Timed (e .rs) (e .m) k room (now (scratch .entry)) (now (scratch .exit)) r) ⌝ }
 {
     let header = crate::places::module_at(image, starts[k]);
     crate::buffers::clear(header.inputs, scratch);

@@ -13,7 +13,9 @@ pub fn copy(
     scratch: &mut [u32],
 )
     requires { ⌜ Copyable (now image) from to source target (now scratch) ⌝ }
-    ensures { λ _. ⌜ now (scratch .exit) ≡ laid (now (scratch .entry)) target (valuesAt (now (image .entry)) from to source (now (scratch .entry))) ⌝ }
+    ensures { λ _.
+        ⌜ now (scratch .exit)
+        ≡ laid (now (scratch .entry)) target (valuesAt (now (image .entry)) from to source (now (scratch .entry))) ⌝ }
 {
     for i in from..to {
         scratch[target + (i - from)] = scratch[source + image::entry(image, i)];

@@ -15,7 +15,9 @@ pub fn run_module(
     scratch: &mut [u32],
 )
     requires { ⌜ Runnable (now image) (now starts) (now nets) k (now scratch) ⌝ }
-    ensures { λ _. ⌜ ((s : Runnable (now (image .entry)) (now (starts .entry)) (now (nets .entry)) k (now (scratch .entry))) → Ran job (s .m) (s .later) (now (scratch .entry)) (now (scratch .exit))) ⌝ }
+    ensures { λ _.
+        ⌜ ((s : Runnable (now (image .entry)) (now (starts .entry)) (now (nets .entry)) k (now (scratch .entry)))
+        → Ran job (s .m) (s .later) (now (scratch .entry)) (now (scratch .exit))) ⌝ }
 {
     let header = crate::places::module_at(image, starts[k]);
     walk(job, image, starts, nets, k, header, scratch);
@@ -32,7 +34,9 @@ fn walk(
     scratch: &mut [u32],
 )
     requires { ⌜ Walkable (now image) (now starts) (now nets) k header (now scratch) ⌝ }
-    ensures { λ _. ⌜ ((s : Walkable (now (image .entry)) (now (starts .entry)) (now (nets .entry)) k header (now (scratch .entry))) → Ran job (s .runnable .m) (s .runnable .later) (now (scratch .entry)) (now (scratch .exit))) ⌝ }
+    ensures { λ _.
+        ⌜ ((s : Walkable (now (image .entry)) (now (starts .entry)) (now (nets .entry)) k header (now (scratch .entry)))
+        → Ran job (s .runnable .m) (s .runnable .later) (now (scratch .entry)) (now (scratch .exit))) ⌝ }
 {
     let frame = nets[k];
     let mut at = header.to + 1;

@@ -11,42 +11,66 @@ use Rattle.runner.proofs.delay.Statement.{statement}
 use Rattle.runner.proofs.delay.Tie as tie
 
 mul-module-at : tie.Need-mul-module-at
-mul-module-at c = let e = c .before .before .before .before .pre in omega (arith, in-starts (e .loaded) (c .before .before .before .before .args .k) (e .here), c .before .before .before .before .good)
+mul-module-at c =
+    let start = c .before .before .before .before in
+    let e = start .pre in
+    omega (arith, in-starts (e .loaded) (start .args .k) (e .here), start .good)
 
 shared-slice-read-module-at : tie.Need-shared-slice-read-module-at
-shared-slice-read-module-at c = let e = c .before .before .before .before .before .pre in in-starts (e .loaded) (c .before .before .before .before .before .args .k) (e .here)
+shared-slice-read-module-at c =
+    let start = c .before .before .before .before .before in
+    let e = start .pre in
+    in-starts (e .loaded) (start .args .k) (e .here)
 
 module-at-requires : tie.Need-module-at-requires
-module-at-requires c κs = let e = c .before .before .before .before .before .pre in module-there (e .loaded) (c .before .before .before .before .before .args .k) (e .here)
+module-at-requires c κs =
+    let start = c .before .before .before .before .before in
+    let e = start .pre in
+    module-there (e .loaded) (start .args .k) (e .here)
 
 clear-requires : tie.Need-clear-requires
 clear-requires c κs =
-    let e = c .before .before .before .before .before .before .before .pre in
-    let header = c .before .module-at .ensures (e .m) (e .loaded .standing (c .before .before .before .before .before .before .before .args .k) (e .here)) in
+    let placed = c .before in
+    let start = placed .before .before .before .before .before .before in
+    let e = start .pre in
+    let header = placed .module-at .ensures (e .m) (e .loaded .standing (start .args .k) (e .here)) in
     omega (arith, header .inputs, answers.inputs-fit e, answers.needed-given e, e .enough)
 
 run-module-requires : tie.Need-run-module-requires
 run-module-requires c κs =
-    let e = c .before .before .before .before .before .before .before .before .before .before .before .pre in
-    let header = c .before .before .before .before .before .module-at .ensures (e .m) (e .loaded .standing (c .before .before .before .before .before .before .before .before .before .before .before .args .k) (e .here)) in
-    answers.runnable e (answers.zeros-fed e header (c .before .before .before .clear .ensures))
+    let zeroed = c .before .before .before in
+    let placed = zeroed .before .before in
+    let start = placed .before .before .before .before .before .before in
+    let e = start .pre in
+    let header = placed .module-at .ensures (e .m) (e .loaded .standing (start .args .k) (e .here)) in
+    answers.runnable e (answers.zeros-fed e header (zeroed .clear .ensures))
 
 largest-requires : tie.Need-largest-requires
 largest-requires c κs =
-    let e = c .before .before .before .before .before .before .before .before .before .before .before .before .before .before .before .pre in
-    let header = c .before .before .before .before .before .before .before .before .before .module-at .ensures (e .m) (e .loaded .standing (c .before .before .before .before .before .before .before .before .before .before .before .before .before .before .before .args .k) (e .here)) in
-    let f = answers.zeros-fed e header (c .before .before .before .before .before .before .before .clear .ensures) in
-    let ran = c .before .before .before .run-module .ensures (answers.runnable e f) in
-    answers.outputs-readable e f Arrival ran header (c .before .before .before .run-module .kept .1 .1 .1 .1 .1 .0)
+    let ran = c .before .before .before in
+    let zeroed = ran .before .before .before .before in
+    let placed = zeroed .before .before in
+    let start = placed .before .before .before .before .before .before in
+    let e = start .pre in
+    let header = placed .module-at .ensures (e .m) (e .loaded .standing (start .args .k) (e .here)) in
+    let fed = answers.zeros-fed e header (zeroed .clear .ensures) in
+    let run = ran .run-module .ensures (answers.runnable e fed) in
+    answers.outputs-readable e fed Arrival run header (ran .run-module .kept .1 .1 .1 .1 .1 .0)
 
 returns : tie.Need-returns
 returns c e =
-    let header = c .before .before .before .before .before .before .before .before .before .before .before .before .before .before .module-at .ensures (e .m) (e .loaded .standing (c .before .before .before .before .before .before .before .before .before .before .before .before .before .before .before .before .before .before .before .before .args .k) (e .here)) in
-    let f = answers.zeros-fed e header (c .before .before .before .before .before .before .before .before .before .before .before .before .clear .ensures) in
-    let ran = c .before .before .before .before .before .before .before .before .run-module .ensures (answers.runnable e f) in
+    let cleared = c .before .before in
+    let found = cleared .before .before in
+    let ran = found .before .before .before .before in
+    let zeroed = ran .before .before .before .before in
+    let placed = zeroed .before .before in
+    let start = placed .before .before .before .before .before .before in
+    let header = placed .module-at .ensures (e .m) (e .loaded .standing (start .args .k) (e .here)) in
+    let fed = answers.zeros-fed e header (zeroed .clear .ensures) in
+    let run = ran .run-module .ensures (answers.runnable e fed) in
     record {
-      latest = c .before .before .before .before .largest .ensures ∙ ap largest (answers.outputs-read e f Arrival ran header);
-      clean = answers.leaves-clean e f Arrival ran (c .before .before .clear2 .ensures);
+      latest = found .largest .ensures ∙ ap largest (answers.outputs-read e fed Arrival run header);
+      clean = answers.leaves-clean e fed Arrival run (cleared .clear2 .ensures);
     }
 
 pub delay-spec : {M : Type 1} → statement M

@@ -15,18 +15,21 @@ use Rattle.runner.proofs.evaluate.Tie as tie
 
 mul-module-at : tie.Need-mul-module-at
 mul-module-at c =
-    let e = c .before .before .before .before .before .before .pre .callable in
-    omega (arith, in-starts (e .loaded) (c .before .before .before .before .before .before .args .k) (e .here), c .before .before .before .before .before .before .good)
+    let start = c .before .before .before .before .before .before in
+    let e = start .pre .callable in
+    omega (arith, in-starts (e .loaded) (start .args .k) (e .here), start .good)
 
 shared-slice-read-module-at : tie.Need-shared-slice-read-module-at
 shared-slice-read-module-at c =
-    let e = c .before .before .before .before .before .before .before .pre .callable in
-    in-starts (e .loaded) (c .before .before .before .before .before .before .before .args .k) (e .here)
+    let start = c .before .before .before .before .before .before .before in
+    let e = start .pre .callable in
+    in-starts (e .loaded) (start .args .k) (e .here)
 
 module-at-requires : tie.Need-module-at-requires
 module-at-requires c κs =
-    let e = c .before .before .before .before .before .before .before .pre .callable in
-    module-there (e .loaded) (c .before .before .before .before .before .before .before .args .k) (e .here)
+    let start = c .before .before .before .before .before .before .before in
+    let e = start .pre .callable in
+    module-there (e .loaded) (start .args .k) (e .here)
 
 load-requires : tie.Need-load-requires
 load-requires c κs =
@@ -35,37 +38,49 @@ load-requires c κs =
 
 run-module-requires : tie.Need-run-module-requires
 run-module-requires c κs =
-    let a = c .before .before .before .before .before .before .before .before .before .before .before .before .before .args in
-    let e = c .before .before .before .before .before .before .before .before .before .before .before .before .before .pre in
-    answers.runnable (e .callable) (answers.values-fed (e .callable) (a .values .now) (e .fed) (c .before .before .before .load .ensures))
+    let loaded = c .before .before .before in
+    let start = loaded .before .before .before .before .before .before .before .before .before .before in
+    let e = start .pre in
+    answers.runnable (e .callable) (answers.values-fed (e .callable) (start .args .values .now) (e .fed) (loaded .load .ensures))
 
 give-requires : tie.Need-give-requires
 give-requires c κs =
-    let a = c .before .before .before .before .before .before .before .before .before .before .before .before .before .before .before .before .before .before .args in
-    let e = c .before .before .before .before .before .before .before .before .before .before .before .before .before .before .before .before .before .before .pre in
-    let f = answers.values-fed (e .callable) (a .values .now) (e .fed) (c .before .before .before .before .before .before .before .before .load .ensures) in
-    let ran = c .before .before .before .before .run-module .ensures (answers.runnable (e .callable) f) in
-    let header = c .before .before .before .before .before .before .before .before .before .before .module-at .ensures (e .callable .m) (e .callable .loaded .standing (a .k) (e .callable .here)) in
+    let ran = c .before .before .before .before in
+    let loaded = ran .before .before .before .before in
+    let placed = loaded .before .before in
+    let start = placed .before .before .before .before .before .before .before .before in
+    let a = start .args in
+    let e = start .pre in
+    let call = e .callable in
+    let fed = answers.values-fed call (a .values .now) (e .fed) (loaded .load .ensures) in
+    let run = ran .run-module .ensures (answers.runnable call fed) in
+    let header = placed .module-at .ensures (call .m) (call .loaded .standing (a .k) (call .here)) in
     record {
-      readable = answers.outputs-readable (e .callable) f Value ran header (c .before .before .before .before .run-module .kept .1 .1 .1 .1 .1 .0);
+      readable = answers.outputs-readable call fed Value run header (ran .run-module .kept .1 .1 .1 .1 .1 .0);
       bytes =
-          subst Bytes (sym (answers.outputs-read (e .callable) f Value ran header))
-          (answers.answers-bytes (e .callable .rs) (a .k)
-          (answers.all-bytes (a .values .now) (λ i. omega (arith, c .before .before .before .before .before .before .before .before .before .before .before .before .before .before .shared-slice-known4 .given i))));
-      room = omega (arith, answers.outputs-counted (e .callable) f Value ran header, e .fits);
+          subst Bytes (sym (answers.outputs-read call fed Value run header))
+          (answers.answers-bytes (call .rs) (a .k)
+          (answers.all-bytes (a .values .now) (λ i. omega (arith, placed .before .before .before .before .shared-slice-known4 .given i))));
+      room = omega (arith, answers.outputs-counted call fed Value run header, e .fits);
     }
 
 returns : tie.Need-returns
 returns c e =
-    let a = c .before .before .before .before .before .before .before .before .before .before .before .before .before .before .before .before .before .before .before .before .before .before .before .before .before .args in
-    let f = answers.values-fed (e .callable) (a .values .now) (e .fed) (c .before .before .before .before .before .before .before .before .before .before .before .before .before .before .before .load .ensures) in
-    let ran = c .before .before .before .before .before .before .before .before .before .before .before .run-module .ensures (answers.runnable (e .callable) f) in
-    let header = c .before .before .before .before .before .before .before .before .before .before .before .before .before .before .before .before .before .module-at .ensures (e .callable .m) (e .callable .loaded .standing (a .k) (e .callable .here)) in
+    let cleared = c .before .before in
+    let given = cleared .before .before .before .before in
+    let ran = given .before .before .before .before .before in
+    let loaded = ran .before .before .before .before in
+    let placed = loaded .before .before in
+    let a = placed .before .before .before .before .before .before .before .before .args in
+    let call = e .callable in
+    let fed = answers.values-fed call (a .values .now) (e .fed) (loaded .load .ensures) in
+    let run = ran .run-module .ensures (answers.runnable call fed) in
+    let header = placed .module-at .ensures (call .m) (call .loaded .standing (a .k) (call .here)) in
     record {
       outputs =
-          c .before .before .before .before .before .before .give .ensures
-          ∙ ap (λ (l : List ℕ). l ++ drop (length l) (a .out .now)) (answers.outputs-read (e .callable) f Value ran header);
-      clean = answers.leaves-clean (e .callable) f Value ran (c .before .before .clear .ensures);
+          given .give .ensures
+          ∙ ap (λ (l : List ℕ). l ++ drop (length l) (a .out .now)) (answers.outputs-read call fed Value run header);
+      clean = answers.leaves-clean call fed Value run (cleared .clear .ensures);
     }
 
 pub evaluate-spec : {M : Type 1} → statement M

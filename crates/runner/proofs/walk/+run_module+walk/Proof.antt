@@ -147,7 +147,9 @@ module _ (t : ℕ) where
   slot-there c = gate-room (own-turn (c .before .before .before .before .before .before .before)) (gate-told (c .before .before .before))
 
   mul-scratch : walk-lts.Need-mul-scratch (walk-claims t) (walk-at t) walk.Post walk-Inv-loop walk-μ-loop
-  mul-scratch c = omega (arith, slot-there c, own-turn (c .before .before .before .before .before .before .before) .progress .size, c .before .before .before .before .before .before .before .before .before .before .before .before .before .before .before .before .good)
+  mul-scratch c =
+      let placed = c .before .before .before .before .before .before .before in
+      omega (arith, slot-there c, own-turn placed .progress .size, placed .before .before .before .before .before .before .before .before .before .good)
 
   loop-again : walk-lts.Need-loop-again (walk-claims t) (walk-at t) walk.Post walk-Inv-loop walk-μ-loop
   loop-again c s w = turn-gate (turn (c .before .before .before .before .before .before .before) s w) (gate-told (c .before .before .before)) (c .at-gate .ensures)
@@ -155,43 +157,60 @@ module _ (t : ℕ) where
   -- The module that is called is one of the tables'.
   target-listed :
       (c : walk-lts.After-enum-told (walk-claims t) (walk-at t) walk.Post walk-Inv-loop walk-μ-loop)
-      → c .before .before .before .before .occurrence-at .result .refers - 16 < length (c .before .before .before .before .before .before .before .before .before .before .before .before .before .args .starts .now)
+      → c .before .before .before .before .occurrence-at .result .refers - 16
+      < length (c .before .before .before .before .before .before .before .before .before .before .before .before .before .args .starts .now)
   target-listed c = turns.target-listed (own-turn (c .before .before .before .before)) (module-told c)
 
   -- Its part of scratch begins within it.
   lent-inside : walk-lts.Need-sub-run-module (walk-claims t) (walk-at t) walk.Post walk-Inv-loop walk-μ-loop
-  lent-inside c = turns.lent-inside (own-turn (c .before .before .before .before .before .before .before .before .before .before .before)) (module-told (c .before .before .before .before .before .before .before)) (c .before .before .copy .ensures)
+  lent-inside c =
+      let passed = c .before .before in
+      let told = passed .before .before .before .before .before in
+      turns.lent-inside (own-turn (told .before .before .before .before)) (module-told told) (passed .copy .ensures)
 
   mul-run-module : walk-lts.Need-mul-run-module (walk-claims t) (walk-at t) walk.Post walk-Inv-loop walk-μ-loop
   mul-run-module c =
-      let start = c .before .before .before .before .before .before .before .before .before .before .before .before .before .before .before .before .before .before .before .before in
+      let told = c .before .before .before .before .before .before .before in
+      let start = told .before .before .before .before .before .before .before .before .before .before .before .before .before in
       omega
-      (arith, turns.frame-is (own-turn (c .before .before .before .before .before .before .before .before .before .before .before)) (module-told (c .before .before .before .before .before .before .before)), start .pre .1 .runnable .enough, start .good)
+      (arith, turns.frame-is (own-turn (told .before .before .before .before)) (module-told told), start .pre .1 .runnable .enough, start .good)
 
   run-module-requires : walk-lts.Need-run-module-requires (walk-claims t) (walk-at t) walk.Post walk-Inv-loop walk-μ-loop
   run-module-requires c κs =
-      let now = own-turn (c .before .before .before .before .before .before .before .before .before .before .before .before) in
-      let told = module-told (c .before .before .before .before .before .before .before .before) in
-      (omega (arith, turns.falls now told, c .before .before .before .before .before .before .before .before .before .before .before .before .before .before .before .before .before .before .before .before .before .pre .0), turns.calls now told (c .before .before .before .copy .ensures))
+      let passed = c .before .before .before in
+      let told = passed .before .before .before .before .before in
+      let start = told .before .before .before .before .before .before .before .before .before .before .before .before .before in
+      let now = own-turn (told .before .before .before .before) in (
+        omega (arith, turns.falls now (module-told told), start .pre .0),
+        turns.calls now (module-told told) (passed .copy .ensures),
+      )
 
   copy-requires-2 : walk-lts.Need-copy-requires-2 (walk-claims t) (walk-at t) walk.Post walk-Inv-loop walk-μ-loop
   copy-requires-2 c κs =
-      let now = own-turn (c .before .before .before .before .before .before .before .before .before .before .before .before .before .before .before .before) in
-      let told = module-told (c .before .before .before .before .before .before .before .before .before .before .before .before) in
-      let ran = c .before .before .before .run-module in
-      turns.fetches now told (c .before .before .before .before .before .before .before .copy .ensures) (ran .last .1 .1 .1 .1 .1 .0) (ran .kept .1 .1 .1 .1 .1 .0)
-      (c .before .before .before .before .before .before .before .before .before .module-at .ensures (turns.target now told .sub) (turns.target-stands now told))
+      let ran = c .before .before .before in
+      let passed = ran .before .before .before .before in
+      let placed = passed .before .before in
+      let told = placed .before .before .before in
+      let now = own-turn (told .before .before .before .before) in
+      let kind = module-told told in
+      turns.fetches now kind (passed .copy .ensures) (ran .run-module .last .1 .1 .1 .1 .1 .0)
+      (ran .run-module .kept .1 .1 .1 .1 .1 .0)
+      (placed .module-at .ensures (turns.target now kind .sub) (turns.target-stands now kind))
 
   loop-again-2 : walk-lts.Need-loop-again-2 (walk-claims t) (walk-at t) walk.Post walk-Inv-loop walk-μ-loop
   loop-again-2 c s w =
-      let now = turn (c .before .before .before .before .before .before .before .before .before .before .before .before .before .before .before .before .before .before .before) s w in
-      let told = module-told (c .before .before .before .before .before .before .before .before .before .before .before .before .before .before .before) in
-      let passed = c .before .before .before .before .before .before .before .before .before .before .copy .ensures in
-      let ran = c .before .before .before .before .before .before .run-module in
-      turns.turn-module now told passed (ran .last .1 .1 .1 .1 .1 .0) (ran .kept .1 .1 .1 .1 .1 .0)
-      (c .before .before .before .before .before .before .before .before .before .before .before .before .module-at .ensures (turns.target now told .sub) (turns.target-stands now told))
-      (ran .ensures (turns.calls now told passed))
-      (c .before .before .copy2 .ensures)
+      let fetched = c .before .before in
+      let ran = fetched .before .before .before .before in
+      let passed = ran .before .before .before .before in
+      let placed = passed .before .before in
+      let told = placed .before .before .before in
+      let now = turn (told .before .before .before .before) s w in
+      let kind = module-told told in
+      turns.turn-module now kind (passed .copy .ensures) (ran .run-module .last .1 .1 .1 .1 .1 .0)
+      (ran .run-module .kept .1 .1 .1 .1 .1 .0)
+      (placed .module-at .ensures (turns.target now kind .sub) (turns.target-stands now kind))
+      (ran .run-module .ensures (turns.calls now kind (passed .copy .ensures)))
+      (fetched .copy2 .ensures)
 
   same-length : walk-lts.Need-same-length (walk-claims t) (walk-at t) walk.Post walk-Inv-loop walk-μ-loop
   same-length c = let w = c .before .before .before .before .before .before .before .before .pre .1 in c .before .loop .inv (w .runnable) (enter w) .size
