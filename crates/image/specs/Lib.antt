@@ -19,6 +19,7 @@ pub mod ResolvedOk
 pub mod OwnSlots
 pub mod Stepping
 pub mod FrameLengths
+pub mod FrameValues
 pub mod ResolvedFigures
 pub mod ResolvedLoads
 pub mod OwnNumbers

@@ -1,0 +1,10 @@
+-- What the contracts of `runner` cite, and the laws that turn them into what a file means.
+pub mod Job
+pub mod Slots
+pub mod Places
+pub mod Running
+pub mod Calls
+pub mod Mapped
+pub mod Evaluating
+pub mod Arriving
+pub mod Loading

@@ -1,0 +1,64 @@
+// A module and its list of occurrences, evaluated through each other: a module by the walk over its occurrences, which evaluates each
+// module that it meets, in the part of scratch behind its own frame. So the stack grows with the nesting of modules only.
+use crate::gate::Job;
+use crate::places::Header;
+use gates::Kind;
+ghost use Rattle.runner.specs.Running.{Runnable, Walkable, Ran};
+
+// The module at position k. Its inputs stand at the front of scratch, and then its whole frame does.
+pub fn run_module(
+    job: Job,
+    image: &[u16],
+    starts: &[usize],
+    nets: &[usize],
+    k: usize,
+    scratch: &mut [u32],
+)
+    requires { ⌜ Runnable (now image) (now starts) (now nets) k (now scratch) ⌝ }
+    ensures { λ _.
+        ⌜ ((s : Runnable (now (image .entry)) (now (starts .entry)) (now (nets .entry)) k (now (scratch .entry)))
+        → Ran job (s .m) (s .later) (now (scratch .entry)) (now (scratch .exit))) ⌝ }
+{
+    let header = crate::places::module_at(image, starts[k]);
+    walk(job, image, starts, nets, k, header, scratch);
+}
+
+// Its occurrences, from first to last. Each fills the next slots of the frame.
+fn walk(
+    job: Job,
+    image: &[u16],
+    starts: &[usize],
+    nets: &[usize],
+    k: usize,
+    header: Header,
+    scratch: &mut [u32],
+)
+    requires { ⌜ Walkable (now image) (now starts) (now nets) k header (now scratch) ⌝ }
+    ensures { λ _.
+        ⌜ ((s : Walkable (now (image .entry)) (now (starts .entry)) (now (nets .entry)) k header (now (scratch .entry)))
+        → Ran job (s .runnable .m) (s .runnable .later) (now (scratch .entry)) (now (scratch .exit))) ⌝ }
+{
+    let frame = nets[k];
+    let mut at = header.to + 1;
+    let mut left = header.count;
+    let mut filled = header.inputs;
+    while 0 < left {
+        let o = crate::places::occurrence_at(image, at);
+        let here = filled;
+        at = o.to;
+        left -= 1;
+        filled += o.drives;
+        match gates::kind_of(o.refers) {
+            Kind::Gate(rule, _) => {
+                scratch[here] = crate::gate::at_gate(job, rule, image, o.from, o.to, scratch);
+            }
+            Kind::Module => {
+                let j = o.refers as usize - 16;
+                let sub = crate::places::module_at(image, starts[j]);
+                crate::slots::copy(image, o.from, o.to, 0, frame, scratch);
+                run_module(job, image, starts, nets, j, &mut scratch[frame..]);
+                crate::slots::copy(image, sub.from, sub.to, frame, here, scratch);
+            }
+        }
+    }
+}
