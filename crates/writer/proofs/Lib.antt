@@ -4,5 +4,9 @@ pub mod Laying
 pub mod Runs
 pub mod Cells
 pub mod Modules
+pub mod Heads
+pub mod Choices
+pub mod BlockNumbers
+pub mod Digits
 pub mod Answering
 pub mod Promise
