@@ -8,5 +8,9 @@ pub mod Heads
 pub mod Choices
 pub mod BlockNumbers
 pub mod Digits
+pub mod PartNumbers
+pub mod Running
+pub mod Parting
+pub mod CounterFile
 pub mod Answering
 pub mod Promise

@@ -69,14 +69,16 @@ fn part(
     requires { ⌜ (level ≤ 6) × (bits ≤ 64) × (count ≤ level) × (below ≤ 256) × Room (each occurrenceNumbers (joinParts level bits count below (true ∷ []))) (now numbers) at ⌝ }
     ensures { λ r. ⌜ Put (each occurrenceNumbers (joinParts level bits count below (true ∷ []))) (now (numbers .entry)) at (now (numbers .exit)) r ⌝ }
 {
+    let size = bits_of(level);
+    let block = block_number(level);
     let high = below + count;
     let ands = high + count;
     let ors = ands + count;
     let low_bits = copy(&[level + 1], numbers, at);
     let rest = run(high, count, numbers, low_bits);
     let number = run(ors + count, level + 1 - count, numbers, rest);
-    let taken = copy(&[block_number(level)], numbers, number);
-    let choice = row(bits, bits_of(level), numbers, taken);
+    let taken = copy(&[block], numbers, number);
+    let choice = row(bits, size, numbers, taken);
     choose(ors + level, high, below, ands, ors, count, numbers, choice)
 }
 
