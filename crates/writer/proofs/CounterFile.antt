@@ -26,5 +26,5 @@ module _ (n : ℕ) (shape : Shape) (shaped : Shaped n shape) where
   unfolding fileNumbers counter each
   file-of-counter some =
       let modules : suc (length (blocks (length (digits n) - 1))) ≡ length (digits n) =
-          omega (arith, length-of-blocks (length (digits n) - 1), some-digit n some) in
+      omega (arith, length-of-blocks (length (digits n) - 1), some-digit n some) in
       rw (shaped .digits, modules)

@@ -29,38 +29,38 @@ parting-start width most room =
 
 module _ {width left level bits count below : ℕ} {before : List ℕ} {at : ℕ} {after : List ℕ} {next : ℕ}
     (p : Parting width left level bits count below before at after next)
-    where
-  -- At a digit 1 the next part comes first of what is left.
-  module _ (one : left % 2 ≡ 1) where
-    part-next : Laying (partsNumbers 0 0 0 width (digits width))
-        (partsNumbers level bits count below (true ∷ [])
-        ++ partsNumbers (level + 1) (bits + 2 ^ level) (level + 1) (below + 3 * count) (digits (left / 2)))
-        before at after next
-    part-next = rw (digit-one left one, parts-behind-1 level bits count below (digits (left / 2))) at (p .laying)
+  where
+    -- At a digit 1 the next part comes first of what is left.
+    module _ (one : left % 2 ≡ 1) where
+      part-next : Laying (partsNumbers 0 0 0 width (digits width))
+          (partsNumbers level bits count below (true ∷ [])
+          ++ partsNumbers (level + 1) (bits + 2 ^ level) (level + 1) (below + 3 * count) (digits (left / 2)))
+          before at after next
+      part-next = rw (digit-one left one, parts-behind-1 level bits count below (digits (left / 2))) at (p .laying)
 
-    pub part-room : Room (partsNumbers level bits count below (true ∷ [])) after next
-    part-room = room-first _ (laying-left part-next)
+      pub part-room : Room (partsNumbers level bits count below (true ∷ [])) after next
+      part-room = room-first _ (laying-left part-next)
 
-    pub bits-within : bits ≤ 64
-    bits-within =
-        let within = level-within (p .running) (omega arith) in
-        omega (arith, p .fewer, pow-mono {i = level} {j = 6} within)
+      pub bits-within : bits ≤ 64
+      bits-within =
+          let within = level-within (p .running) (omega arith) in
+          omega (arith, p .fewer, pow-mono {i = level} {j = 6} within)
 
-    pub parting-one : {size : ℕ} {later : List ℕ} {place : ℕ} → size ≡ 2 ^ level
-        → Put (partsNumbers level bits count below (true ∷ [])) after next later place
-        → Parting width (left / 2) (level + 1) (bits + size) (level + 1) (below + 3 * count) before at later place
-    parting-one same put =
-        rw same
-        (record {
-          running = running-one (p .running) one;
+      pub parting-one : {size : ℕ} {later : List ℕ} {place : ℕ} → size ≡ 2 ^ level
+          → Put (partsNumbers level bits count below (true ∷ [])) after next later place
+          → Parting width (left / 2) (level + 1) (bits + size) (level + 1) (below + 3 * count) before at later place
+      parting-one same put =
+          rw same
+          (record {
+            running = running-one (p .running) one;
+            fewer = rw (add-one level) (omega (arith, p .fewer, pow-suc 2 level));
+            laying = laying-put put part-next;
+          })
+
+    pub parting-zero : 0 < left → (left % 2 ≡ 1 → ⊥) → Parting width (left / 2) (level + 1) bits count below before at after next
+    parting-zero some other =
+        record {
+          running = running-zero (p .running) some other;
           fewer = rw (add-one level) (omega (arith, p .fewer, pow-suc 2 level));
-          laying = laying-put put part-next;
-        })
-
-  pub parting-zero : 0 < left → (left % 2 ≡ 1 → ⊥) → Parting width (left / 2) (level + 1) bits count below before at after next
-  parting-zero some other =
-      record {
-        running = running-zero (p .running) some other;
-        fewer = rw (add-one level) (omega (arith, p .fewer, pow-suc 2 level));
-        laying = rw (digit-zero left some other, parts-behind-0 level bits count below (digits (left / 2))) at (p .laying);
-      }
+          laying = rw (digit-zero left some other, parts-behind-0 level bits count below (digits (left / 2))) at (p .laying);
+        }

@@ -11,8 +11,11 @@ use crate::rows::head;
 use crate::rows::reference;
 
 const NOT: u16 = 1;
+
 const XOR: u16 = 9;
+
 const AND: u16 = 10;
+
 const NOR: u16 = 13;
 
 // How many bits the block of a level counts.

@@ -7,6 +7,7 @@ ghost use Rattle.writer.specs.Rooms.{Room};
 use crate::rows::gate;
 
 const OR: u16 = 5;
+
 const AND: u16 = 10;
 
 // For each bit an AND and an OR: the high part's bit or, where the high part is empty, the low one's.

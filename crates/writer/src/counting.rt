@@ -58,14 +58,7 @@ fn shape_of(width: u16) -> Shape
 }
 
 // The part of a digit 1: a block on the next bits, and the choice between its count and the count below.
-fn part(
-    level: u16,
-    bits: u16,
-    count: u16,
-    below: u16,
-    numbers: &mut [u16],
-    at: usize,
-) -> usize
+fn part(level: u16, bits: u16, count: u16, below: u16, numbers: &mut [u16], at: usize) -> usize
     requires { ⌜ (level ≤ 6) × (bits ≤ 64) × (count ≤ level) × (below ≤ 256) × Room (each occurrenceNumbers (joinParts level bits count below (true ∷ []))) (now numbers) at ⌝ }
     ensures { λ r. ⌜ Put (each occurrenceNumbers (joinParts level bits count below (true ∷ []))) (now (numbers .entry)) at (now (numbers .exit)) r ⌝ }
 {
@@ -107,12 +100,7 @@ fn parts(width: u16, numbers: &mut [u16], at: usize) -> usize
 }
 
 // Module 32: the bits enter it, and its outputs are the last count.
-fn counter_module(
-    width: u16,
-    shape: Shape,
-    numbers: &mut [u16],
-    at: usize,
-) -> usize
+fn counter_module(width: u16, shape: Shape, numbers: &mut [u16], at: usize) -> usize
     requires { ⌜ (width ≤ 64) × Shaped width shape × Room (moduleNumbers (counterModule width)) (now numbers) at ⌝ }
     ensures { λ r. ⌜ Put (moduleNumbers (counterModule width)) (now (numbers .entry)) at (now (numbers .exit)) r ⌝ }
 {

@@ -34,11 +34,12 @@ block-requires c κs =
 loop-again : tie.Need-loop-again Inv-loop μ-loop
 loop-again c =
     let turn = c .before .before .before .before in
-    let loop = turn .before .loop in
-    (omega arith,
-     laying-more (loop .inv .1) (moduleNumbers (block (loop .left - 1))) _
-     (rest-of-blocks (loop .left) (turn .loop-test .taken))
-     (c .before .before .block .ensures))
+    let loop = turn .before .loop in (
+      omega arith,
+      laying-more (loop .inv .1) (moduleNumbers (block (loop .left - 1))) _
+          (rest-of-blocks (loop .left) (turn .loop-test .taken))
+          (c .before .before .block .ensures),
+    )
 
 returns : tie.Need-returns Inv-loop μ-loop
 returns c = laying-all (c .before .loop .inv .1) (no-blocks (c .before .loop .left) (c .loop-test .left))

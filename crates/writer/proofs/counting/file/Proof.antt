@@ -53,9 +53,10 @@ blocks-requires c κs =
     let first = c .before .before .before .before in
     let count = behind-count first in
     let shape = shaped count in
-    let one = laying-put (count .copy .ensures) (laying-start (room shape)) in
-    (omega (arith, few-digits (start shape .args .width) (start shape .pre .1), shape .shape-of .ensures),
-     laying-left (laying-put (first .counter-module .ensures) one))
+    let one = laying-put (count .copy .ensures) (laying-start (room shape)) in (
+      omega (arith, few-digits (start shape .args .width) (start shape .pre .1), shape .shape-of .ensures),
+      laying-left (laying-put (first .counter-module .ensures) one),
+    )
 
 returns : tie.Need-returns
 returns c =

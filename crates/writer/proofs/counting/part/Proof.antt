@@ -70,9 +70,10 @@ row-requires c κs =
     let low = behind-low rest in
     let count = behind-count low in
     let one = laying-put (count .copy .ensures) (laying-start (room (named count))) in
-    let three = laying-put (rest .run2 .ensures) (laying-put (low .run .ensures) one) in
-    (omega (arith, start (named count) .pre, named count .before .bits-of .ensures),
-     room-first _ (laying-left (laying-put (number .copy2 .ensures) three)))
+    let three = laying-put (rest .run2 .ensures) (laying-put (low .run .ensures) one) in (
+      omega (arith, start (named count) .pre, named count .before .bits-of .ensures),
+      room-first _ (laying-left (laying-put (number .copy2 .ensures) three)),
+    )
 
 choose-requires : tie.Need-choose-requires
 choose-requires c κs =
@@ -83,9 +84,13 @@ choose-requires c κs =
     let count = behind-count low in
     let pre = start (named count) .pre in
     let one = laying-put (count .copy .ensures) (laying-start (room (named count))) in
-    let three = laying-put (rest .run2 .ensures) (laying-put (low .run .ensures) one) in
-    (omega arith, omega arith, omega arith, omega arith,
-     laying-left (laying-put (taken .row .ensures) (laying-put (number .copy2 .ensures) three)))
+    let three = laying-put (rest .run2 .ensures) (laying-put (low .run .ensures) one) in (
+      omega arith,
+      omega arith,
+      omega arith,
+      omega arith,
+      laying-left (laying-put (taken .row .ensures) (laying-put (number .copy2 .ensures) three)),
+    )
 
 returns : tie.Need-returns
 returns c =

@@ -29,18 +29,25 @@ within c = level-within (c .before .loop .inv .running) (c .loop-test .taken)
 part-requires : tie.Need-part-requires Inv-loop μ-loop
 part-requires c κs =
     let digit = c .before in
-    let turn = digit .before in
-    let parting = turn .before .loop .inv in
-    let most = within turn in
+    let parting = digit .before .before .loop .inv in
+    let most = within (digit .before) in
     (most, bits-within parting (digit .if1 .taken), omega arith, omega arith, part-room parting (digit .if1 .taken))
+
+-- Behind a part's block is still that turn.
+abbrev turn : tie.After-bits-of Inv-loop μ-loop → tie.In-loop Inv-loop μ-loop
+turn c = c .before .before .before .before .before .before
+
+add-bits : tie.Need-add-bits Inv-loop μ-loop
+add-bits c =
+    let digit = c .before .before .before .before .before in
+    omega (arith, bits-within (turn c .before .loop .inv) (digit .if1 .taken), c .bits-of .ensures)
 
 loop-again : tie.Need-loop-again Inv-loop μ-loop
 loop-again c =
-    let turn = c .before in
-    let parting = turn .before .loop .inv in
+    let parting = c .before .before .loop .inv in
     ⊎-elim
     (λ w. rw (w .6, w .7, w .8, w .9, w .10) (parting-one parting (w .0 .taken) (w .5 .ensures .0) (w .2 .ensures)))
-    (λ w. rw (w .1, w .2, w .3, w .4, w .5) (parting-zero parting (turn .loop-test .taken) (w .0 .left)))
+    (λ w. rw (w .1, w .2, w .3, w .4, w .5) (parting-zero parting (c .before .loop-test .taken) (w .0 .left)))
     (c .if1 .came)
 
 returns : tie.Need-returns Inv-loop μ-loop
@@ -56,10 +63,10 @@ parts-spec =
     loop-holds
     part-requires
     (λ c κs. within (c .before .before .before .before .before))
-    (λ c. omega (arith, within (c .before .before .before .before .before .before), bits-within (c .before .before .before .before .before .before .before .loop .inv) (c .before .before .before .before .before .if1 .taken)))
-    (λ c. omega (arith, within (c .before .before .before .before .before .before)))
-    (λ c. omega (arith, within (c .before .before .before .before .before .before)))
-    (λ c. omega (arith, within (c .before .before .before .before .before .before)))
+    add-bits
+    (λ c. omega (arith, within (turn c)))
+    (λ c. omega (arith, within (turn c)))
+    (λ c. omega (arith, within (turn c)))
     (λ c. omega (arith, within (c .before)))
     (λ c. omega arith)
     loop-again
