@@ -6,17 +6,13 @@ ghost use Rattle.meaning.specs.Counter.{blockNumber, pairBlock, joinBlock, bloc
 ghost use Rattle.encoder.specs.Filled.{Put};
 ghost use Rattle.writer.specs.Rooms.{Room};
 use crate::choice::choose;
+use crate::kinds::AND;
+use crate::kinds::NOR;
+use crate::kinds::NOT;
+use crate::kinds::XOR;
 use crate::rows::gate;
 use crate::rows::head;
 use crate::rows::reference;
-
-const NOT: u16 = 1;
-
-const XOR: u16 = 9;
-
-const AND: u16 = 10;
-
-const NOR: u16 = 13;
 
 // How many bits the block of a level counts.
 pub fn bits_of(level: u16) -> u16

@@ -4,11 +4,9 @@ ghost use Rattle.meaning.specs.Layout.{each, occurrenceNumbers};
 ghost use Rattle.meaning.specs.Counter.{choose as chooseOf};
 ghost use Rattle.encoder.specs.Filled.{Put};
 ghost use Rattle.writer.specs.Rooms.{Room};
+use crate::kinds::AND;
+use crate::kinds::OR;
 use crate::rows::gate;
-
-const OR: u16 = 5;
-
-const AND: u16 = 10;
 
 // For each bit an AND and an OR: the high part's bit or, where the high part is empty, the low one's.
 pub fn choose(

@@ -4,6 +4,7 @@ mod answer;
 mod blocks;
 mod choice;
 mod counting;
+mod kinds;
 mod pieces;
 mod ripple;
 mod rows;
