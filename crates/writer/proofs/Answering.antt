@@ -3,14 +3,16 @@ use Prim.Native.Nat.{ℕ, _<_, _≤_}
 use native.Mathlib.Omega.{arith}
 use mathlib.Core.Path.{_≡_, refl, ap}
 use mathlib.Core.List.{List}
-use lib.ListN.{length}
+use lib.ListN.{length, take}
 use borrow.Author.Tests.{le-leb, lt-leb}
 use Rattle.meaning.specs.Syntax.{Module}
-use Rattle.meaning.specs.Layout.{encode}
+use Rattle.meaning.specs.Layout.{each, numberBytes, fileNumbers, encode}
 use Rattle.meaning.specs.Calls.{writing}
 use Rattle.encoder.specs.Filled.{Filled}
+use Rattle.writer.specs.declared.answer.Writing.{Writing}
 use Rattle.writer.specs.declared.answer.Writing.the-variants.{Wrote, Refused}
 use Rattle.writer.specs.Answers.{Answers, fitting}
+use Rattle.writer.proofs.Puts.{take-front}
 
 module _ (modules : ℕ → List Module) (width : ℕ) (before : List ℕ) where
   pub answers-narrow : width < 1 → Answers (writing modules width (length before)) before before (Refused 23 0)
@@ -26,6 +28,14 @@ module _ (modules : ℕ → List Module) (width : ℕ) (before : List ℕ) where
       → writing modules width (length before) ≡ fitting (encode (modules width)) (length before)
   unfolding writing
   writing-fitting some most = rw (le-leb 1 width some, le-leb width 64 most)
+
+  -- So it does for the bytes of the numbers that are laid out, which are the file's.
+  pub answers-laid : {list numbers after : List ℕ} {count : ℕ} {result : Writing} → 1 ≤ width → width ≤ 64
+      → Filled (fileNumbers (modules width)) list numbers count
+      → Answers (fitting (each numberBytes (take count numbers)) (length before)) before after result
+      → Answers (writing modules width (length before)) before after result
+  unfolding encode
+  answers-laid some most filled answers = rw (writing-fitting some most, ← take-front filled) answers
 
 module _ (bytes before : List ℕ) where
   pub answers-short : length before < length bytes → Answers (fitting bytes (length before)) before before (Refused 22 0)

@@ -1,11 +1,12 @@
--- A list of numbers that a loop puts into a longer one from a place on: what is laid and what is left make the whole.
+-- A list of numbers that is put into a longer one piece by piece, from a place on: what is laid and what is left make the whole.
 use Prim.Native.Nat.{ℕ, _+_, _≤_}
 use native.Mathlib.Omega.{arith}
-use mathlib.Core.Path.{_≡_, ap}
+use mathlib.Core.Path.{_≡_, refl, ap}
 use mathlib.Core.List.{List, [], _∷_, _++_, append-assoc, append-nil}
 use lib.ListN.{length, set, length-append}
 use Rattle.encoder.specs.Filled.{Put}
 use Rattle.encoder.proofs.Filling.{put-stores}
+use Rattle.writer.specs.Rooms.{Room}
 use Rattle.writer.proofs.Puts.{put-none, put-more, length-put}
 
 pub record Laying (whole left before : List ℕ) (at : ℕ) (after : List ℕ) (next : ℕ) : Type 0 where
@@ -18,6 +19,9 @@ pub laying-none : {whole left : List ℕ} (before : List ℕ) (at : ℕ) → lef
     → Laying whole left before at before at
 laying-none before at all room = record { room = room; laid = []; all = all; put = put-none before at }
 
+pub laying-start : {whole before : List ℕ} {at : ℕ} → Room whole before at → Laying whole whole before at before at
+laying-start {before = before} {at = at} room = laying-none before at refl (room .fits)
+
 module _ {whole left before after : List ℕ} {at next : ℕ} (l : Laying whole left before at after next) where
   laying-place : next + length left ≡ at + length whole
   laying-place = omega (arith, ap length (l .all), length-append (l .laid) left)
@@ -25,7 +29,10 @@ module _ {whole left before after : List ℕ} {at next : ℕ} (l : Laying whole 
   pub laying-length : length after ≡ length before
   laying-length = length-put (l .put) (omega arith) (omega (arith, laying-place))
 
-  -- There is room for what is left.
+  -- There is room for what is left, and so for its first piece.
+  pub laying-left : Room left after next
+  laying-left = omega (arith, laying-place, laying-length, l .room)
+
   pub laying-room : (piece rest : List ℕ) → left ≡ piece ++ rest
       → (length after ≡ length before) × (next + length piece ≤ length before)
   laying-room piece rest e = omega (arith, laying-place, laying-length, ap length e, length-append piece rest)
@@ -47,3 +54,16 @@ module _ {whole left before after : List ℕ} {at next : ℕ} (l : Laying whole 
 
   pub laying-all : left ≡ [] → Put whole before at after next
   laying-all e = rw (← l .all, e, append-nil) (l .put)
+
+-- There is room for the first of two pieces where there is room for both.
+pub room-first : {xs before : List ℕ} {at : ℕ} (ys : List ℕ) → Room (xs ++ ys) before at → Room xs before at
+room-first {xs} ys room = omega (arith, length-append xs ys)
+
+-- A piece is put, and the rest is left; or the last one is put.
+pub laying-put : {piece rest whole before after later : List ℕ} {at next place : ℕ}
+    → Put piece after next later place → Laying whole (piece ++ rest) before at after next → Laying whole rest before at later place
+laying-put {piece} {rest} p l = laying-more l piece rest refl p
+
+pub laying-last : {left whole before after later : List ℕ} {at next place : ℕ}
+    → Put left after next later place → Laying whole left before at after next → Put whole before at later place
+laying-last p l = rw (← l .all) (put-more (l .put) (omega (arith, l .room)) p)

@@ -3,10 +3,12 @@ use Prim.Native.Nat.{ℕ, suc, _+_, _-_, _<_, _≤_}
 use native.Mathlib.Numerals.{add-one}
 use native.Mathlib.Omega.{arith}
 use mathlib.Core.Path.{_≡_}
-use mathlib.Core.List.{List, [], _∷_}
-use lib.ListN.{length, drop, getD}
+use mathlib.Core.List.{List, [], _∷_, _++_}
+use lib.ListN.{length, drop, getD, length-append}
 use lib.Seq.{drop-cons}
 use Rattle.meaning.specs.Adder.{upFrom}
+use Rattle.laws.specs.Adder.Nets.{length-upFrom}
+use Rattle.writer.specs.Rooms.{Room}
 
 pub rest-of-list : (xs : List ℕ) (i : ℕ) → i < length xs → drop i xs ≡ getD xs i 0 ∷ drop (i + 1) xs
 rest-of-list xs i h = rw (add-one, drop-cons xs i 0)
@@ -30,3 +32,8 @@ unfolding upFrom
 no-run first count i h =
     let left : count - i ≡ 0 = omega arith in
     rw left
+
+-- Room for a run and what stands behind it is room for as many numbers as the run has.
+pub room-for-run : {list : List ℕ} {at : ℕ} (first count : ℕ) (rest : List ℕ) → Room (upFrom first count ++ rest) list at
+    → at + count ≤ length list
+room-for-run first count rest room = omega (arith, length-append (upFrom first count) rest, length-upFrom first count)

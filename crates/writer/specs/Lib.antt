@@ -1,2 +1,5 @@
 -- What the writers' contracts cite, beside `meaning`.
 pub mod Answers
+pub mod Heads
+pub mod Rooms
+pub mod Shapes

@@ -1,10 +1,10 @@
--- `adders::print_bytes` is safe and ends: the end of the loop is the slice's length.
+-- `orders::print_bytes` is safe and ends: the end of the loop is the slice's length.
 use Prim.Native.Nat.{_-_}
 use mathlib.Core.Path.{_≡_}
 use borrow.Author.Needs.{needs}
 use lib.ListN.{length}
-use Rattle.adders.proofs.print_bytes.Statement.{statement}
-use Rattle.adders.proofs.print_bytes.Tie as tie
+use Rattle.orders.proofs.print_bytes.Statement.{statement}
+use Rattle.orders.proofs.print_bytes.Tie as tie
 
 abbrev Inv-loop : tie.InvT-loop
 Inv-loop bytes i₀ i-end i = i-end ≡ length bytes

@@ -1,0 +1,31 @@
+// The choice between the count bits of a high and of a low part of a word.
+ghost use Prim.Native.Nat.{_+_, _≤_, _^_};
+ghost use Rattle.meaning.specs.Layout.{each, occurrenceNumbers};
+ghost use Rattle.meaning.specs.Counter.{choose as chooseOf};
+ghost use Rattle.encoder.specs.Filled.{Put};
+ghost use Rattle.writer.specs.Rooms.{Room};
+use crate::kinds::AND;
+use crate::kinds::OR;
+use crate::rows::gate;
+
+// For each bit an AND and an OR: the high part's bit or, where the high part is empty, the low one's.
+pub fn choose(
+    empty: u16,
+    high: u16,
+    low: u16,
+    ands: u16,
+    ors: u16,
+    count: u16,
+    numbers: &mut [u16],
+    at: usize,
+) -> usize
+    requires { ⌜ (high + count ≤ 2 ^ 16) × (low + count ≤ 2 ^ 16) × (ands + count ≤ 2 ^ 16) × (ors + count ≤ 2 ^ 16) × Room (each occurrenceNumbers (chooseOf empty high low ands ors count)) (now numbers) at ⌝ }
+    ensures { λ r. ⌜ Put (each occurrenceNumbers (chooseOf empty high low ands ors count)) (now (numbers .entry)) at (now (numbers .exit)) r ⌝ }
+{
+    let mut at = at;
+    for i in 0..count {
+        let or = gate(ands + i, AND, empty, low + i, numbers, at);
+        at = gate(ors + i, OR, high + i, ands + i, numbers, or);
+    }
+    at
+}
