@@ -1,0 +1,1 @@
+-- Facts that the functions' proofs share.
