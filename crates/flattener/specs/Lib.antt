@@ -2,3 +2,6 @@
 pub mod Placing
 pub mod PlacingMeans
 pub mod Growing
+pub mod Slots
+pub mod Front
+pub mod Runs

@@ -1,0 +1,2 @@
+// Flattening: the walk of evaluation over the image of a checked file, with nets of the new module for values.
+pub mod slots;
