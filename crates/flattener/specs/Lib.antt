@@ -5,3 +5,4 @@ pub mod Growing
 pub mod Slots
 pub mod Front
 pub mod Runs
+pub mod Places

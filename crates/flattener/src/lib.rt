@@ -1,2 +1,3 @@
 // Flattening: the walk of evaluation over the image of a checked file, with nets of the new module for values.
+pub mod places;
 pub mod slots;
