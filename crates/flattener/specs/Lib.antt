@@ -6,3 +6,4 @@ pub mod Slots
 pub mod Front
 pub mod Runs
 pub mod Places
+pub mod Gates
