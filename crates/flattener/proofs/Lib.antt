@@ -3,3 +3,7 @@ pub mod Filling
 pub mod Lists
 pub mod Copying
 pub mod Putting
+pub mod Nets
+pub mod Progress
+pub mod Stepping
+pub mod GateStep

@@ -33,7 +33,7 @@ pub record Written (around : List ℕ) (base : ℕ) (b : Board) (pen : Pen) (num
   pub place : pen .at ≡ base + length (each occurrenceNumbers (b .gates))
   pub holds : numbers ≡ laid around base (each occurrenceNumbers (b .gates))
 
-each-snoc :
+pub each-snoc :
     (os : List Occurrence) (o : Occurrence)
     → each occurrenceNumbers (os ++ (o ∷ [])) ≡ each occurrenceNumbers os ++ occurrenceNumbers o
 unfolding each

@@ -7,3 +7,4 @@ pub mod Front
 pub mod Runs
 pub mod Places
 pub mod Gates
+pub mod Plan

@@ -2,3 +2,4 @@
 pub mod gates;
 pub mod places;
 pub mod slots;
+pub mod walk;
