@@ -5,5 +5,8 @@ pub mod Copying
 pub mod Putting
 pub mod Nets
 pub mod Progress
+pub mod Parts
 pub mod Stepping
 pub mod GateStep
+pub mod SubPlan
+pub mod ModuleStep

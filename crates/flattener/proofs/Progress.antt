@@ -47,14 +47,14 @@ pub begin :
     → count ≡ getD image (h .body) 0
     → Progress p image scratch frame count scratch numbers pen (h .body + 1) (h .inputs) 0
 unfolding netCount
-begin {p} {scratch = scratch} {h = h} ready header frame count e f =
-    let ok = frame-at (ready .imaged .frames) _ (ready .here) in
+begin {p} {k = k} {scratch = scratch} {h = h} ready header frame count e f =
+    let ok = frame-at (ready .imaged .frames) k (ready .here) in
     record {
       left = p .m .occurrences;
       turns = omega (arith, f, header .count);
       stands = header .occurrences;
       framed = rw (header .inputs) (ok .framed);
-      wide = e ∙ ready .imaged .counted _ (ready .here);
+      wide = e ∙ ready .imaged .counted k (ready .here);
       ends = omega (arith, header .inputs);
       room = ready .room;
       board = p .board;
