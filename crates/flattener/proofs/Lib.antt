@@ -10,3 +10,5 @@ pub mod Stepping
 pub mod GateStep
 pub mod SubPlan
 pub mod ModuleStep
+pub mod Turns
+pub mod ModuleTurns
