@@ -24,7 +24,8 @@ use Rattle.flattener.specs.declared.gates.Pen.{Pen}
 use Rattle.flattener.specs.declared.places.Place.{Place}
 use Rattle.flattener.proofs.Nets.{below-one, below-read, read-front}
 use Rattle.flattener.proofs.Progress.{Progress, Current}
-use Rattle.flattener.proofs.Stepping.{placed, numbers-long, within, arguments, in-frame, Stepped}
+use Rattle.flattener.proofs.Lengths.{long-now}
+use Rattle.flattener.proofs.Stepping.{placed, within, arguments, in-frame, Stepped}
 
 one-net : {later : List Module} {o : Occurrence} → Reference later o → isGate (o .refers) ≡ true → length (o .drives) ≡ 1
 one-net (toGate h arity drives) gate = sym drives
@@ -72,7 +73,7 @@ module _
                 listed = is .takeList .listed;
                 slots = rw (is .takeList .is) (record { slot = λ j h. omega (arith, c .slots .slot j h, free, in-scratch) });
                 small = rw (arguments g c is) (below-read (g .small) (c .o .takes));
-                room = omega (arith, fits, numbers-of-gate, g .written .place, numbers-long g c ready);
+                room = omega (arith, fits, numbers-of-gate, g .written .place, long-now ready g);
               };
           number = omega (arith, g .written .next, rw set-down at (within g c ready .few));
         }

@@ -4,7 +4,9 @@ pub mod Lists
 pub mod Copying
 pub mod Putting
 pub mod Nets
+pub mod Standing
 pub mod Progress
+pub mod Lengths
 pub mod Parts
 pub mod Stepping
 pub mod GateStep

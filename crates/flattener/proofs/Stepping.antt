@@ -10,7 +10,6 @@ use Rattle.meaning.specs.Limits.{driven, netCount, mostModuleNets}
 use Rattle.meaning.specs.Figures.{largestReferred, room}
 use Rattle.meaning.specs.Flattening.{Placed, placeReferred}
 use Rattle.nets.specs.Slots.{Below}
-use Rattle.image.specs.Laid.{length-laid}
 use Rattle.image.specs.Pieces.{moved}
 use Rattle.image.specs.Frames.{readSlots}
 use Rattle.flattener.specs.Placing.{walkPlaced, placeFrames}
@@ -37,16 +36,6 @@ module _
     unfolding walkPlaced
     rest-is =
         sym (ap (λ (os : List Occurrence). walkPlaced (placeFrames (p .later)) os (take filled scratch) (g .board)) (c .is)) ∙ g .same
-
-    -- The list of gates has the length that it had.
-    pub numbers-long :
-        {starts nets : List ℕ} {k : ℕ} {pen₀ : Pen} {numbers₀ : List ℕ}
-        → Ready p image starts nets k pen₀ scratch₀ numbers₀
-        → length numbers ≡ length (p .around)
-    numbers-long ready =
-        let grows = subst (λ (q : Placed). Grows (g .board) (q .board)) (g .same) (board-grows (p .later) (g .left) (take filled scratch) (g .board)) in
-        ap length (g .written .holds)
-        ∙ length-laid (p .around) (p .base) (each occurrenceNumbers (g .board .gates)) (omega (arith, ready .long, numbers-grow grows))
 
     -- The occurrence's gates have numbers and places.
     pub record Within : Type 0 where

@@ -7,6 +7,8 @@ use native.Mathlib.Omega.{arith}
 use borrow.Author.Tests.{lt-ltb}
 use lib.ListN.{length, getD, set}
 use Rattle.meaning.specs.Gates.{isGate}
+use Rattle.meaning.specs.Limits.{mostModuleNets}
+use Rattle.image.specs.Stepping.{frame-at}
 use Rattle.flattener.specs.Gates.{Settable, Set}
 use Rattle.flattener.specs.Places.{PlaceOf, PlaceIs}
 use Rattle.flattener.specs.Plan.{Plan, Ready}
@@ -42,9 +44,12 @@ module _
     {refers : ℕ} (t : Turn p image scratch₀ frame count scratch numbers pen at filled i place refers)
     {starts nets : List ℕ} {k : ℕ} {pen₀ : Pen} {numbers₀ : List ℕ} (ready : Ready p image starts nets k pen₀ scratch₀ numbers₀)
   where
-    -- The nets that the occurrence drives lie in the frame, and the frame in the scratch.
+    -- The nets that the occurrence drives lie in the frame, which is narrow and lies in the scratch.
     pub framed : filled + place .drives ≤ frame
     framed = omega (arith, in-frame (t .progress) (t .now), t .is .drives)
+
+    pub narrow : frame ≤ mostModuleNets
+    narrow = omega (arith, t .progress .wide, frame-at (ready .imaged .frames) k (ready .here) .nets)
 
     pub scratched : frame ≤ length scratch
     scratched = omega (arith, t .progress .wide, t .progress .room, t .progress .size, ready .reached)

@@ -1,10 +1,19 @@
-use Prim.Native.Nat.{ℕ, _+_, _*_, _-_, _<_}
+-- The proof of the cycle of calls {place_module, walk}. The module that is placed lies further back with each call for a submodule:
+-- with n starts in the table, the measure is 2 (n - k) + 1 for `place_module` at position k and 2 (n - k) for `walk`. The invariant of
+-- the walk's loop: every plan that could be carried out at the start has come so far. Assumes nothing.
+use Prim.Native.Nat.{ℕ, _+_, _*_, _-_, _≤_, _<_}
 use native.Mathlib.Omega.{arith}
-use lib.ListN.{length}
-use Rattle.flattener.specs.Plan.{Plan, Ready, Done}
-use Rattle.flattener.proofs.Progress.{Progress}
+use mathlib.Core.Path.{_≡_, refl, sym, ap, _∙_}
+use lib.ListN.{length, getD, length-drop}
 use borrow.Fn.Kinds.{In}
 use borrow.Fn.PlainCycle.{Measures, is, falls, and}
+use Rattle.flattener.specs.Plan.{Plan, Ready, Done}
+use Rattle.flattener.proofs.Standing.{in-starts, in-nets, there, headed}
+use Rattle.flattener.proofs.Progress.{Progress, begin, current, finish}
+use Rattle.flattener.proofs.Lengths.{long-before, long-now}
+use Rattle.flattener.proofs.Turns.{Turn, turn, framed, narrow, scratched, gate-settable, gate-free, gate-again}
+use Rattle.flattener.proofs.ModuleTurns.{further, in-table, module-there, arguments-copyable, copied-long, module-ready}
+use Rattle.flattener.proofs.ModuleTurns.{outputs-copyable, module-again}
 use Rattle.flattener.proofs.walk.place_module.Reads as place-module
 use Rattle.flattener.proofs.walk.place_module.Kinds as place-module-kinds
 use Rattle.flattener.proofs.walk.+place_module+walk.Lts-place_module as place-module-lts
@@ -31,11 +40,7 @@ place-module-at t =
 
 abbrev place-module-below : ℕ → In 5 place-module-kinds.ps
 place-module-below t =
-    and
-    5
-    place-module-kinds.ps
-    (falls 5 place-module-kinds.ps _<_ μ-place-module t)
-    place-module.Pre
+    and 5 place-module-kinds.ps (falls 5 place-module-kinds.ps _<_ μ-place-module t) place-module.Pre
 
 abbrev walk-at : ℕ → In 5 walk-kinds.ps
 walk-at t = and 5 walk-kinds.ps (is 5 walk-kinds.ps μ-walk t) walk.Pre
@@ -43,595 +48,220 @@ walk-at t = and 5 walk-kinds.ps (is 5 walk-kinds.ps μ-walk t) walk.Pre
 abbrev walk-below : ℕ → In 5 walk-kinds.ps
 walk-below t = and 5 walk-kinds.ps (falls 5 walk-kinds.ps _<_ μ-walk t) walk.Pre
 
--- src/walk.rt:22:50
-place-module-mul-header-at : (t : ℕ) → place-module-lts.Need-mul-header-at (
+-- What the two call.
+abbrev place-module-claims : ℕ → place-module-lts.Claims
+place-module-claims t = (header-at-reads.Asked, header-at-reads.Learnt, walk-below t, walk.Post)
+
+abbrev walk-claims : ℕ → walk-lts.Claims
+walk-claims t = (
+  entry-reads.Asked,
+  entry-reads.Learnt,
+  occurrence-at-reads.Asked,
+  occurrence-at-reads.Learnt,
+  set-gate-reads.Asked,
+  set-gate-reads.Learnt,
+  copy-reads.Asked,
+  copy-reads.Learnt,
+  place-module-below t,
+  place-module.Post,
   header-at-reads.Asked,
   header-at-reads.Learnt,
-  walk-below t,
-  walk.Post,
-) (place-module-at t) place-module.Post
-place-module-mul-header-at t c = ?
+)
 
--- src/walk.rt:22:50
-place-module-shared-slice-read-header-at :
-    (t : ℕ) → place-module-lts.Need-shared-slice-read-header-at (
-      header-at-reads.Asked,
-      header-at-reads.Learnt,
-      walk-below t,
-      walk.Post,
-    ) (place-module-at t) place-module.Post
-place-module-shared-slice-read-header-at t c = ?
+place-module-mul-header-at : (t : ℕ) → place-module-lts.Need-mul-header-at (place-module-claims t) (place-module-at t) place-module.Post
+place-module-mul-header-at t c = omega (arith, in-starts (c .before .before .before .before .before .pre .1 .ready))
 
--- src/walk.rt:22:9
-place-module-header-at-requires : (t : ℕ) → place-module-lts.Need-header-at-requires (
-  header-at-reads.Asked,
-  header-at-reads.Learnt,
-  walk-below t,
-  walk.Post,
-) (place-module-at t) place-module.Post
-place-module-header-at-requires t c κs = ?
+place-module-shared-slice-read-header-at : (t : ℕ) → place-module-lts.Need-shared-slice-read-header-at (place-module-claims t) (place-module-at t) place-module.Post
+place-module-shared-slice-read-header-at t c = in-starts (c .before .before .before .before .before .before .pre .1 .ready)
 
--- src/walk.rt:23:5
-place-module-walk-requires : (t : ℕ) → place-module-lts.Need-walk-requires (
-  header-at-reads.Asked,
-  header-at-reads.Learnt,
-  walk-below t,
-  walk.Post,
-) (place-module-at t) place-module.Post
-place-module-walk-requires t c κs = ?
+place-module-header-at-requires : (t : ℕ) → place-module-lts.Need-header-at-requires (place-module-claims t) (place-module-at t) place-module.Post
+place-module-header-at-requires t c κs = there (c .before .before .before .before .before .before .pre .1 .ready)
 
--- src/walk.rt:10:1
-place-module-same-length : (t : ℕ) → place-module-lts.Need-same-length (
-  header-at-reads.Asked,
-  header-at-reads.Learnt,
-  walk-below t,
-  walk.Post,
-) (place-module-at t) place-module.Post
-place-module-same-length t c = ?
+place-module-walk-requires : (t : ℕ) → place-module-lts.Need-walk-requires (place-module-claims t) (place-module-at t) place-module.Post
+place-module-walk-requires t c κs =
+    let start = c .before .before .before .before .before .before .before .before .before in
+    (omega (arith, start .pre .0), (start .pre .1, c .before .before .header-at .ensures))
 
--- src/walk.rt:10:1
-place-module-same-length-2 : (t : ℕ) → place-module-lts.Need-same-length-2 (
-  header-at-reads.Asked,
-  header-at-reads.Learnt,
-  walk-below t,
-  walk.Post,
-) (place-module-at t) place-module.Post
-place-module-same-length-2 t c = ?
+place-module-same-length : (t : ℕ) → place-module-lts.Need-same-length (place-module-claims t) (place-module-at t) place-module.Post
+place-module-same-length t c = c .before .before .before .before .walk .kept .1 .1 .1 .1 .1 .1 .0
 
--- src/walk.rt:10:1
-place-module-returns : (t : ℕ) → place-module-lts.Need-returns (
-  header-at-reads.Asked,
-  header-at-reads.Learnt,
-  walk-below t,
-  walk.Post,
-) (place-module-at t) place-module.Post
-place-module-returns t c = ?
+place-module-same-length-2 : (t : ℕ) → place-module-lts.Need-same-length-2 (place-module-claims t) (place-module-at t) place-module.Post
+place-module-same-length-2 t c = c .before .before .before .before .walk .kept .1 .1 .1 .1 .1 .1 .1 .0
+
+place-module-returns : (t : ℕ) → place-module-lts.Need-returns (place-module-claims t) (place-module-at t) place-module.Post
+place-module-returns t c = c .before .before .before .before .walk .ensures
 
 abbrev walk-Inv-loop : walk-lts.InvT-loop
 walk-Inv-loop image starts nets k scratch₀ numbers₀ frame body count pen₀ at₀ filled₀ i₀ scratch numbers pen at filled i =
-    (p : Plan) → Ready p image starts nets k pen₀ scratch₀ numbers₀ → Progress p image scratch₀ frame count scratch numbers pen at filled i
+    (p : Plan)
+    → Ready p image starts nets k pen₀ scratch₀ numbers₀
+    → Progress p image scratch₀ frame count scratch numbers pen at filled i
 
 abbrev walk-μ-loop : walk-lts.MeasureT-loop
-walk-μ-loop image starts nets k scratch₀ numbers₀ frame body count pen₀ at₀ filled₀ i₀ scratch numbers pen at filled i =
-    count - i
+walk-μ-loop image starts nets k scratch₀ numbers₀ frame body count pen₀ at₀ filled₀ i₀ scratch numbers pen at filled i = count - i
 
--- src/walk.rt:42:17
-walk-mul-frame : (t : ℕ) → walk-lts.Need-mul-frame (
-  entry-reads.Asked,
-  entry-reads.Learnt,
-  occurrence-at-reads.Asked,
-  occurrence-at-reads.Learnt,
-  set-gate-reads.Asked,
-  set-gate-reads.Learnt,
-  copy-reads.Asked,
-  copy-reads.Learnt,
-  place-module-below t,
-  place-module.Post,
-  header-at-reads.Asked,
-  header-at-reads.Learnt,
-) (walk-at t) walk.Post walk-Inv-loop walk-μ-loop
-walk-mul-frame t c = ?
+walk-mul-frame : (t : ℕ) → walk-lts.Need-mul-frame (walk-claims t) (walk-at t) walk.Post walk-Inv-loop walk-μ-loop
+walk-mul-frame t c = omega (arith, in-nets (c .before .before .before .before .before .pre .1 .0 .ready))
 
--- src/walk.rt:42:17
-walk-shared-slice-read-frame : (t : ℕ) → walk-lts.Need-shared-slice-read-frame (
-  entry-reads.Asked,
-  entry-reads.Learnt,
-  occurrence-at-reads.Asked,
-  occurrence-at-reads.Learnt,
-  set-gate-reads.Asked,
-  set-gate-reads.Learnt,
-  copy-reads.Asked,
-  copy-reads.Learnt,
-  place-module-below t,
-  place-module.Post,
-  header-at-reads.Asked,
-  header-at-reads.Learnt,
-) (walk-at t) walk.Post walk-Inv-loop walk-μ-loop
-walk-shared-slice-read-frame t c = ?
+walk-shared-slice-read-frame : (t : ℕ) → walk-lts.Need-shared-slice-read-frame (walk-claims t) (walk-at t) walk.Post walk-Inv-loop walk-μ-loop
+walk-shared-slice-read-frame t c = in-nets (c .before .before .before .before .before .before .pre .1 .0 .ready)
 
--- src/walk.rt:44:9
-walk-entry-requires : (t : ℕ) → walk-lts.Need-entry-requires (
-  entry-reads.Asked,
-  entry-reads.Learnt,
-  occurrence-at-reads.Asked,
-  occurrence-at-reads.Learnt,
-  set-gate-reads.Asked,
-  set-gate-reads.Learnt,
-  copy-reads.Asked,
-  copy-reads.Learnt,
-  place-module-below t,
-  place-module.Post,
-  header-at-reads.Asked,
-  header-at-reads.Learnt,
-) (walk-at t) walk.Post walk-Inv-loop walk-μ-loop
-walk-entry-requires t c κs = ?
+walk-entry-requires : (t : ℕ) → walk-lts.Need-entry-requires (walk-claims t) (walk-at t) walk.Post walk-Inv-loop walk-μ-loop
+walk-entry-requires t c κs =
+    let start = c .before .before .before .before .before .before in
+    omega (arith, headed (start .pre .1 .0 .ready) (start .pre .1 .1) .occurrences .within)
 
--- src/walk.rt:46:18
-walk-add-at : (t : ℕ) → walk-lts.Need-add-at (
-  entry-reads.Asked,
-  entry-reads.Learnt,
-  occurrence-at-reads.Asked,
-  occurrence-at-reads.Learnt,
-  set-gate-reads.Asked,
-  set-gate-reads.Learnt,
-  copy-reads.Asked,
-  copy-reads.Learnt,
-  place-module-below t,
-  place-module.Post,
-  header-at-reads.Asked,
-  header-at-reads.Learnt,
-) (walk-at t) walk.Post walk-Inv-loop walk-μ-loop
-walk-add-at t c = ?
+walk-add-at : (t : ℕ) → walk-lts.Need-add-at (walk-claims t) (walk-at t) walk.Post walk-Inv-loop walk-μ-loop
+walk-add-at t c =
+    let start = c .before .before .before .before .before .before .before in
+    omega (arith, headed (start .pre .1 .0 .ready) (start .pre .1 .1) .occurrences .within)
 
--- src/walk.rt:49:5
-walk-loop-holds : (t : ℕ) → walk-lts.Need-loop-holds (
-  entry-reads.Asked,
-  entry-reads.Learnt,
-  occurrence-at-reads.Asked,
-  occurrence-at-reads.Learnt,
-  set-gate-reads.Asked,
-  set-gate-reads.Learnt,
-  copy-reads.Asked,
-  copy-reads.Learnt,
-  place-module-below t,
-  place-module.Post,
-  header-at-reads.Asked,
-  header-at-reads.Learnt,
-) (walk-at t) walk.Post walk-Inv-loop walk-μ-loop
-walk-loop-holds t c = ?
+walk-loop-holds : (t : ℕ) → walk-lts.Need-loop-holds (walk-claims t) (walk-at t) walk.Post walk-Inv-loop walk-μ-loop
+walk-loop-holds t c = λ p ready. begin ready (headed ready (c .before .before .before .before .before .before .before .pre .1 .1)) _ _ refl (c .entry .ensures)
 
--- src/walk.rt:50:13
-walk-occurrence-at-requires : (t : ℕ) → walk-lts.Need-occurrence-at-requires (
-  entry-reads.Asked,
-  entry-reads.Learnt,
-  occurrence-at-reads.Asked,
-  occurrence-at-reads.Learnt,
-  set-gate-reads.Asked,
-  set-gate-reads.Learnt,
-  copy-reads.Asked,
-  copy-reads.Learnt,
-  place-module-below t,
-  place-module.Post,
-  header-at-reads.Asked,
-  header-at-reads.Learnt,
-) (walk-at t) walk.Post walk-Inv-loop walk-μ-loop
-walk-occurrence-at-requires t c κs = ?
+-- A turn, once the occurrence is found and the number that it refers to is read.
+abbrev Turning : ℕ → Type 0
+Turning t = walk-lts.After-entry2 (walk-claims t) (walk-at t) walk.Post walk-Inv-loop walk-μ-loop
 
--- src/walk.rt:51:13
-walk-entry-requires-2 : (t : ℕ) → walk-lts.Need-entry-requires-2 (
-  entry-reads.Asked,
-  entry-reads.Learnt,
-  occurrence-at-reads.Asked,
-  occurrence-at-reads.Learnt,
-  set-gate-reads.Asked,
-  set-gate-reads.Learnt,
-  copy-reads.Asked,
-  copy-reads.Learnt,
-  place-module-below t,
-  place-module.Post,
-  header-at-reads.Asked,
-  header-at-reads.Learnt,
-) (walk-at t) walk.Post walk-Inv-loop walk-μ-loop
-walk-entry-requires-2 t c κs = ?
+here :
+    (t : ℕ) (c : Turning t)
+    → (let args = c .before .before .before .before .before .before .before .before .before .before .before .args in
+    let head = c .before .before .before in
+    (p : Plan)
+    → Ready p (args .image .now) (args .starts .now) (args .nets .now) (args .k) (args .pen) (args .scratch .now) (args .numbers .now)
+    → Turn p (args .image .now) (args .scratch .now) (getD (args .nets .now) (args .k) 0) (head .before .entry .result) (head .loop .scratch)
+    (head .loop .numbers) (head .loop .pen) (head .loop .at) (head .loop .filled) (head .loop .i) (c .before .occurrence-at .result)
+    (c .entry2 .result))
+here t c p ready = turn (c .before .before .before .loop .inv p ready) (c .before .before .loop-test .taken) (c .before .occurrence-at .ensures) (c .entry2 .ensures)
 
--- src/walk.rt:54:9
-walk-add-filled : (t : ℕ) → walk-lts.Need-add-filled (
-  entry-reads.Asked,
-  entry-reads.Learnt,
-  occurrence-at-reads.Asked,
-  occurrence-at-reads.Learnt,
-  set-gate-reads.Asked,
-  set-gate-reads.Learnt,
-  copy-reads.Asked,
-  copy-reads.Learnt,
-  place-module-below t,
-  place-module.Post,
-  header-at-reads.Asked,
-  header-at-reads.Learnt,
-) (walk-at t) walk.Post walk-Inv-loop walk-μ-loop
-walk-add-filled t c = ?
+-- The same for the plan that the caller has.
+some :
+    (t : ℕ) (c : Turning t)
+    → (let start = c .before .before .before .before .before .before .before .before .before .before .before in
+    let args = start .args in
+    let head = c .before .before .before in
+    Turn (start .pre .1 .0 .plan) (args .image .now) (args .scratch .now) (getD (args .nets .now) (args .k) 0) (head .before .entry .result) (head .loop .scratch)
+    (head .loop .numbers) (head .loop .pen) (head .loop .at) (head .loop .filled) (head .loop .i) (c .before .occurrence-at .result)
+    (c .entry2 .result))
+some t c = here t c _ (c .before .before .before .before .before .before .before .before .before .before .before .pre .1 .0 .ready)
 
--- src/walk.rt:55:9
-walk-add-i : (t : ℕ) → walk-lts.Need-add-i (
-  entry-reads.Asked,
-  entry-reads.Learnt,
-  occurrence-at-reads.Asked,
-  occurrence-at-reads.Learnt,
-  set-gate-reads.Asked,
-  set-gate-reads.Learnt,
-  copy-reads.Asked,
-  copy-reads.Learnt,
-  place-module-below t,
-  place-module.Post,
-  header-at-reads.Asked,
-  header-at-reads.Learnt,
-) (walk-at t) walk.Post walk-Inv-loop walk-μ-loop
-walk-add-i t c = ?
+walk-occurrence-at-requires : (t : ℕ) → walk-lts.Need-occurrence-at-requires (walk-claims t) (walk-at t) walk.Post walk-Inv-loop walk-μ-loop
+walk-occurrence-at-requires t c κs =
+    let now = current (c .before .loop .inv _ (c .before .before .before .before .before .before .before .before .before .pre .1 .0 .ready)) (c .loop-test .taken) in
+    record { o = now .o; standing = now .standing }
 
--- src/walk.rt:58:13
-walk-set-gate-requires : (t : ℕ) → walk-lts.Need-set-gate-requires (
-  entry-reads.Asked,
-  entry-reads.Learnt,
-  occurrence-at-reads.Asked,
-  occurrence-at-reads.Learnt,
-  set-gate-reads.Asked,
-  set-gate-reads.Learnt,
-  copy-reads.Asked,
-  copy-reads.Learnt,
-  place-module-below t,
-  place-module.Post,
-  header-at-reads.Asked,
-  header-at-reads.Learnt,
-) (walk-at t) walk.Post walk-Inv-loop walk-μ-loop
-walk-set-gate-requires t c κs = ?
+walk-entry-requires-2 : (t : ℕ) → walk-lts.Need-entry-requires-2 (walk-claims t) (walk-at t) walk.Post walk-Inv-loop walk-μ-loop
+walk-entry-requires-2 t c κs =
+    let now = current (c .before .before .loop .inv _ (c .before .before .before .before .before .before .before .before .before .before .pre .1 .0 .ready)) (c .before .loop-test .taken) in
+    c .occurrence-at .ensures (now .o) (now .standing) .inside
 
--- src/walk.rt:59:29
-walk-cast-scratch : (t : ℕ) → walk-lts.Need-cast-scratch (
-  entry-reads.Asked,
-  entry-reads.Learnt,
-  occurrence-at-reads.Asked,
-  occurrence-at-reads.Learnt,
-  set-gate-reads.Asked,
-  set-gate-reads.Learnt,
-  copy-reads.Asked,
-  copy-reads.Learnt,
-  place-module-below t,
-  place-module.Post,
-  header-at-reads.Asked,
-  header-at-reads.Learnt,
-) (walk-at t) walk.Post walk-Inv-loop walk-μ-loop
-walk-cast-scratch t c = ?
+walk-add-filled : (t : ℕ) → walk-lts.Need-add-filled (walk-claims t) (walk-at t) walk.Post walk-Inv-loop walk-μ-loop
+walk-add-filled t c =
+    let turning = c .before in
+    let ready = c .before .before .before .before .before .before .before .before .before .before .before .before .pre .1 .0 .ready in
+    omega (arith, framed (some t turning) ready, narrow (some t turning) ready)
 
--- src/walk.rt:59:13
-walk-mul-scratch : (t : ℕ) → walk-lts.Need-mul-scratch (
-  entry-reads.Asked,
-  entry-reads.Learnt,
-  occurrence-at-reads.Asked,
-  occurrence-at-reads.Learnt,
-  set-gate-reads.Asked,
-  set-gate-reads.Learnt,
-  copy-reads.Asked,
-  copy-reads.Learnt,
-  place-module-below t,
-  place-module.Post,
-  header-at-reads.Asked,
-  header-at-reads.Learnt,
-) (walk-at t) walk.Post walk-Inv-loop walk-μ-loop
-walk-mul-scratch t c = ?
+walk-add-i : (t : ℕ) → walk-lts.Need-add-i (walk-claims t) (walk-at t) walk.Post walk-Inv-loop walk-μ-loop
+walk-add-i t c = omega arith
 
--- src/walk.rt:59:13
-walk-slice-write-scratch : (t : ℕ) → walk-lts.Need-slice-write-scratch (
-  entry-reads.Asked,
-  entry-reads.Learnt,
-  occurrence-at-reads.Asked,
-  occurrence-at-reads.Learnt,
-  set-gate-reads.Asked,
-  set-gate-reads.Learnt,
-  copy-reads.Asked,
-  copy-reads.Learnt,
-  place-module-below t,
-  place-module.Post,
-  header-at-reads.Asked,
-  header-at-reads.Learnt,
-) (walk-at t) walk.Post walk-Inv-loop walk-μ-loop
-walk-slice-write-scratch t c = ?
+walk-set-gate-requires : (t : ℕ) → walk-lts.Need-set-gate-requires (walk-claims t) (walk-at t) walk.Post walk-Inv-loop walk-μ-loop
+walk-set-gate-requires t c κs = gate-settable (some t (c .before .before .before .before)) (c .before .before .before .before .before .before .before .before .before .before .before .before .before .before .before .pre .1 .0 .ready) (c .before .before .if1 .taken)
 
--- src/walk.rt:49:5
-walk-loop-less : (t : ℕ) → walk-lts.Need-loop-less (
-  entry-reads.Asked,
-  entry-reads.Learnt,
-  occurrence-at-reads.Asked,
-  occurrence-at-reads.Learnt,
-  set-gate-reads.Asked,
-  set-gate-reads.Learnt,
-  copy-reads.Asked,
-  copy-reads.Learnt,
-  place-module-below t,
-  place-module.Post,
-  header-at-reads.Asked,
-  header-at-reads.Learnt,
-) (walk-at t) walk.Post walk-Inv-loop walk-μ-loop
-walk-loop-less t c = ?
+walk-cast-scratch : (t : ℕ) → walk-lts.Need-cast-scratch (walk-claims t) (walk-at t) walk.Post walk-Inv-loop walk-μ-loop
+walk-cast-scratch t c = omega (arith, gate-settable (some t (c .before .before .before .before .before .before .before)) (c .before .before .before .before .before .before .before .before .before .before .before .before .before .before .before .before .before .before .pre .1 .0 .ready) (c .before .before .before .before .before .if1 .taken) .number)
 
--- src/walk.rt:49:5
-walk-loop-again : (t : ℕ) → walk-lts.Need-loop-again (
-  entry-reads.Asked,
-  entry-reads.Learnt,
-  occurrence-at-reads.Asked,
-  occurrence-at-reads.Learnt,
-  set-gate-reads.Asked,
-  set-gate-reads.Learnt,
-  copy-reads.Asked,
-  copy-reads.Learnt,
-  place-module-below t,
-  place-module.Post,
-  header-at-reads.Asked,
-  header-at-reads.Learnt,
-) (walk-at t) walk.Post walk-Inv-loop walk-μ-loop
-walk-loop-again t c = ?
+walk-mul-scratch : (t : ℕ) → walk-lts.Need-mul-scratch (walk-claims t) (walk-at t) walk.Post walk-Inv-loop walk-μ-loop
+walk-mul-scratch t c =
+    let turning = c .before .before .before .before .before .before .before in
+    let ready = c .before .before .before .before .before .before .before .before .before .before .before .before .before .before .before .before .before .before .pre .1 .0 .ready in
+    omega (arith, gate-free (some t turning) ready (c .before .before .before .before .before .if1 .taken), narrow (some t turning) ready)
 
--- src/walk.rt:62:13
-walk-copy-requires : (t : ℕ) → walk-lts.Need-copy-requires (
-  entry-reads.Asked,
-  entry-reads.Learnt,
-  occurrence-at-reads.Asked,
-  occurrence-at-reads.Learnt,
-  set-gate-reads.Asked,
-  set-gate-reads.Learnt,
-  copy-reads.Asked,
-  copy-reads.Learnt,
-  place-module-below t,
-  place-module.Post,
-  header-at-reads.Asked,
-  header-at-reads.Learnt,
-) (walk-at t) walk.Post walk-Inv-loop walk-μ-loop
-walk-copy-requires t c κs = ?
+walk-slice-write-scratch : (t : ℕ) → walk-lts.Need-slice-write-scratch (walk-claims t) (walk-at t) walk.Post walk-Inv-loop walk-μ-loop
+walk-slice-write-scratch t c =
+    let turning = c .before .before .before .before .before .before .before in
+    let ready = c .before .before .before .before .before .before .before .before .before .before .before .before .before .before .before .before .before .before .pre .1 .0 .ready in
+    omega (arith, gate-free (some t turning) ready (c .before .before .before .before .before .if1 .taken), scratched (some t turning) ready)
 
--- src/walk.rt:63:61
-walk-mul-place-module : (t : ℕ) → walk-lts.Need-mul-place-module (
-  entry-reads.Asked,
-  entry-reads.Learnt,
-  occurrence-at-reads.Asked,
-  occurrence-at-reads.Learnt,
-  set-gate-reads.Asked,
-  set-gate-reads.Learnt,
-  copy-reads.Asked,
-  copy-reads.Learnt,
-  place-module-below t,
-  place-module.Post,
-  header-at-reads.Asked,
-  header-at-reads.Learnt,
-) (walk-at t) walk.Post walk-Inv-loop walk-μ-loop
-walk-mul-place-module t c = ?
+walk-loop-less : (t : ℕ) → walk-lts.Need-loop-less (walk-claims t) (walk-at t) walk.Post walk-Inv-loop walk-μ-loop
+walk-loop-less t c = omega (arith, c .before .before .before .before .before .before .before .before .before .loop-test .taken)
 
--- src/walk.rt:63:61
-walk-sub-place-module : (t : ℕ) → walk-lts.Need-sub-place-module (
-  entry-reads.Asked,
-  entry-reads.Learnt,
-  occurrence-at-reads.Asked,
-  occurrence-at-reads.Learnt,
-  set-gate-reads.Asked,
-  set-gate-reads.Learnt,
-  copy-reads.Asked,
-  copy-reads.Learnt,
-  place-module-below t,
-  place-module.Post,
-  header-at-reads.Asked,
-  header-at-reads.Learnt,
-) (walk-at t) walk.Post walk-Inv-loop walk-μ-loop
-walk-sub-place-module t c = ?
+walk-loop-again : (t : ℕ) → walk-lts.Need-loop-again (walk-claims t) (walk-at t) walk.Post walk-Inv-loop walk-μ-loop
+walk-loop-again t c = λ p ready. gate-again (here t (c .before .before .before .before .before .before .before) p ready) ready (c .before .before .before .before .before .if1 .taken) (c .before .before .set-gate .ensures)
 
--- src/walk.rt:63:61
-walk-part-place-module-start : (t : ℕ) → walk-lts.Need-part-place-module-start (
-  entry-reads.Asked,
-  entry-reads.Learnt,
-  occurrence-at-reads.Asked,
-  occurrence-at-reads.Learnt,
-  set-gate-reads.Asked,
-  set-gate-reads.Learnt,
-  copy-reads.Asked,
-  copy-reads.Learnt,
-  place-module-below t,
-  place-module.Post,
-  header-at-reads.Asked,
-  header-at-reads.Learnt,
-) (walk-at t) walk.Post walk-Inv-loop walk-μ-loop
-walk-part-place-module-start t c = ?
+walk-copy-requires : (t : ℕ) → walk-lts.Need-copy-requires (walk-claims t) (walk-at t) walk.Post walk-Inv-loop walk-μ-loop
+walk-copy-requires t c κs = arguments-copyable (some t (c .before .before .before)) (c .before .before .before .before .before .before .before .before .before .before .before .before .before .before .pre .1 .0 .ready) (c .before .if1 .left)
 
--- src/walk.rt:63:61
-walk-part-place-module-end : (t : ℕ) → walk-lts.Need-part-place-module-end (
-  entry-reads.Asked,
-  entry-reads.Learnt,
-  occurrence-at-reads.Asked,
-  occurrence-at-reads.Learnt,
-  set-gate-reads.Asked,
-  set-gate-reads.Learnt,
-  copy-reads.Asked,
-  copy-reads.Learnt,
-  place-module-below t,
-  place-module.Post,
-  header-at-reads.Asked,
-  header-at-reads.Learnt,
-) (walk-at t) walk.Post walk-Inv-loop walk-μ-loop
-walk-part-place-module-end t c = ?
+walk-mul-place-module : (t : ℕ) → walk-lts.Need-mul-place-module (walk-claims t) (walk-at t) walk.Post walk-Inv-loop walk-μ-loop
+walk-mul-place-module t c = omega (arith, narrow (some t (c .before .before .before .before .before .before)) (c .before .before .before .before .before .before .before .before .before .before .before .before .before .before .before .before .before .pre .1 .0 .ready))
 
--- src/walk.rt:63:13
-walk-place-module-requires : (t : ℕ) → walk-lts.Need-place-module-requires (
-  entry-reads.Asked,
-  entry-reads.Learnt,
-  occurrence-at-reads.Asked,
-  occurrence-at-reads.Learnt,
-  set-gate-reads.Asked,
-  set-gate-reads.Learnt,
-  copy-reads.Asked,
-  copy-reads.Learnt,
-  place-module-below t,
-  place-module.Post,
-  header-at-reads.Asked,
-  header-at-reads.Learnt,
-) (walk-at t) walk.Post walk-Inv-loop walk-μ-loop
-walk-place-module-requires t c κs = ?
+walk-sub-place-module : (t : ℕ) → walk-lts.Need-sub-place-module (walk-claims t) (walk-at t) walk.Post walk-Inv-loop walk-μ-loop
+walk-sub-place-module t c =
+    let turning = c .before .before .before .before .before .before in
+    let ready = c .before .before .before .before .before .before .before .before .before .before .before .before .before .before .before .before .before .pre .1 .0 .ready in
+    omega (arith, scratched (some t turning) ready, copied-long (some t turning) ready (c .before .before .before .before .if1 .left) (c .before .before .copy .ensures))
 
--- src/walk.rt:64:60
-walk-mul-header-at : (t : ℕ) → walk-lts.Need-mul-header-at (
-  entry-reads.Asked,
-  entry-reads.Learnt,
-  occurrence-at-reads.Asked,
-  occurrence-at-reads.Learnt,
-  set-gate-reads.Asked,
-  set-gate-reads.Learnt,
-  copy-reads.Asked,
-  copy-reads.Learnt,
-  place-module-below t,
-  place-module.Post,
-  header-at-reads.Asked,
-  header-at-reads.Learnt,
-) (walk-at t) walk.Post walk-Inv-loop walk-μ-loop
-walk-mul-header-at t c = ?
+walk-part-place-module-start : (t : ℕ) → walk-lts.Need-part-place-module-start (walk-claims t) (walk-at t) walk.Post walk-Inv-loop walk-μ-loop
+walk-part-place-module-start t c =
+    let turning = c .before .before .before .before .before .before in
+    let ready = c .before .before .before .before .before .before .before .before .before .before .before .before .before .before .before .before .before .pre .1 .0 .ready in
+    omega (arith, scratched (some t turning) ready, copied-long (some t turning) ready (c .before .before .before .before .if1 .left) (c .before .before .copy .ensures))
 
--- src/walk.rt:64:60
-walk-shared-slice-read-header-at : (t : ℕ) → walk-lts.Need-shared-slice-read-header-at (
-  entry-reads.Asked,
-  entry-reads.Learnt,
-  occurrence-at-reads.Asked,
-  occurrence-at-reads.Learnt,
-  set-gate-reads.Asked,
-  set-gate-reads.Learnt,
-  copy-reads.Asked,
-  copy-reads.Learnt,
-  place-module-below t,
-  place-module.Post,
-  header-at-reads.Asked,
-  header-at-reads.Learnt,
-) (walk-at t) walk.Post walk-Inv-loop walk-μ-loop
-walk-shared-slice-read-header-at t c = ?
+walk-part-place-module-end : (t : ℕ) → walk-lts.Need-part-place-module-end (walk-claims t) (walk-at t) walk.Post walk-Inv-loop walk-μ-loop
+walk-part-place-module-end t c = omega arith
 
--- src/walk.rt:64:17
-walk-header-at-requires : (t : ℕ) → walk-lts.Need-header-at-requires (
-  entry-reads.Asked,
-  entry-reads.Learnt,
-  occurrence-at-reads.Asked,
-  occurrence-at-reads.Learnt,
-  set-gate-reads.Asked,
-  set-gate-reads.Learnt,
-  copy-reads.Asked,
-  copy-reads.Learnt,
-  place-module-below t,
-  place-module.Post,
-  header-at-reads.Asked,
-  header-at-reads.Learnt,
-) (walk-at t) walk.Post walk-Inv-loop walk-μ-loop
-walk-header-at-requires t c κs = ?
+walk-place-module-requires : (t : ℕ) → walk-lts.Need-place-module-requires (walk-claims t) (walk-at t) walk.Post walk-Inv-loop walk-μ-loop
+walk-place-module-requires t c κs =
+    let turning = c .before .before .before .before .before .before .before .before in
+    let start = c .before .before .before .before .before .before .before .before .before .before .before .before .before .before .before .before .before .before .before in
+    let ready = start .pre .1 .0 .ready in
+    let high = c .before .before .before .before .before .before .if1 .left in (
+      omega (arith, start .pre .0, further (some t turning) ready high, in-table (some t turning) ready high),
+      module-ready (some t turning) ready high (c .before .before .before .before .copy .ensures),
+    )
 
--- src/walk.rt:65:13
-walk-copy-requires-2 : (t : ℕ) → walk-lts.Need-copy-requires-2 (
-  entry-reads.Asked,
-  entry-reads.Learnt,
-  occurrence-at-reads.Asked,
-  occurrence-at-reads.Learnt,
-  set-gate-reads.Asked,
-  set-gate-reads.Learnt,
-  copy-reads.Asked,
-  copy-reads.Learnt,
-  place-module-below t,
-  place-module.Post,
-  header-at-reads.Asked,
-  header-at-reads.Learnt,
-) (walk-at t) walk.Post walk-Inv-loop walk-μ-loop
-walk-copy-requires-2 t c κs = ?
+walk-mul-header-at : (t : ℕ) → walk-lts.Need-mul-header-at (walk-claims t) (walk-at t) walk.Post walk-Inv-loop walk-μ-loop
+walk-mul-header-at t c = omega (arith, in-table (some t (c .before .before .before .before .before .before .before .before .before .before .before .before .before)) (c .before .before .before .before .before .before .before .before .before .before .before .before .before .before .before .before .before .before .before .before .before .before .before .before .pre .1 .0 .ready) (c .before .before .before .before .before .before .before .before .before .before .before .if1 .left), c .before .before .before .before .before .before .before .before .before .before .before .before .before .before .before .before .before .before .before .before .before .before .before .before .good .1 .0)
 
--- src/walk.rt:49:5
-walk-loop-less-2 : (t : ℕ) → walk-lts.Need-loop-less-2 (
-  entry-reads.Asked,
-  entry-reads.Learnt,
-  occurrence-at-reads.Asked,
-  occurrence-at-reads.Learnt,
-  set-gate-reads.Asked,
-  set-gate-reads.Learnt,
-  copy-reads.Asked,
-  copy-reads.Learnt,
-  place-module-below t,
-  place-module.Post,
-  header-at-reads.Asked,
-  header-at-reads.Learnt,
-) (walk-at t) walk.Post walk-Inv-loop walk-μ-loop
-walk-loop-less-2 t c = ?
+walk-shared-slice-read-header-at : (t : ℕ) → walk-lts.Need-shared-slice-read-header-at (walk-claims t) (walk-at t) walk.Post walk-Inv-loop walk-μ-loop
+walk-shared-slice-read-header-at t c = in-table (some t (c .before .before .before .before .before .before .before .before .before .before .before .before .before .before)) (c .before .before .before .before .before .before .before .before .before .before .before .before .before .before .before .before .before .before .before .before .before .before .before .before .before .pre .1 .0 .ready) (c .before .before .before .before .before .before .before .before .before .before .before .before .if1 .left)
 
--- src/walk.rt:49:5
-walk-loop-again-2 : (t : ℕ) → walk-lts.Need-loop-again-2 (
-  entry-reads.Asked,
-  entry-reads.Learnt,
-  occurrence-at-reads.Asked,
-  occurrence-at-reads.Learnt,
-  set-gate-reads.Asked,
-  set-gate-reads.Learnt,
-  copy-reads.Asked,
-  copy-reads.Learnt,
-  place-module-below t,
-  place-module.Post,
-  header-at-reads.Asked,
-  header-at-reads.Learnt,
-) (walk-at t) walk.Post walk-Inv-loop walk-μ-loop
-walk-loop-again-2 t c = ?
+walk-header-at-requires : (t : ℕ) → walk-lts.Need-header-at-requires (walk-claims t) (walk-at t) walk.Post walk-Inv-loop walk-μ-loop
+walk-header-at-requires t c κs = module-there (some t (c .before .before .before .before .before .before .before .before .before .before .before .before .before .before)) (c .before .before .before .before .before .before .before .before .before .before .before .before .before .before .before .before .before .before .before .before .before .before .before .before .before .pre .1 .0 .ready) (c .before .before .before .before .before .before .before .before .before .before .before .before .if1 .left)
 
--- src/walk.rt:28:1
-walk-same-length : (t : ℕ) → walk-lts.Need-same-length (
-  entry-reads.Asked,
-  entry-reads.Learnt,
-  occurrence-at-reads.Asked,
-  occurrence-at-reads.Learnt,
-  set-gate-reads.Asked,
-  set-gate-reads.Learnt,
-  copy-reads.Asked,
-  copy-reads.Learnt,
-  place-module-below t,
-  place-module.Post,
-  header-at-reads.Asked,
-  header-at-reads.Learnt,
-) (walk-at t) walk.Post walk-Inv-loop walk-μ-loop
-walk-same-length t c = ?
+walk-copy-requires-2 : (t : ℕ) → walk-lts.Need-copy-requires-2 (walk-claims t) (walk-at t) walk.Post walk-Inv-loop walk-μ-loop
+walk-copy-requires-2 t c κs =
+    let call = c .before .before .before .before .before .before .before .place-module in
+    outputs-copyable (some t (c .before .before .before .before .before .before .before .before .before .before .before .before .before .before .before .before)) (c .before .before .before .before .before .before .before .before .before .before .before .before .before .before .before .before .before .before .before .before .before .before .before .before .before .before .before .pre .1 .0 .ready) (c .before .before .before .before .before .before .before .before .before .before .before .before .before .before .if1 .left) (c .before .before .before .before .before .before .before .before .before .before .before .before .copy .ensures) (call .kept .1 .1 .1 .1 .1 .0) (call .ensures)
+    (c .before .header-at .ensures)
 
--- src/walk.rt:28:1
-walk-same-length-2 : (t : ℕ) → walk-lts.Need-same-length-2 (
-  entry-reads.Asked,
-  entry-reads.Learnt,
-  occurrence-at-reads.Asked,
-  occurrence-at-reads.Learnt,
-  set-gate-reads.Asked,
-  set-gate-reads.Learnt,
-  copy-reads.Asked,
-  copy-reads.Learnt,
-  place-module-below t,
-  place-module.Post,
-  header-at-reads.Asked,
-  header-at-reads.Learnt,
-) (walk-at t) walk.Post walk-Inv-loop walk-μ-loop
-walk-same-length-2 t c = ?
+walk-loop-less-2 : (t : ℕ) → walk-lts.Need-loop-less-2 (walk-claims t) (walk-at t) walk.Post walk-Inv-loop walk-μ-loop
+walk-loop-less-2 t c = omega (arith, c .before .before .before .before .before .before .before .before .before .before .before .before .before .before .before .before .before .before .before .before .before .loop-test .taken)
 
--- src/walk.rt:28:1
-walk-returns : (t : ℕ) → walk-lts.Need-returns (
-  entry-reads.Asked,
-  entry-reads.Learnt,
-  occurrence-at-reads.Asked,
-  occurrence-at-reads.Learnt,
-  set-gate-reads.Asked,
-  set-gate-reads.Learnt,
-  copy-reads.Asked,
-  copy-reads.Learnt,
-  place-module-below t,
-  place-module.Post,
-  header-at-reads.Asked,
-  header-at-reads.Learnt,
-) (walk-at t) walk.Post walk-Inv-loop walk-μ-loop
-walk-returns t c = ?
+walk-loop-again-2 : (t : ℕ) → walk-lts.Need-loop-again-2 (walk-claims t) (walk-at t) walk.Post walk-Inv-loop walk-μ-loop
+walk-loop-again-2 t c = λ p ready.
+    let call = c .before .before .before .before .before .before .before .before .before .before .place-module in
+    module-again (here t (c .before .before .before .before .before .before .before .before .before .before .before .before .before .before .before .before .before .before .before) p ready) ready (c .before .before .before .before .before .before .before .before .before .before .before .before .before .before .before .before .before .if1 .left) (c .before .before .before .before .before .before .before .before .before .before .before .before .before .before .before .copy .ensures) (call .kept .1 .1 .1 .1 .1 .0) (call .ensures)
+    (c .before .before .before .before .header-at .ensures) (c .before .before .copy2 .ensures)
+
+walk-same-length : (t : ℕ) → walk-lts.Need-same-length (walk-claims t) (walk-at t) walk.Post walk-Inv-loop walk-μ-loop
+walk-same-length t c = c .before .loop .inv _ (c .before .before .before .before .before .before .before .before .before .pre .1 .0 .ready) .size
+
+walk-same-length-2 : (t : ℕ) → walk-lts.Need-same-length-2 (walk-claims t) (walk-at t) walk.Post walk-Inv-loop walk-μ-loop
+walk-same-length-2 t c =
+    let ready = c .before .before .before .before .before .before .before .before .before .pre .1 .0 .ready in
+    long-now ready (c .before .loop .inv _ ready) ∙ sym (long-before ready)
+
+walk-returns : (t : ℕ) → walk-lts.Need-returns (walk-claims t) (walk-at t) walk.Post walk-Inv-loop walk-μ-loop
+walk-returns t c = λ p ready. finish (c .before .loop .inv p ready) (c .loop-test .left)
 
 pub +place-module+walk-spec : {M : Type 1} → statement M
-+place-module+walk-spec = close μ-place-module μ-walk (λ t. place-module-lts.spec (
-  header-at-reads.Asked,
-  header-at-reads.Learnt,
-  walk-below t,
-  walk.Post,
-)
++place-module+walk-spec =
+    close
+    μ-place-module
+    μ-walk
+    (λ t.
+    place-module-lts.spec
+    (place-module-claims t)
     (place-module-at t)
     place-module.Post
     (place-module-mul-header-at t)
@@ -641,20 +271,9 @@ pub +place-module+walk-spec : {M : Type 1} → statement M
     (place-module-same-length t)
     (place-module-same-length-2 t)
     (place-module-returns t))
-    λ t. walk-lts.spec (
-      entry-reads.Asked,
-      entry-reads.Learnt,
-      occurrence-at-reads.Asked,
-      occurrence-at-reads.Learnt,
-      set-gate-reads.Asked,
-      set-gate-reads.Learnt,
-      copy-reads.Asked,
-      copy-reads.Learnt,
-      place-module-below t,
-      place-module.Post,
-      header-at-reads.Asked,
-      header-at-reads.Learnt,
-    )
+    (λ t.
+    walk-lts.spec
+    (walk-claims t)
     (walk-at t)
     walk.Post
     walk-Inv-loop
@@ -688,4 +307,4 @@ pub +place-module+walk-spec : {M : Type 1} → statement M
     (walk-loop-again-2 t)
     (walk-same-length t)
     (walk-same-length-2 t)
-    (walk-returns t)
+    (walk-returns t))
