@@ -70,9 +70,12 @@ module _
           kind = is .inside;
           arguments =
               record {
-                listed = is .takeList .listed;
-                slots = rw (is .takeList .is) (record { slot = λ j h. omega (arith, c .slots .slot j h, free, in-scratch) });
-                small = rw (arguments g c is) (below-read (g .small) (c .o .takes));
+                readable =
+                    record {
+                      listed = is .takeList .listed;
+                      slots = rw (is .takeList .is) (record { slot = λ j h. omega (arith, c .slots .slot j h, free, in-scratch) });
+                      small = rw (arguments g c is) (below-read (g .small) (c .o .takes));
+                    };
                 room = omega (arith, fits, numbers-of-gate, g .written .place, long-now ready g);
               };
           number = omega (arith, g .written .next, rw set-down at (within g c ready .few));

@@ -1,5 +1,6 @@
 -- Facts that the functions' proofs share.
 pub mod Filling
+pub mod Parts
 pub mod Lists
 pub mod Copying
 pub mod Putting
@@ -7,7 +8,6 @@ pub mod Nets
 pub mod Standing
 pub mod Progress
 pub mod Lengths
-pub mod Parts
 pub mod Stepping
 pub mod GateStep
 pub mod SubPlan

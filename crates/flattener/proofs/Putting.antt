@@ -20,7 +20,7 @@ pub record Turn (image : List ℕ) (list : ℕ) (scratch numbers₀ : List ℕ) 
 
 module _ {image : List ℕ} {list : ℕ} {scratch before : List ℕ} {at : ℕ} (able : Listable image list scratch before at) where
   pub count-of-nets : length (netsAt image list scratch) ≡ getD image list 0
-  count-of-nets = length-of-nets image list (able .listed) scratch
+  count-of-nets = length-of-nets image list (able .readable .listed) scratch
 
   pub turn :
       {i slot : ℕ} {numbers₀ numbers : List ℕ}
@@ -34,16 +34,16 @@ module _ {image : List ℕ} {list : ℕ} {scratch before : List ℕ} {at : ℕ} 
         more = omega (arith, count-of-nets);
         room = room;
         same = filling-length f room;
-        inside = omega (arith, able .slots .slot i (omega (arith, length-of-list image list (able .listed))), slot-of-list image list (able .listed) i h);
+        inside = omega (arith, able .readable .slots .slot i (omega (arith, length-of-list image list (able .readable .listed))), slot-of-list image list (able .readable .listed) i h);
         value = value;
-        small = omega (arith, able .small .below i, value);
+        small = omega (arith, able .readable .small .below i, value);
       }
     where
       room : at + 1 + length (netsAt image list scratch) ≤ length numbers₀
       room = omega (arith, able .room, count-of-nets)
 
       value : getD scratch slot 0 ≡ getD (netsAt image list scratch) i 0
-      value = ap (λ (s : ℕ). getD scratch s 0) e ∙ sym (net-of-list image list (able .listed) scratch i h)
+      value = ap (λ (s : ℕ). getD scratch s 0) e ∙ sym (net-of-list image list (able .readable .listed) scratch i h)
 
   pub whole :
       laid (set before at (getD image list 0)) (at + 1) (netsAt image list scratch)

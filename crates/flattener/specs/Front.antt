@@ -1,11 +1,20 @@
--- What is laid at the front of a list.
-use Prim.Native.Nat.{ℕ}
-use mathlib.Core.Path.{_≡_, ap}
-use mathlib.Core.List.{List, _++_}
-use native.Mathlib.Nat.{zero-add}
-use lib.ListN.{length, drop}
+-- The numbers in front of the gates in a file of one module, whose lists of inputs and outputs stand in an image.
+use Prim.Native.Nat.{ℕ, _+_, _≤_}
+use mathlib.Core.Path.{_≡_}
+use mathlib.Core.List.{List, [], _∷_, _++_}
+use lib.ListN.{length, getD}
+use Rattle.meaning.specs.Layout.{listNumbers}
 use Rattle.image.specs.Laid.{laid}
+use Rattle.flattener.specs.Slots.{Readable, netsAt}
 
-pub laid-front : (im xs : List ℕ) → laid im 0 xs ≡ xs ++ drop (length xs) im
-unfolding laid
-laid-front im xs = ap (λ (n : ℕ). xs ++ drop n im) (zero-add (length xs))
+abbrev pub frontNumbers : (number : ℕ) (inputs outputs : List ℕ) (gates : ℕ) → List ℕ
+frontNumbers number inputs outputs gates = 1 ∷ number ∷ (listNumbers inputs ++ (listNumbers outputs ++ (gates ∷ [])))
+
+pub record Frontable (image : List ℕ) (inputs outputs : ℕ) (scratch numbers : List ℕ) : Type 0 where
+  pub ins : Readable image inputs scratch
+  pub outs : Readable image outputs scratch
+  pub room : 5 + getD image inputs 0 + getD image outputs 0 ≤ length numbers
+
+abbrev pub Fronted : (image : List ℕ) (inputs outputs number gates : ℕ) (scratch before after : List ℕ) → Type 0
+Fronted image inputs outputs number gates scratch before after =
+    after ≡ laid before 0 (frontNumbers number (netsAt image inputs scratch) (netsAt image outputs scratch) gates)

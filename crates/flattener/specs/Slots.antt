@@ -27,11 +27,15 @@ pub record Copyable (image : List ℕ) (list source target : ℕ) (scratch : Lis
   pub apart : (i : ℕ) → i < getD image list 0 → Outside target (getD image list 0) (source + getD (listAt image list) i 0)
   pub room : target + getD image list 0 ≤ length scratch
 
--- They can be written as a list of a file: each is a number of two bytes, and there is room for their count and them.
-pub record Listable (image : List ℕ) (list : ℕ) (scratch numbers : List ℕ) (at : ℕ) : Type 0 where
+-- Each of them is a number of two bytes.
+pub record Readable (image : List ℕ) (list : ℕ) (scratch : List ℕ) : Type 0 where
   pub listed : list + 1 + getD image list 0 ≤ length image
   pub slots : Filled (length scratch) (listAt image list)
   pub small : Below 65536 (netsAt image list scratch)
+
+-- They can be written as a list of a file: there is room for their count and them.
+pub record Listable (image : List ℕ) (list : ℕ) (scratch numbers : List ℕ) (at : ℕ) : Type 0 where
+  pub readable : Readable image list scratch
   pub room : at + 1 + getD image list 0 ≤ length numbers
 
 -- Numbers laid at a place, and the place behind them.

@@ -7,38 +7,23 @@ use mathlib.Core.Path.{_≡_, refl, ap, _∙_}
 use mathlib.Core.List.{List, [], _∷_}
 use lib.ListN.{length, set, length-set}
 use Rattle.meaning.specs.Layout.{occurrenceNumbers, listNumbers}
-use Rattle.image.specs.Laid.{laid, laid-after}
 use Rattle.flattener.specs.Slots.{Laid}
-use Rattle.flattener.proofs.Filling.{Filling, filling-none, filling-more, filling-all}
+use Rattle.flattener.proofs.Parts.{one-laid, laid-then}
 use Rattle.flattener.proofs.Putting.{count-of-nets}
 use Rattle.flattener.proofs.gates.set_gate.Statement.{statement}
 use Rattle.flattener.proofs.gates.set_gate.Tie as tie
 
--- Three numbers stored one behind the other.
-three :
-    (before : List ℕ) (at x y z : ℕ)
-    → at + 3 ≤ length before
-    → set (set (set before at x) (at + 1) y) (at + 2) z ≡ laid before at (x ∷ y ∷ z ∷ [])
-three before at x y z room =
-    let values = x ∷ y ∷ z ∷ [] in
-    let one = filling-more (filling-none before at values) room {v = x} {p = at} (omega arith) (omega arith) refl in
-    let two = filling-more one room {v = y} {p = at + 1} (omega arith) refl refl in
-    filling-all (filling-more two room {v = z} {p = at + 2} (omega arith) refl refl) room (omega arith)
-
 gate-laid :
-    (before : List ℕ) (at net kind : ℕ) (nets after : List ℕ) (next : ℕ)
+    (before : List ℕ) (at net kind : ℕ) (nets : List ℕ) {after : List ℕ} {next : ℕ}
     → at + 3 + length (listNumbers nets) ≤ length before
     → Laid (listNumbers nets) (set (set (set before at 1) (at + 1) net) (at + 2) kind) (at + 3) after next
     → Laid (occurrenceNumbers (record { drives = net ∷ []; refers = kind; takes = nets })) before at after next
 unfolding occurrenceNumbers
-gate-laid before at net kind nets after next room l =
-    record {
-      place = omega (arith, l .place);
-      holds =
-          l .holds
-          ∙ ap (λ (list : List ℕ). laid list (at + 3) (listNumbers nets)) (three before at 1 net kind (omega arith))
-          ∙ laid-after before at (1 ∷ net ∷ kind ∷ []) (listNumbers nets) (omega arith);
-    }
+gate-laid before at net kind nets room l =
+    let one = one-laid before at 1 (at + 1) (omega arith) refl in
+    let two = one-laid (set before at 1) (at + 1) net (at + 2) (simp length-set (omega arith)) (omega arith) in
+    let three = one-laid (set (set before at 1) (at + 1) net) (at + 2) kind (at + 3) (simp length-set (omega arith)) (omega arith) in
+    laid-then (laid-then (laid-then one two (omega arith)) three (omega arith)) l (omega arith)
 
 slice-write-numbers-2 : tie.Need-slice-write-numbers-2
 slice-write-numbers-2 c = simp length-set (omega arith)
@@ -56,7 +41,7 @@ returns c =
     let listed = start .pre .arguments in
     record {
       gate =
-          gate-laid (args .numbers .now) (args .pen .at) (args .pen .next) _ _ _ _
+          gate-laid (args .numbers .now) (args .pen .at) (args .pen .next) _ _
           (omega (arith, listed .room, count-of-nets listed)) (c .before .before .put .ensures);
       next = refl;
     }

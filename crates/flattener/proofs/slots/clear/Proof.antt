@@ -4,8 +4,8 @@ use native.Mathlib.Omega.{arith}
 use mathlib.Core.Path.{_≡_, sym, ap, _∙_}
 use mathlib.Core.List.{_++_}
 use lib.ListN.{length, drop, replicate, length-replicate, getD-replicate}
-use Rattle.flattener.specs.Front.{laid-front}
 use Rattle.flattener.proofs.Filling.{Filling, filling-none, filling-length, filling-more, filling-all}
+use Rattle.flattener.proofs.Parts.{laid-front}
 use Rattle.flattener.proofs.slots.clear.Statement.{statement}
 use Rattle.flattener.proofs.slots.clear.Tie as tie
 
