@@ -14,3 +14,5 @@ pub mod SubPlan
 pub mod ModuleStep
 pub mod Turns
 pub mod ModuleTurns
+pub mod FlatPlan
+pub mod FlatDone

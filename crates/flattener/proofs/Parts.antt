@@ -6,13 +6,23 @@ use native.Mathlib.Omega.{arith}
 use native.Mathlib.Nat.{zero-add}
 use lib.ListN.{length, take, drop, set, length-append}
 use lib.Seq.{take-take, take-at, drop-drop, length-take-le}
-use Rattle.image.specs.Laid.{laid, length-laid, take-laid, drop-laid, laid-after, set-laid}
+use Rattle.image.specs.Laid.{laid, length-laid, take-laid, drop-laid, laid-after, laid-before, set-laid}
 use Rattle.flattener.specs.Slots.{Laid}
 
 -- What is laid at the front.
 pub laid-front : (im xs : List ℕ) → laid im 0 xs ≡ xs ++ drop (length xs) im
 unfolding laid
 laid-front im xs = ap (λ (n : ℕ). xs ++ drop n im) (zero-add (length xs))
+
+-- A piece laid at the front of another: both at the front.
+pub laid-both :
+    (im xs ys : List ℕ) (seam : ℕ)
+    → seam ≡ length xs
+    → length xs + length ys ≤ length im
+    → laid (laid im seam ys) 0 xs ≡ (xs ++ ys) ++ drop (length (xs ++ ys)) im
+laid-both im xs ys seam e fits =
+    let there : seam ≡ 0 + length xs = omega arith in
+    ap (λ (n : ℕ). laid (laid im n ys) 0 xs) there ∙ laid-before im 0 xs ys (omega arith) ∙ laid-front im (xs ++ ys)
 
 -- What stands behind a place, by way of an earlier one.
 pub drop-by : (n m : ℕ) (l : List ℕ) → m ≤ n → drop n l ≡ drop (n - m) (drop m l)

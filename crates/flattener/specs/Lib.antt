@@ -4,7 +4,10 @@ pub mod PlacingMeans
 pub mod Growing
 pub mod Slots
 pub mod Front
+pub mod AtPosition
+pub mod FlatFrames
 pub mod Runs
 pub mod Places
 pub mod Gates
 pub mod Plan
+pub mod Flat
