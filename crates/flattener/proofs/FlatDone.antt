@@ -1,8 +1,8 @@
 -- Once the plan of flattening is carried out: the numbers in front of the gates can be written, and with them the numbers are those of
 -- the flattened file.
-use Prim.Native.Nat.{ℕ, _+_, _-_, _≤_, _<_}
-use mathlib.Core.Path.{_≡_, refl, sym, ap, ap₂, subst, _∙_}
-use mathlib.Core.List.{List, [], _∷_, _++_}
+use Prim.Native.Nat.{ℕ, _+_, _-_, _≤_}
+use mathlib.Core.Path.{_≡_, sym, ap, subst, _∙_}
+use mathlib.Core.List.{List, _++_}
 use native.Mathlib.Omega.{arith}
 use lib.ListN.{length, getD, take, drop, replicate}
 use Rattle.meaning.specs.Layout.{each, occurrenceNumbers}
@@ -14,7 +14,7 @@ use Rattle.nets.specs.Slots.{Below}
 use Rattle.image.specs.Frames.{readSlots, Filled}
 use Rattle.image.specs.Laid.{laid, length-laid}
 use Rattle.flattener.specs.Slots.{Readable, netsAt}
-use Rattle.flattener.specs.Front.{frontNumbers, Frontable, Fronted}
+use Rattle.flattener.specs.Front.{Frontable, Fronted}
 use Rattle.flattener.specs.FlatFrames.{inputs-filled}
 use Rattle.flattener.specs.Places.{ListThere, HeaderOf}
 use Rattle.flattener.specs.Plan.{Done}

@@ -1,18 +1,18 @@
 -- The plan that flattening carries out: the module at its position, from an empty board whose gates come behind the numbers in front of
 -- them.
 use Prim.Native.Nat.{ℕ, _+_, _-_, _≤_, _<_}
-use mathlib.Core.Path.{_≡_, refl, sym, ap, subst, _∙_}
+use mathlib.Core.Path.{_≡_, sym, ap, _∙_}
 use mathlib.Core.List.{List, [], _∷_, _++_}
 use native.Mathlib.Omega.{arith}
 use lib.ListN.{length, getD, take, length-append, length-drop}
 use Rattle.meaning.specs.Syntax.{Module}
-use Rattle.meaning.specs.Layout.{each, listNumbers, occurrenceNumbers, fileNumbers}
-use Rattle.meaning.specs.Limits.{netCount, mostModuleNets}
-use Rattle.meaning.specs.Flattening.{Board, Placed, flatModule}
+use Rattle.meaning.specs.Layout.{each, occurrenceNumbers, fileNumbers}
+use Rattle.meaning.specs.Limits.{mostModuleNets}
+use Rattle.meaning.specs.Flattening.{Placed, flatModule}
 use Rattle.meaning.specs.Adder.{upFrom}
 use Rattle.laws.specs.Accepted.{good-accepted}
 use Rattle.laws.specs.Adder.Nets.{length-upFrom}
-use Rattle.laws.specs.Flatten.Shape.{length-of-flat, outputCount-of-flat}
+use Rattle.laws.specs.Flatten.Shape.{length-of-flat}
 use Rattle.image.specs.Resolved.{resolve}
 use Rattle.image.specs.Laid.{laid, length-laid, laid-nothing}
 use Rattle.image.specs.Fitting.{accepted-fits}

@@ -1,8 +1,8 @@
 -- An occurrence that refers to a gate: the gate can be set down, and with its net in the next slot the occurrence is placed.
-use Prim.Native.Nat.{ℕ, suc, _+_, _≤_, _<_}
-use mathlib.Core.Path.{_≡_, refl, sym, ap, subst, _∙_}
-use mathlib.Core.Bool.{true, false, true≢false}
-use mathlib.Core.List.{List, [], _∷_, _++_}
+use Prim.Native.Nat.{ℕ, _+_, _≤_}
+use mathlib.Core.Path.{_≡_, sym, ap, _∙_}
+use mathlib.Core.Bool.{true, true≢false}
+use mathlib.Core.List.{List, [], _∷_}
 use native.Mathlib.Omega.{arith}
 use native.Mathlib.Numerals.{add-one}
 use lib.ListN.{length, getD, take, set, length-set, length-append}
@@ -10,11 +10,9 @@ use lib.Seq.{take-suc-set, drop-set-lt}
 use Rattle.meaning.specs.Syntax.{Occurrence, Module}
 use Rattle.meaning.specs.Gates.{isGate}
 use Rattle.meaning.specs.Layout.{each, occurrenceNumbers}
-use Rattle.meaning.specs.Limits.{netCount, mostModuleNets}
-use Rattle.meaning.specs.Flattening.{Board, placeGate}
+use Rattle.meaning.specs.Flattening.{placeGate}
 use Rattle.laws.specs.WellFormed.{Reference, toGate, toModule}
-use Rattle.nets.specs.Slots.{Below}
-use Rattle.image.specs.Frames.{readSlots, Filled}
+use Rattle.image.specs.Frames.{readSlots}
 use Rattle.image.specs.FrameLengths.{length-of-readSlots}
 use Rattle.flattener.specs.Slots.{Laid}
 use Rattle.flattener.specs.Gates.{Settable, Set, each-snoc, gate-written}
@@ -22,7 +20,7 @@ use Rattle.flattener.specs.Places.{PlaceIs}
 use Rattle.flattener.specs.Plan.{Plan, Ready}
 use Rattle.flattener.specs.declared.gates.Pen.{Pen}
 use Rattle.flattener.specs.declared.places.Place.{Place}
-use Rattle.flattener.proofs.Nets.{below-one, below-read, read-front}
+use Rattle.flattener.proofs.Nets.{below-one, below-read}
 use Rattle.flattener.proofs.Progress.{Progress, Current}
 use Rattle.flattener.proofs.Lengths.{long-now}
 use Rattle.flattener.proofs.Stepping.{placed, within, arguments, in-frame, Stepped}

@@ -1,21 +1,20 @@
 -- An occurrence that refers to a module, once that module is placed: its outputs can be copied to the next slots, and with them there
 -- the occurrence is placed.
-use Prim.Native.Nat.{ℕ, suc, _+_, _-_, _≤_, _<_}
+use Prim.Native.Nat.{ℕ, _+_, _-_, _≤_, _<_}
 use mathlib.Core.Path.{_≡_, sym, ap, ap₂, subst, _∙_}
 use mathlib.Core.Bool.{false}
-use mathlib.Core.List.{List, _∷_, _++_}
+use mathlib.Core.List.{List, _++_}
 use native.Mathlib.Omega.{arith}
 use lib.ListN.{length, getD, take, drop}
 use lib.Seq.{take-take}
 use Rattle.meaning.specs.Gates.{isGate}
 use Rattle.meaning.specs.Limits.{netCount}
-use Rattle.meaning.specs.Flattening.{Board, Placed}
+use Rattle.meaning.specs.Flattening.{Board}
 use Rattle.nets.specs.Slots.{Below}
 use Rattle.image.specs.Frames.{readSlots, Filled}
 use Rattle.image.specs.FrameLengths.{length-of-readSlots}
 use Rattle.image.specs.Laid.{laid, length-laid}
 use Rattle.image.specs.Stepping.{Referred, frame-at}
-use Rattle.flattener.specs.Placing.{placeFrame}
 use Rattle.flattener.specs.Slots.{Copyable, behind, listAt, netsAt}
 use Rattle.flattener.specs.Gates.{Written}
 use Rattle.flattener.specs.Places.{PlaceIs, HeaderIs}
@@ -26,7 +25,7 @@ use Rattle.flattener.specs.declared.places.Header.{Header}
 use Rattle.flattener.proofs.Nets.{below-read, read-front}
 use Rattle.flattener.proofs.Parts.{drop-by, take-before, take-through, drop-behind}
 use Rattle.flattener.proofs.Progress.{Progress, Current}
-use Rattle.flattener.proofs.Stepping.{placed, in-frame, Stepped}
+use Rattle.flattener.proofs.Stepping.{in-frame, Stepped}
 use Rattle.flattener.proofs.SubPlan.{inputs-within, target, args, count-of-args, sub, lent, roomy, fits, board-is, nets-are}
 
 -- A part of a list was lent from a place on, and is in the list again.

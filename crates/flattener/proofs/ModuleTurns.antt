@@ -1,7 +1,7 @@
 -- A turn of the walk at an occurrence that refers to a module, as the code sees it: the arguments are copied behind the frame, the
 -- module at that position is placed in the part of the scratch that starts there, and its outputs are copied back.
 use Prim.Native.Nat.{ℕ, _+_, _-_, _≤_, _<_}
-use mathlib.Core.Path.{_≡_, refl, sym, ap, subst, _∙_}
+use mathlib.Core.Path.{_≡_, refl, ap, subst, _∙_}
 use mathlib.Core.Bool.{false}
 use mathlib.Core.List.{List, _++_, append-nil}
 use native.Mathlib.Omega.{arith}

@@ -4,7 +4,7 @@ use mathlib.Core.Path.{_≡_, refl, sym, ap, subst, _∙_}
 use mathlib.Core.List.{List, [], _∷_}
 use native.Mathlib.Omega.{arith}
 use lib.ListN.{length, getD, take, drop}
-use Rattle.meaning.specs.Syntax.{Occurrence, Module}
+use Rattle.meaning.specs.Syntax.{Occurrence}
 use Rattle.meaning.specs.Layout.{each, occurrenceNumbers}
 use Rattle.meaning.specs.Limits.{driven, netCount}
 use Rattle.meaning.specs.Figures.{largestReferred, room}
@@ -12,7 +12,7 @@ use Rattle.meaning.specs.Flattening.{Board, Placed}
 use Rattle.laws.specs.WellFormed.{Reference}
 use Rattle.nets.specs.Slots.{Below}
 use Rattle.image.specs.Stands.{Stands, stands-front, stands-skip}
-use Rattle.image.specs.Frames.{Filled, Framed, done, step}
+use Rattle.image.specs.Frames.{Filled, Framed, step}
 use Rattle.image.specs.Stepping.{frame-at}
 use Rattle.flattener.specs.Placing.{walkPlaced, placeFrames}
 use Rattle.flattener.specs.Gates.{Written}

@@ -1,12 +1,12 @@
 -- One occurrence placed: whatever it refers to, the walk goes on behind it. What it adds to the board is within what was planned.
-use Prim.Native.Nat.{ℕ, suc, _+_, _≤_}
+use Prim.Native.Nat.{ℕ, _+_, _≤_}
 use mathlib.Core.Path.{_≡_, sym, ap, subst, _∙_}
-use mathlib.Core.List.{List, _∷_, _++_}
+use mathlib.Core.List.{List, _++_}
 use native.Mathlib.Omega.{arith}
 use lib.ListN.{length, take, drop, length-append}
 use Rattle.meaning.specs.Syntax.{Occurrence}
 use Rattle.meaning.specs.Layout.{each, occurrenceNumbers}
-use Rattle.meaning.specs.Limits.{driven, netCount, mostModuleNets}
+use Rattle.meaning.specs.Limits.{driven, mostModuleNets}
 use Rattle.meaning.specs.Figures.{largestReferred, room}
 use Rattle.meaning.specs.Flattening.{Placed, placeReferred}
 use Rattle.nets.specs.Slots.{Below}

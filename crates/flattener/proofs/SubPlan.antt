@@ -1,18 +1,17 @@
 -- An occurrence that refers to a module: the plan for that module, which works behind the frame of the module that is walked, with the
 -- occurrence's arguments at the front of that part.
-use Prim.Native.Nat.{ℕ, suc, _+_, _-_, _≤_, _<_}
-use mathlib.Core.Path.{_≡_, refl, sym, ap, subst, _∙_}
+use Prim.Native.Nat.{ℕ, _+_, _-_, _≤_, _<_}
+use mathlib.Core.Path.{_≡_, sym, ap, _∙_}
 use mathlib.Core.Bool.{false}
-use mathlib.Core.List.{List, _∷_, _++_}
+use mathlib.Core.List.{List}
 use native.Mathlib.Omega.{arith}
 use lib.ListN.{length, getD, take, drop, length-drop}
 use lib.Seq.{take-at}
-use Rattle.meaning.specs.Syntax.{Occurrence, Module}
+use Rattle.meaning.specs.Syntax.{Module}
 use Rattle.meaning.specs.Gates.{isGate}
-use Rattle.meaning.specs.Limits.{driven, netCount}
+use Rattle.meaning.specs.Limits.{netCount}
 use Rattle.meaning.specs.Figures.{largestReferred, room}
 use Rattle.meaning.specs.Flattening.{Board, Placed}
-use Rattle.nets.specs.Slots.{Below}
 use Rattle.image.specs.Frames.{readSlots}
 use Rattle.image.specs.FrameLengths.{length-of-readSlots}
 use Rattle.image.specs.Laid.{laid, length-laid, from-laid}
@@ -28,7 +27,7 @@ use Rattle.flattener.specs.declared.gates.Pen.{Pen}
 use Rattle.flattener.specs.declared.places.Place.{Place}
 use Rattle.flattener.proofs.Nets.{below-read}
 use Rattle.flattener.proofs.Progress.{Progress, Current}
-use Rattle.flattener.proofs.Stepping.{placed, within, arguments, in-frame}
+use Rattle.flattener.proofs.Stepping.{placed, within, in-frame}
 
 -- How many inputs a module has at most.
 pub inputs-within : (m : Module) → length (m .inputs) ≤ netCount m

@@ -1,12 +1,12 @@
 -- The walk over the module at its position, from nets 0, 1, 2 and so on for its inputs, gives the flattened module.
 use Prim.Native.Nat.{ℕ, _+_, _≤_}
-use mathlib.Core.Path.{_≡_, refl, sym, ap, _∙_}
+use mathlib.Core.Path.{_≡_, sym, ap, _∙_}
 use mathlib.Core.List.{List, [], _∷_, _++_, append-assoc, append-nil}
 use native.Mathlib.Omega.{arith}
 use lib.ListN.{length, getD, take, length-append, length-take}
 use lib.Seq.{take-take, take-length, take-append-seam}
 use Rattle.meaning.specs.Syntax.{Occurrence, Module}
-use Rattle.meaning.specs.Layout.{each, listNumbers, occurrenceNumbers, moduleNumbers, fileNumbers}
+use Rattle.meaning.specs.Layout.{each, occurrenceNumbers, moduleNumbers, fileNumbers}
 use Rattle.meaning.specs.Limits.{netCount}
 use Rattle.meaning.specs.Flattening.{Board, Placed, Placing, placeReferred, place, flatModule}
 use Rattle.meaning.specs.Adder.{upFrom}

@@ -3,7 +3,7 @@ use Prim.Native.Nat.{ℕ, _+_, _≤_}
 use mathlib.Core.Path.{_≡_}
 use mathlib.Core.List.{List, _∷_}
 use lib.ListN.{length, getD, take, drop}
-use Rattle.meaning.specs.Syntax.{Occurrence, Module}
+use Rattle.meaning.specs.Syntax.{Module}
 use Rattle.meaning.specs.Layout.{each, occurrenceNumbers, moduleNumbers}
 use Rattle.meaning.specs.Limits.{netCount, mostModuleNets}
 use Rattle.meaning.specs.Figures.{largestReferred, room}

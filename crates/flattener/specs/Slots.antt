@@ -3,7 +3,6 @@ use Prim.Native.Nat.{ℕ, _+_, _≤_, _<_}
 use mathlib.Core.Path.{_≡_}
 use mathlib.Core.List.{List}
 use lib.ListN.{length, getD, take, drop}
-use Rattle.meaning.specs.Layout.{listNumbers}
 use Rattle.nets.specs.Slots.{Below}
 use Rattle.image.specs.Frames.{readSlots, Filled}
 use Rattle.image.specs.Laid.{laid}

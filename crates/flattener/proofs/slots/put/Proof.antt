@@ -2,7 +2,7 @@
 -- Assumes nothing.
 use Prim.Native.Nat.{_+_, _-_, _≤_}
 use native.Mathlib.Omega.{arith}
-use mathlib.Core.Path.{_≡_, refl, _∙_}
+use mathlib.Core.Path.{refl, _∙_}
 use lib.ListN.{length, getD, set, length-set}
 use Rattle.flattener.specs.Slots.{netsAt}
 use Rattle.flattener.proofs.Filling.{Filling, filling-none, filling-length, filling-more, filling-all}

@@ -1,13 +1,13 @@
 -- The proof of the cycle of calls {place_module, walk}. The module that is placed lies further back with each call for a submodule:
 -- with n starts in the table, the measure is 2 (n - k) + 1 for `place_module` at position k and 2 (n - k) for `walk`. The invariant of
 -- the walk's loop: every plan that could be carried out at the start has come so far. Assumes nothing.
-use Prim.Native.Nat.{ℕ, _+_, _*_, _-_, _≤_, _<_}
+use Prim.Native.Nat.{ℕ, _+_, _*_, _-_, _<_}
 use native.Mathlib.Omega.{arith}
-use mathlib.Core.Path.{_≡_, refl, sym, ap, _∙_}
-use lib.ListN.{length, getD, length-drop}
+use mathlib.Core.Path.{refl, sym, _∙_}
+use lib.ListN.{length, getD}
 use borrow.Fn.Kinds.{In}
 use borrow.Fn.PlainCycle.{Measures, is, falls, and}
-use Rattle.flattener.specs.Plan.{Plan, Ready, Done}
+use Rattle.flattener.specs.Plan.{Plan, Ready}
 use Rattle.flattener.proofs.Standing.{in-starts, in-nets, there, headed}
 use Rattle.flattener.proofs.Progress.{Progress, begin, current, finish}
 use Rattle.flattener.proofs.Lengths.{long-before, long-now}
