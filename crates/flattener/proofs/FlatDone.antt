@@ -45,13 +45,13 @@ module _
 
     -- A list of slots of the module is read from its frame.
     module _ {list : ℕ} {slots : List ℕ} (there : ListThere image list slots) (filled : Filled (netCount (position f .r)) slots) where
-      pub nets-are : netsAt image list scratch′ ≡ readSlots 0 frame slots
+      nets-are : netsAt image list scratch′ ≡ readSlots 0 frame slots
       nets-are =
           ap (readSlots 0 scratch′) (there .is)
           ∙ sym (read-front (netCount (position f .r)) scratch′ slots filled)
           ∙ ap (λ (xs : List ℕ). readSlots 0 xs slots) frame-is
 
-      pub readable : Readable image list scratch′
+      readable : Readable image list scratch′
       readable =
           record {
             listed = there .listed;
@@ -78,7 +78,7 @@ module _
     all-fit : plan f of .base + length (each occurrenceNumbers (flat f of .occurrences)) ≤ length numbers
     all-fit = omega (arith, f .long, flat-long f of)
 
-    pub numbers-long : length numbers′ ≡ length numbers
+    numbers-long : length numbers′ ≡ length numbers
     numbers-long = ap length gates-are ∙ length-laid numbers (plan f of .base) (each occurrenceNumbers (flat f of .occurrences)) all-fit
 
     pub frontable : Frontable image (getD starts k 0 + 1) (header .outputs) scratch′ numbers′

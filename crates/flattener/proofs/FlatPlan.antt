@@ -58,7 +58,7 @@ module _
       abbrev pub flat : Module
       flat = flatModule (f .ms) number (header .inputs)
 
-      pub flat-is : flatNumbers (f .ms) number (f .m) ≡ fileNumbers (flat ∷ [])
+      flat-is : flatNumbers (f .ms) number (f .m) ≡ fileNumbers (flat ∷ [])
       flat-is = ap (λ (n : ℕ). fileNumbers (flatModule (f .ms) number n ∷ [])) (sym count)
 
       abbrev pub plan : Plan
@@ -109,7 +109,7 @@ module _
           omega (arith, f .few, count, same, length-of-flat (f .ms) number (f .m) (f .accepted) (f .found))
 
       -- The gates' place.
-      pub first-place : header .body - getD starts k 0 + 2 ≡ plan .base
+      first-place : header .body - getD starts k 0 + 2 ≡ plan .base
       first-place = omega (arith, head .body, head .inputs)
 
       pub inputs-inside : header .inputs ≤ length scratch

@@ -46,7 +46,7 @@ module _
     pub free : filled + 1 ≤ frame
     free = omega (arith, in-frame g c, one-net (c .reference) gate)
 
-    pub in-scratch : frame ≤ length scratch
+    in-scratch : frame ≤ length scratch
     in-scratch = omega (arith, g .wide, g .room, g .size, ready .reached)
 
     fits : p .base + length (each occurrenceNumbers (placeGate (c .o .refers) args (g .board) .board .gates)) ≤ length (p .around)

@@ -9,7 +9,7 @@ use Rattle.image.specs.Frames.{readSlots}
 use Rattle.image.specs.FrameLengths.{length-of-readSlots}
 use Rattle.flattener.specs.Slots.{listAt, netsAt}
 
-pub net-at :
+net-at :
     (frame slots : List ℕ) (i : ℕ) → i < length slots → getD (readSlots 0 frame slots) i 0 ≡ getD frame (getD slots i 0) 0
 unfolding readSlots
 net-at frame [] i h = absurd (omega arith)

@@ -78,7 +78,7 @@ module _
         omega (arith, g .wide, g .room, first, says room-search)
 
     -- What the occurrence places is what placing that module gives.
-    pub placed-is : placed g c ≡ placeFrame (placeFrames (target .later)) (target .m) args (g .board)
+    placed-is : placed g c ≡ placeFrame (placeFrames (target .later)) (target .m) args (g .board)
     placed-is = rw other (ap (λ (place : List ℕ → Board → Placed). place args (g .board)) (says placeFrames-search))
 
     pub copyable-in : Copyable image (place .takes) 0 frame scratch

@@ -22,7 +22,7 @@ pub record Grows (a b : Board) : Type 0 where
 grows-still : (a : Board) → Grows a a
 grows-still a = record { more = []; gates = sym (append-nil (a .gates)); next = omega arith }
 
-pub grows-on : {a b c : Board} → Grows a b → Grows b c → Grows a c
+grows-on : {a b c : Board} → Grows a b → Grows b c → Grows a c
 grows-on {a} g h =
     record {
       more = g .more ++ h .more;
@@ -30,7 +30,7 @@ grows-on {a} g h =
       next = omega (arith, g .next, h .next, length-append (g .more) (h .more));
     }
 
-pub gate-grows : (kind : ℕ) (nets : List ℕ) (a : Board) → Grows a (placeGate kind nets a .board)
+gate-grows : (kind : ℕ) (nets : List ℕ) (a : Board) → Grows a (placeGate kind nets a .board)
 gate-grows kind nets a =
     record { more = record { drives = a .next ∷ []; refers = kind; takes = nets } ∷ []; gates = refl; next = omega arith }
 
