@@ -31,9 +31,8 @@ outside-laid im at xs count p fits few (behind h) =
     ∙ getD-drop end im (p - end) 0
     ∙ ap (λ (q : ℕ). getD im q 0) there
 
-pub record Turn (image : List ℕ) (list source target : ℕ) (scratch₀ : List ℕ) (i slot : ℕ) (scratch : List ℕ) : Type 0 where
+pub record Turn (image : List ℕ) (list source : ℕ) (scratch₀ : List ℕ) (i slot : ℕ) (scratch : List ℕ) : Type 0 where
   pub more : i < length (netsAt image list (drop source scratch₀))
-  pub room : target + length (netsAt image list (drop source scratch₀)) ≤ length scratch₀
   pub same : length scratch ≡ length scratch₀
   pub inside : source + slot < length scratch
   pub value : getD scratch (source + slot) 0 ≡ getD (netsAt image list (drop source scratch₀)) i 0
@@ -44,17 +43,16 @@ pub turn :
     → Filling scratch₀ target (netsAt image list (drop source scratch₀)) i scratch
     → i < getD image list 0
     → slot ≡ getD image (list + 1 + i) 0
-    → Turn image list source target scratch₀ i slot scratch
+    → Turn image list source scratch₀ i slot scratch
 turn {image} {list} {source} {target} {scratch₀} {i} {slot} {scratch} able f h e =
     record {
       more = omega (arith, count);
-      room = room;
-      same = filling-length f room;
-      inside = omega (arith, able .slots i h, slot-is, filling-length f room);
+      same = filling-length f;
+      inside = omega (arith, able .slots i h, slot-is, filling-length f);
       value =
           ap (λ (l : List ℕ). getD l (source + slot) 0) (f .is)
           ∙ outside-laid scratch₀ target (take i values) (getD image list 0) (source + slot)
-          (omega (arith, length-take-le i values (f .within), f .within)) (omega (arith, length-take-le i values (f .within), f .within))
+          (omega (arith, length-take-le i values (f .within), f .within, f .room)) (omega (arith, count, length-take-le i values (f .within), f .within))
           (rw slot-is (able .apart i h))
           ∙ sym (getD-drop source scratch₀ slot 0)
           ∙ ap (λ (s : ℕ). getD (drop source scratch₀) s 0) e
@@ -66,9 +64,6 @@ turn {image} {list} {source} {target} {scratch₀} {i} {slot} {scratch} able f h
 
     count : length values ≡ getD image list 0
     count = length-of-nets image list (able .listed) (drop source scratch₀)
-
-    room : target + length values ≤ length scratch₀
-    room = omega (arith, able .room, count)
 
     slot-is : slot ≡ getD (listAt image list) i 0
     slot-is = e ∙ sym (slot-of-list image list (able .listed) i h)

@@ -1,6 +1,6 @@
 -- A list written as a file has it. One turn of the loop behind the count: the slot of the i-th net is in the scratch, and the net is a
 -- number of two bytes. At the end the count and the nets behind it are the list.
-use Prim.Native.Nat.{ℕ, _+_, _≤_, _<_}
+use Prim.Native.Nat.{ℕ, _+_, _<_}
 use native.Mathlib.Omega.{arith}
 use mathlib.Core.Path.{_≡_, sym, ap, _∙_}
 use mathlib.Core.List.{List, [], _∷_}
@@ -10,9 +10,8 @@ use Rattle.flattener.specs.Slots.{Listable, netsAt}
 use Rattle.flattener.proofs.Filling.{Filling, filling-length}
 use Rattle.flattener.proofs.Lists.{length-of-list, length-of-nets, slot-of-list, net-of-list}
 
-pub record Turn (image : List ℕ) (list : ℕ) (scratch numbers₀ : List ℕ) (at i slot : ℕ) (numbers : List ℕ) : Type 0 where
+pub record Turn (image : List ℕ) (list : ℕ) (scratch numbers₀ : List ℕ) (i slot : ℕ) (numbers : List ℕ) : Type 0 where
   pub more : i < length (netsAt image list scratch)
-  pub room : at + 1 + length (netsAt image list scratch) ≤ length numbers₀
   pub same : length numbers ≡ length numbers₀
   pub inside : slot < length scratch
   pub value : getD scratch slot 0 ≡ getD (netsAt image list scratch) i 0
@@ -24,24 +23,19 @@ module _ {image : List ℕ} {list : ℕ} {scratch before : List ℕ} {at : ℕ} 
 
   pub turn :
       {i slot : ℕ} {numbers₀ numbers : List ℕ}
-      → length numbers₀ ≡ length before
       → Filling numbers₀ (at + 1) (netsAt image list scratch) i numbers
       → i < getD image list 0
       → slot ≡ getD image (list + 1 + i) 0
-      → Turn image list scratch numbers₀ at i slot numbers
-  turn {i} {slot} {numbers₀} long f h e =
+      → Turn image list scratch numbers₀ i slot numbers
+  turn {i} {slot} f h e =
       record {
         more = omega (arith, count-of-nets);
-        room = room;
-        same = filling-length f room;
+        same = filling-length f;
         inside = omega (arith, able .readable .slots .slot i (omega (arith, length-of-list image list (able .readable .listed))), slot-of-list image list (able .readable .listed) i h);
         value = value;
         small = omega (arith, able .readable .small .below i, value);
       }
     where
-      room : at + 1 + length (netsAt image list scratch) ≤ length numbers₀
-      room = omega (arith, able .room, count-of-nets)
-
       value : getD scratch slot 0 ≡ getD (netsAt image list scratch) i 0
       value = ap (λ (s : ℕ). getD scratch s 0) e ∙ sym (net-of-list image list (able .readable .listed) scratch i h)
 

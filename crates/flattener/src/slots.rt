@@ -42,9 +42,11 @@ pub fn number_inputs(count: usize, scratch: &mut [u32])
     requires { ⌜ count ≤ 4096 ⌝ }
     ensures { λ _. ⌜ now (scratch .exit) ≡ laid (now (scratch .entry)) 0 (upFrom 0 count) ⌝ }
 {
+    let mut net = 0u32;
     let mut i = 0;
     while i < count {
-        scratch[i] = i as u32;
+        scratch[i] = net;
+        net += 1;
         i += 1;
     }
 }
