@@ -1,0 +1,15 @@
+-- What the contracts of `flattener` cite, and the laws that turn them into what `meaning` says of flattening.
+pub mod Placing
+pub mod PlacingMeans
+pub mod Growing
+pub mod Slots
+pub mod Front
+pub mod AtPosition
+pub mod FlatFrames
+pub mod Runs
+pub mod Places
+pub mod Gates
+pub mod Plan
+pub mod Flat
+pub mod FlatNumbers
+pub mod Imaging

@@ -1,0 +1,38 @@
+-- Numbers in a row, as nets and as slots: what stands at each place, and what a frame has at such slots.
+use Prim.Native.Nat.{ℕ, zero, suc, _+_, _≤_, _<_}
+use mathlib.Core.Path.{_≡_, refl, ap₂, _∙_}
+use mathlib.Core.List.{List, _∷_}
+use native.Mathlib.Omega.{arith}
+use lib.ListN.{length, getD, take, drop}
+use lib.Seq.{drop-cons}
+use Rattle.meaning.specs.Adder.{upFrom}
+use Rattle.nets.specs.Slots.{Below}
+use Rattle.image.specs.Frames.{readSlots}
+
+pub run-at : (first count i : ℕ) → i < count → getD (upFrom first count) i 0 ≡ first + i
+unfolding upFrom
+run-at first zero i h = absurd (omega arith)
+run-at first (suc n) zero h = omega arith
+run-at first (suc n) (suc i) h = run-at (suc first) n i (omega arith) ∙ omega arith
+
+pub run-below : (bound first count : ℕ) → first + count ≤ bound → 0 < bound → Below bound (upFrom first count)
+unfolding upFrom
+run-below bound first count fits some = record { below = at first count fits }
+  where
+    at : (first count : ℕ) → first + count ≤ bound → (i : ℕ) → getD (upFrom first count) i 0 < bound
+    at first zero h i = some
+    at first (suc n) h zero = omega arith
+    at first (suc n) h (suc i) = at (suc first) n (omega arith) i
+
+pub take-run : (first n count : ℕ) → n ≤ count → take n (upFrom first count) ≡ upFrom first n
+unfolding upFrom
+take-run first zero count h = refl
+take-run first (suc n) zero h = absurd (omega arith)
+take-run first (suc n) (suc count) h = ap₂ {C = List ℕ} _∷_ refl (take-run (suc first) n count (omega arith))
+
+pub read-run :
+    (frame : List ℕ) (first n : ℕ) → first + n ≤ length frame → readSlots 0 frame (upFrom first n) ≡ take n (drop first frame)
+unfolding readSlots upFrom
+read-run frame first zero h = refl
+read-run frame first (suc n) h =
+    rw (drop-cons frame first 0 (omega arith)) (ap₂ {C = List ℕ} _∷_ refl (read-run frame (suc first) n (omega arith)))

@@ -1,0 +1,43 @@
+-- Lists of slots in the image, each behind its count, and the nets that the scratch has at them.
+use Prim.Native.Nat.{ℕ, _+_, _≤_, _<_}
+use mathlib.Core.Path.{_≡_}
+use mathlib.Core.List.{List}
+use lib.ListN.{length, getD, take, drop}
+use Rattle.nets.specs.Slots.{Below}
+use Rattle.image.specs.Frames.{readSlots, Filled}
+use Rattle.image.specs.Laid.{laid}
+
+-- The list whose count stands at a place.
+abbrev pub listAt : (image : List ℕ) (list : ℕ) → List ℕ
+listAt image list = take (getD image list 0) (drop (list + 1) image)
+
+abbrev pub netsAt : (image : List ℕ) (list : ℕ) (scratch : List ℕ) → List ℕ
+netsAt image list scratch = readSlots 0 scratch (listAt image list)
+
+-- A place that lies before or behind so many places from one on.
+pub data Outside (target count p : ℕ) : Type 0 where
+  before : p < target → Outside target count p
+  behind : target + count ≤ p → Outside target count p
+
+-- The nets at a list's slots, counted from `source` on, can be copied to the places from `target` on: none is read where one is written.
+pub record Copyable (image : List ℕ) (list source target : ℕ) (scratch : List ℕ) : Type 0 where
+  pub listed : list + 1 + getD image list 0 ≤ length image
+  pub slots : (i : ℕ) → i < getD image list 0 → source + getD (listAt image list) i 0 < length scratch
+  pub apart : (i : ℕ) → i < getD image list 0 → Outside target (getD image list 0) (source + getD (listAt image list) i 0)
+  pub room : target + getD image list 0 ≤ length scratch
+
+-- Each of them is a number of two bytes.
+pub record Readable (image : List ℕ) (list : ℕ) (scratch : List ℕ) : Type 0 where
+  pub listed : list + 1 + getD image list 0 ≤ length image
+  pub slots : Filled (length scratch) (listAt image list)
+  pub small : Below 65536 (netsAt image list scratch)
+
+-- They can be written as a list of a file: there is room for their count and them.
+pub record Listable (image : List ℕ) (list : ℕ) (scratch numbers : List ℕ) (at : ℕ) : Type 0 where
+  pub readable : Readable image list scratch
+  pub room : at + 1 + getD image list 0 ≤ length numbers
+
+-- Numbers laid at a place, and the place behind them.
+pub record Laid (numbers before : List ℕ) (at : ℕ) (after : List ℕ) (next : ℕ) : Type 0 where
+  pub place : next ≡ at + length numbers
+  pub holds : after ≡ laid before at numbers
