@@ -1,9 +1,9 @@
-"""Writes the stored cases of the check: crates/check_cases/data/cases and crates/check_cases/stdout.
+"""Writes the stored cases of the check: crates/check_cases/stdin and crates/check_cases/stdout.
 
     python3 tests/check_cases.py
 
-A case is a label and a file. In the data each stands as: count of the label's bytes, the label, count of
-the file's bytes (two bytes, low first), the file. The expected line is `label: good` or
+A case is a label and a file. In the input each stands as: count of the label's bytes, the label, count of
+the file's bytes, the file; a count has two bytes, low first. The expected line is `label: good` or
 `label: refused NUMBER PLACE`, by tests/reference.py.
 """
 import os
@@ -122,15 +122,15 @@ def exact(size):
 def main():
     here = os.path.dirname(os.path.abspath(__file__))
     crate = os.path.join(here, '..', 'crates', 'check_cases')
-    os.makedirs(os.path.join(crate, 'data'), exist_ok=True)
+    os.makedirs(crate, exist_ok=True)
     # the program makes the first case itself
     data, lines = bytearray(), ['1 65536 bytes: refused 1 0\n']
     for label, file in cases():
         number, place = verdict(file)
         name = label.encode()
-        data += bytes([len(name)]) + name + bytes([len(file) % 256, len(file) // 256]) + file
+        data += bytes([len(name), 0]) + name + bytes([len(file) % 256, len(file) // 256]) + file
         lines.append('%s: %s\n' % (label, 'refused %d %d' % (number, place) if number else 'good'))
-    with open(os.path.join(crate, 'data', 'cases'), 'wb') as f:
+    with open(os.path.join(crate, 'stdin'), 'wb') as f:
         f.write(data)
     with open(os.path.join(crate, 'stdout'), 'w') as f:
         f.writelines(lines)
