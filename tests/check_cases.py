@@ -3,7 +3,7 @@
     python3 tests/check_cases.py
 
 A case is a label and a file. In the input each stands as: count of the label's bytes, the label, count of
-the file's bytes (two bytes, low first), the file. The expected line is `label: good` or
+the file's bytes, the file; a count has two bytes, low first. The expected line is `label: good` or
 `label: refused NUMBER PLACE`, by tests/reference.py.
 """
 import os
@@ -128,7 +128,7 @@ def main():
     for label, file in cases():
         number, place = verdict(file)
         name = label.encode()
-        data += bytes([len(name)]) + name + bytes([len(file) % 256, len(file) // 256]) + file
+        data += bytes([len(name), 0]) + name + bytes([len(file) % 256, len(file) // 256]) + file
         lines.append('%s: %s\n' % (label, 'refused %d %d' % (number, place) if number else 'good'))
     with open(os.path.join(crate, 'stdin'), 'wb') as f:
         f.write(data)

@@ -1,5 +1,9 @@
 // The library that others see: total functions on slices, with no `requires`.
+mod written;
+
 use desk::preparing::Prepared;
+pub use written::adder;
+pub use written::counter;
 ghost use mathlib.Core.Path.{_≡_};
 ghost use Rattle.meaning.specs.Verdict.{verdict};
 ghost use Rattle.shelf.specs.Answers.{checkOf};
