@@ -132,7 +132,11 @@ module _
         pub planned-is : planned plan numbered ≡ walked
         planned-is = ap (λ (nets : List ℕ). walkPlaced (placeFrames (position .later)) (position .r .occurrences) nets (plan .board)) given-is
 
-        pub ready : {pen : Pen} → pen .next ≡ header .inputs → pen .at ≡ header .body - getD starts k 0 + 2 → Ready plan image starts nets k pen numbered numbers
+        pub ready :
+            {pen : Pen}
+            → pen .next ≡ header .inputs
+            → pen .at ≡ header .body - getD starts k 0 + 2
+            → Ready plan image starts nets k pen numbered numbers
         unfolding each
         ready next place =
             record {

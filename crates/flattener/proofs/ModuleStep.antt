@@ -80,8 +80,8 @@ module _
 
     long : filled + length outs ≡ filled + length (c .o .drives)
     long =
-        omega
-        (arith, ap length outs-are, length-of-readSlots 0 (planned (sub g c is other ready) (drop frame (lent g c is other ready)) .nets) (callee .m .outputs), callee .drives)
+        let nets = planned (sub g c is other ready) (drop frame (lent g c is other ready)) .nets in
+        omega (arith, ap length outs-are, length-of-readSlots 0 nets (callee .m .outputs), callee .drives)
 
     inside : filled + length outs ≤ length back
     inside = omega (arith, long, in-frame g c, roomy g c is other ready, ready .reached, g .size, size-is)

@@ -6,7 +6,7 @@ use mathlib.Core.Path.{_≡_, sym, ap, _∙_}
 use mathlib.Core.List.{List, [], _∷_}
 use lib.ListN.{length, getD, set}
 use Rattle.image.specs.Laid.{laid, laid-after, set-laid}
-use Rattle.flattener.specs.Slots.{Listable, netsAt}
+use Rattle.flattener.specs.Slots.{Listable, listAt, netsAt}
 use Rattle.flattener.proofs.Filling.{Filling, filling-length}
 use Rattle.flattener.proofs.Lists.{length-of-list, length-of-nets, slot-of-list, net-of-list}
 
@@ -31,11 +31,14 @@ module _ {image : List ℕ} {list : ℕ} {scratch before : List ℕ} {at : ℕ} 
       record {
         more = omega (arith, count-of-nets);
         same = filling-length f;
-        inside = omega (arith, able .readable .slots .slot i (omega (arith, length-of-list image list (able .readable .listed))), slot-of-list image list (able .readable .listed) i h);
+        inside = omega (arith, able .readable .slots .slot i (omega (arith, count-of-list)), slot-of-list image list (able .readable .listed) i h);
         value = value;
         small = omega (arith, able .readable .small .below i, value);
       }
     where
+      count-of-list : length (listAt image list) ≡ getD image list 0
+      count-of-list = length-of-list image list (able .readable .listed)
+
       value : getD scratch slot 0 ≡ getD (netsAt image list scratch) i 0
       value = ap (λ (s : ℕ). getD scratch s 0) e ∙ sym (net-of-list image list (able .readable .listed) scratch i h)
 

@@ -3,7 +3,7 @@ ghost use Rattle.flattener.specs.Front.{Frontable, Fronted};
 
 // Count of modules, the module's number, the nets of its inputs and of its outputs, and the count of gates. The lists of inputs and
 // outputs stand in the image.
-pub fn set_front(
+pub(crate) fn set_front(
     image: &[u16],
     inputs: usize,
     outputs: usize,

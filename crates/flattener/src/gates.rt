@@ -2,13 +2,13 @@
 ghost use Rattle.flattener.specs.Gates.{Settable, Set};
 
 // How far the new module has come: the number that the next gate drives, and the place behind the gates so far.
-pub struct Pen {
-    pub next: u16,
-    pub at: usize,
+pub(crate) struct Pen {
+    pub(crate) next: u16,
+    pub(crate) at: usize,
 }
 
 // Writes a gate: the kind that stands at the place `refers`, on the nets at the slots of its list of arguments.
-pub fn set_gate(
+pub(crate) fn set_gate(
     image: &[u16],
     refers: usize,
     takes: usize,

@@ -2,11 +2,11 @@
 use crate::gates::Pen;
 ghost use Rattle.flattener.specs.Flat.{Flattenable, Flattened};
 
-pub mod front;
-pub mod gates;
-pub mod places;
-pub mod slots;
-pub mod walk;
+mod front;
+mod gates;
+mod places;
+mod slots;
+mod walk;
 
 // The module at position k, flattened under its number: writes the numbers of the file that holds it alone to the front of `numbers`,
 // and answers how many they are. The gates come first, at the place that they have in the end, since the nets of the outputs are known

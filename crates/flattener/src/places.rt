@@ -2,14 +2,14 @@
 ghost use Rattle.flattener.specs.Places.{ModuleThere, OccurrenceThere, HeaderOf, PlaceOf};
 
 // How many inputs a module has, where its list of outputs stands, and where its count of occurrences.
-pub struct Header {
-    pub inputs: usize,
-    pub outputs: usize,
-    pub body: usize,
+pub(crate) struct Header {
+    pub(crate) inputs: usize,
+    pub(crate) outputs: usize,
+    pub(crate) body: usize,
 }
 
 // The module whose numbers start at a place.
-pub fn header_at(image: &[u16], start: usize) -> Header
+pub(crate) fn header_at(image: &[u16], start: usize) -> Header
     requires { ⌜ ModuleThere (now image) start ⌝ }
     ensures { λ r. ⌜ HeaderOf (now (image .entry)) start r ⌝ }
 {
@@ -24,15 +24,15 @@ pub fn header_at(image: &[u16], start: usize) -> Header
 }
 
 // How many nets an occurrence drives, where the number it refers to stands, where its list of arguments, and what comes behind it.
-pub struct Place {
-    pub drives: usize,
-    pub refers: usize,
-    pub takes: usize,
-    pub next: usize,
+pub(crate) struct Place {
+    pub(crate) drives: usize,
+    pub(crate) refers: usize,
+    pub(crate) takes: usize,
+    pub(crate) next: usize,
 }
 
 // The occurrence whose numbers start at a place.
-pub fn occurrence_at(image: &[u16], at: usize) -> Place
+pub(crate) fn occurrence_at(image: &[u16], at: usize) -> Place
     requires { ⌜ OccurrenceThere (now image) at ⌝ }
     ensures { λ r. ⌜ PlaceOf (now (image .entry)) at r ⌝ }
 {

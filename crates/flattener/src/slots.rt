@@ -9,7 +9,7 @@ ghost use Rattle.image.specs.Laid.{laid};
 ghost use Rattle.flattener.specs.Slots.{Copyable, Listable, Laid, netsAt};
 
 // The nets at the slots of a list, counted from `source` on, to the places from `target` on.
-pub fn copy(image: &[u16], list: usize, source: usize, target: usize, scratch: &mut [u32])
+pub(crate) fn copy(image: &[u16], list: usize, source: usize, target: usize, scratch: &mut [u32])
     requires { ⌜ Copyable (now image) list source target (now scratch) ⌝ }
     ensures { λ _. ⌜ now (scratch .exit) ≡ laid (now (scratch .entry)) target (netsAt (now (image .entry)) list (drop source (now (scratch .entry)))) ⌝ }
 {
@@ -22,7 +22,13 @@ pub fn copy(image: &[u16], list: usize, source: usize, target: usize, scratch: &
 }
 
 // A list as a file has it: its count, then the nets at its slots. Answers the place behind it.
-pub fn put(image: &[u16], list: usize, scratch: &[u32], numbers: &mut [u16], at: usize) -> usize
+pub(crate) fn put(
+    image: &[u16],
+    list: usize,
+    scratch: &[u32],
+    numbers: &mut [u16],
+    at: usize,
+) -> usize
     requires { ⌜ Listable (now image) list (now scratch) (now numbers) at ⌝ }
     ensures { λ r. ⌜ Laid (listNumbers (netsAt (now (image .entry)) list (now (scratch .entry)))) (now (numbers .entry)) at (now (numbers .exit)) r ⌝ }
 {
@@ -36,8 +42,8 @@ pub fn put(image: &[u16], list: usize, scratch: &[u32], numbers: &mut [u16], at:
     at + 1 + count
 }
 
-// The nets of a new module's inputs: 0, 1, 2 and so on.
-pub fn number_inputs(count: usize, scratch: &mut [u32])
+// The nets of the new module's inputs, 0, 1, 2 and so on, in the first slots.
+pub(crate) fn number_inputs(count: usize, scratch: &mut [u32])
     requires { ⌜ count ≤ length (now scratch) ⌝ }
     requires { ⌜ count ≤ 4096 ⌝ }
     ensures { λ _. ⌜ now (scratch .exit) ≡ laid (now (scratch .entry)) 0 (upFrom 0 count) ⌝ }
@@ -51,7 +57,8 @@ pub fn number_inputs(count: usize, scratch: &mut [u32])
     }
 }
 
-pub fn clear(room: usize, scratch: &mut [u32])
+// Puts the first entries back to 0.
+pub(crate) fn clear(room: usize, scratch: &mut [u32])
     requires { ⌜ room ≤ length (now scratch) ⌝ }
     ensures { λ _. ⌜ now (scratch .exit) ≡ replicate room 0 ++ drop room (now (scratch .entry)) ⌝ }
 {

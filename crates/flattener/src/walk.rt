@@ -7,7 +7,7 @@ ghost use Rattle.flattener.specs.Places.{HeaderOf};
 ghost use Rattle.flattener.specs.Plan.{Plan, Ready, SomeReady, Done};
 
 // The module at position k. The nets of its inputs stand at the front of the scratch, and in the end those of all its slots do.
-pub fn place_module(
+pub(crate) fn place_module(
     image: &[u16],
     starts: &[usize],
     nets: &[usize],

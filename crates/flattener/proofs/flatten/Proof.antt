@@ -2,7 +2,11 @@
 -- front of the gates, and then those are written. Assumes nothing.
 use borrow.Author.Needs.{needs}
 use native.Mathlib.Omega.{arith}
-use mathlib.Core.Path.{refl}
+use mathlib.Core.Path.{_≡_, refl}
+use lib.ListN.{getD}
+use Rattle.meaning.specs.Adder.{upFrom}
+use Rattle.image.specs.Laid.{laid}
+use Rattle.flattener.specs.Places.{HeaderOf}
 use Rattle.flattener.specs.Plan.{Done}
 use Rattle.flattener.specs.Flat.{Flattenable}
 use Rattle.flattener.proofs.FlatPlan.{in-starts, module-there, head, plan, gates-few, inputs-inside, ready}
@@ -10,90 +14,104 @@ use Rattle.flattener.proofs.FlatDone.{frontable, last-next, flattened, 
 use Rattle.flattener.proofs.flatten.Statement.{statement}
 use Rattle.flattener.proofs.flatten.Tie as tie
 
-mul-start : tie.Need-mul-start
-mul-start c = omega (arith, in-starts (c .before .before .before .before .before .pre))
-
-shared-slice-read-start : tie.Need-shared-slice-read-start
-shared-slice-read-start c = in-starts (c .before .before .before .before .before .before .pre)
-
-header-at-requires : tie.Need-header-at-requires
-header-at-requires c κs = module-there (c .before .before .before .before .before .before .pre)
-
+-- Where the header is read.
 number-inputs-requires : tie.Need-number-inputs-requires
 number-inputs-requires c κs =
     let f = c .before .before .before .before .before .before .before .before .pre in
     let of = c .before .header-at .ensures in
     (inputs-inside f of, omega (arith, gates-few f of))
 
-cast-set-front : tie.Need-cast-set-front
-cast-set-front c = omega (arith, gates-few (c .before .before .before .before .before .before .before .before .before .before .before .pre) (c .before .before .before .before .header-at .ensures))
-
-sub-set-front : tie.Need-sub-set-front
-sub-set-front c = omega (arith, head (c .before .before .before .before .before .before .before .before .before .before .before .before .pre) (c .before .before .before .before .before .header-at .ensures) .body)
-
 add-set-front : tie.Need-add-set-front
-add-set-front c = omega (arith, head (c .before .before .before .before .before .before .before .before .before .before .before .before .pre) (c .before .before .before .before .before .header-at .ensures) .occurrences .within, c .before .before .before .before .before .before .before .before .before .before .before .before .good .0)
+add-set-front c =
+    let headed = c .before .before .before .before .before in
+    let start = headed .before .before .before .before .before .before .before in
+    omega (arith, head (start .pre) (headed .header-at .ensures) .occurrences .within, start .good .0)
 
 place-module-requires : tie.Need-place-module-requires
 place-module-requires c κs =
-    record { plan = _; ready = ready (c .before .before .before .before .before .before .before .before .before .before .before .before .before .before .pre) (c .before .before .before .before .before .before .before .header-at .ensures) (c .before .before .before .before .before .number-inputs .ensures) refl refl }
+    let headed = c .before .before .before .before .before .before .before in
+    let start = headed .before .before .before .before .before .before .before in
+    record { plan = _; ready = ready (start .pre) (headed .header-at .ensures) (c .before .before .before .before .before .number-inputs .ensures) refl refl }
 
--- The plan of any file that could be flattened is carried out.
+-- Where the module is placed: the header, the scratch with the nets of the inputs, and that the plan is carried out, of any file that
+-- could be flattened and of the caller's.
+of :
+    (c : tie.After-place-module)
+    → (let args = c .before .before .before .before .before .before .before .before .before .before .before .before .before .before .before .args in
+    HeaderOf (args .image .now) (getD (args .starts .now) (args .k) 0) (c .before .before .before .before .before .before .before .before .header-at .result))
+of c = c .before .before .before .before .before .before .before .before .header-at .ensures
+
+numbered :
+    (c : tie.After-place-module)
+    → (let args = c .before .before .before .before .before .before .before .before .before .before .before .before .before .before .before .args in
+    c .before .before .before .before .before .before .number-inputs .last .1 .0
+    ≡ laid (args .scratch .now) 0 (upFrom 0 (c .before .before .before .before .before .before .before .before .header-at .result .inputs)))
+numbered c = c .before .before .before .before .before .before .number-inputs .ensures
+
 carried :
     (c : tie.After-place-module)
     → (let args = c .before .before .before .before .before .before .before .before .before .before .before .before .before .before .before .args in
-    (f : Flattenable (args .image .now) (args .starts .now) (args .nets .now) (args .k) (args .number) (args .room) (args .scratch .now) (args .numbers .now))
-    → Done (plan f (c .before .before .before .before .before .before .before .before .header-at .ensures)) (c .before .before .before .before .before .before .number-inputs .last .1 .0) (c .place-module .last .1 .1 .1 .1 .1 .0)
+    (f :
+    Flattenable (args .image .now) (args .starts .now) (args .nets .now) (args .k) (args .number) (args .room) (args .scratch .now)
+    (args .numbers .now))
+    → Done (plan f (of c)) (c .before .before .before .before .before .before .number-inputs .last .1 .0) (c .place-module .last .1 .1 .1 .1 .1 .0)
     (c .place-module .result) (c .place-module .last .1 .1 .1 .1 .1 .1 .0))
-carried c f = c .place-module .ensures _ (ready f (c .before .before .before .before .before .before .before .before .header-at .ensures) (c .before .before .before .before .before .before .number-inputs .ensures) refl refl)
+carried c f = c .place-module .ensures _ (ready f (of c) (numbered c) refl refl)
+
+some :
+    (c : tie.After-place-module)
+    → (let args = c .before .before .before .before .before .before .before .before .before .before .before .before .before .before .before .args in
+    Flattenable (args .image .now) (args .starts .now) (args .nets .now) (args .k) (args .number) (args .room) (args .scratch .now)
+    (args .numbers .now))
+some c = c .before .before .before .before .before .before .before .before .before .before .before .before .before .before .before .pre
 
 add-set-front-2 : tie.Need-add-set-front-2
-add-set-front-2 c = omega (arith, head (c .before .before .before .before .before .before .before .before .before .before .before .before .before .before .before .before .before .before .before .pre) (c .before .before .before .before .before .before .before .before .before .before .before .before .header-at .ensures) .inputList .listed, c .before .before .before .before .before .before .before .before .before .before .before .before .before .before .before .before .before .before .before .good .0)
+add-set-front-2 c =
+    let placed = c .before .before .before .before in
+    let start = placed .before .before .before .before .before .before .before .before .before .before .before .before .before .before .before in
+    omega (arith, head (some placed) (of placed) .inputList .listed, start .good .0)
 
 sub-set-front-2 : tie.Need-sub-set-front-2
 sub-set-front-2 c =
-    let f = c .before .before .before .before .before .before .before .before .before .before .before .before .before .before .before .before .before .before .before .before .before .pre in
-    omega (arith, last-next f (c .before .before .before .before .before .before .before .before .before .before .before .before .before .before .header-at .ensures) (c .before .before .before .before .before .before .before .before .before .before .before .before .number-inputs .ensures) (carried (c .before .before .before .before .before .before) f))
+    let placed = c .before .before .before .before .before .before in
+    omega (arith, last-next (some placed) (of placed) (numbered placed) (carried placed (some placed)))
 
 set-front-requires : tie.Need-set-front-requires
 set-front-requires c κs =
     let placed = c .before .before .before .before .before .before .before .before in
-    let f = c .before .before .before .before .before .before .before .before .before .before .before .before .before .before .before .before .before .before .before .before .before .before .before .pre in
-    frontable f (c .before .before .before .before .before .before .before .before .before .before .before .before .before .before .before .before .header-at .ensures) (c .before .before .before .before .before .before .before .before .before .before .before .before .before .before .number-inputs .ensures) (carried placed f)
+    frontable (some placed) (of placed) (numbered placed) (carried placed (some placed))
 
 clear-requires : tie.Need-clear-requires
 clear-requires c κs =
     let placed = c .before .before .before .before .before .before .before .before .before .before .before .before in
-    let f = c .before .before .before .before .before .before .before .before .before .before .before .before .before .before .before .before .before .before .before .before .before .before .before .before .before .before .before .pre in
-    omega (arith, f .enough, scratch-long f (c .before .before .before .before .before .before .before .before .before .before .before .before .before .before .before .before .before .before .before .before .header-at .ensures) (c .before .before .before .before .before .before .before .before .before .before .before .before .before .before .before .before .before .before .number-inputs .ensures) (carried placed f))
-
-same-length : tie.Need-same-length
-same-length c = search needs
-
-same-length-2 : tie.Need-same-length-2
-same-length-2 c = search needs
+    omega (arith, some placed .enough, scratch-long (some placed) (of placed) (numbered placed) (carried placed (some placed)))
 
 returns : tie.Need-returns
 returns c f =
-    flattened f (c .before .before .before .before .before .before .before .before .before .before .before .before .before .before .before .before .before .before .before .before .before .before .before .header-at .ensures) (c .before .before .before .before .before .before .before .before .before .before .before .before .before .before .before .before .before .before .before .before .before .number-inputs .ensures) (carried (c .before .before .before .before .before .before .before .before .before .before .before .before .before .before .before) f) refl (c .before .before .before .before .before .before .set-front .ensures)
+    let placed = c .before .before .before .before .before .before .before .before .before .before .before .before .before .before .before in
+    flattened f (of placed) (numbered placed) (carried placed f) refl (c .before .before .before .before .before .before .set-front .ensures)
     (c .before .before .clear .ensures)
 
 pub flatten-spec : {M : Type 1} → statement M
 flatten-spec =
     tie.close
     (tie.spec
-    mul-start
-    shared-slice-read-start
-    header-at-requires
+    (λ c. omega (arith, in-starts (c .before .before .before .before .before .pre)))
+    (λ c. in-starts (c .before .before .before .before .before .before .pre))
+    (λ c κs. module-there (c .before .before .before .before .before .before .pre))
     number-inputs-requires
-    cast-set-front
-    sub-set-front
+    (λ c.
+    let headed = c .before .before .before .before in
+    omega (arith, gates-few (headed .before .before .before .before .before .before .before .pre) (headed .header-at .ensures)))
+    (λ c.
+    let headed = c .before .before .before .before .before in
+    omega (arith, head (headed .before .before .before .before .before .before .before .pre) (headed .header-at .ensures) .body))
     add-set-front
     place-module-requires
     add-set-front-2
     sub-set-front-2
     set-front-requires
     clear-requires
-    same-length
-    same-length-2
+    (λ c. search needs)
+    (λ c. search needs)
     returns)

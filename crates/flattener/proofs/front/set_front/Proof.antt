@@ -82,7 +82,9 @@ here c =
     (c .before .before .put2 .ensures)
 
 -- The last number has its place.
-last : (c : tie.After-slice-known3) → c .before .before .put2 .result < length (c .before .before .before .before .before .before .before .before .before .before .before .args .numbers .now)
+last :
+    (c : tie.After-slice-known3)
+    → c .before .before .put2 .result < length (c .before .before .before .before .before .before .before .before .before .before .before .args .numbers .now)
 last c =
     let start = c .before .before .before .before .before .before .before .before .before .before .before in
     let args = start .args in
@@ -98,7 +100,8 @@ slice-write-numbers-3 c = omega (arith, last c, here c .size)
 
 same-length : tie.Need-same-length
 same-length c =
-    length-set (c .before .before .put2 .last .1 .1 .1 .0) (c .before .before .put2 .result) (c .before .before .before .before .before .before .before .before .before .before .before .args .gates) ∙ here c .size
+    let second = c .before .before .put2 in
+    length-set (second .last .1 .1 .1 .0) (second .result) (c .before .before .before .before .before .before .before .before .before .before .before .args .gates) ∙ here c .size
 
 returns : tie.Need-returns
 returns c = here c .holds (c .before .before .before .before .before .before .before .before .before .before .before .args .gates)

@@ -1,6 +1,6 @@
 -- `flattener::places::header_at` meets its contract: the counts that it reads are those of the module that stands there. Assumes
 -- nothing.
-use Prim.Native.Nat.{ℕ, _+_}
+use Prim.Native.Nat.{ℕ, _+_, _≤_}
 use borrow.Author.Needs.{needs}
 use native.Mathlib.Omega.{arith}
 use mathlib.Core.Path.{_≡_, _∙_}
@@ -20,7 +20,11 @@ record Counts (start inputs outputs : ℕ) (image : List ℕ) (m : Module) : Typ
   first : inputs ≡ length (m .inputs)
   second : outputs ≡ length (m .outputs)
 
-one-count : (image : List ℕ) (start inputs : ℕ) (m : Module) → Stands image start (moduleNumbers m) → inputs ≡ getD image (start + 1) 0 → inputs ≡ length (m .inputs)
+one-count :
+    (image : List ℕ) (start inputs : ℕ) (m : Module)
+    → Stands image start (moduleNumbers m)
+    → inputs ≡ getD image (start + 1) 0
+    → inputs ≡ length (m .inputs)
 one-count image start inputs m s e = e ∙ module-at m s .inputCount (start + 1) (omega arith)
 
 counts :
@@ -53,12 +57,18 @@ header-is {image} {start} {inputs} {outputs} c =
 entry-requires : tie.Need-entry-requires
 entry-requires c κs = omega (arith, module-at _ (c .before .pre .standing) .end)
 
--- Behind the first count, and behind both.
-after-one : (c : tie.After-entry) → c .entry .result ≡ length (c .before .before .pre .m .inputs)
-after-one c =
+-- Behind the first count: two more and the lists lie in the image.
+inside : (c : tie.After-entry) → c .before .before .args .start + 4 + c .entry .result ≤ length (c .before .before .args .image .now)
+inside c =
     let start = c .before .before in
-    one-count (start .args .image .now) (start .args .start) (c .entry .result) (start .pre .m) (start .pre .standing) (c .entry .ensures)
+    let args = start .args in
+    omega (
+      arith,
+      one-count (args .image .now) (args .start) (c .entry .result) (start .pre .m) (start .pre .standing) (c .entry .ensures),
+      module-at _ (start .pre .standing) .end,
+    )
 
+-- Behind both.
 after-both :
     (c : tie.After-entry2) (m : Module)
     → (let args = c .before .before .before .args in
@@ -68,23 +78,11 @@ after-both c m s =
     let args = c .before .before .before .args in
     counts (args .image .now) (args .start) (c .before .entry .result) (c .entry2 .result) m s (c .before .entry .ensures) (c .entry2 .ensures)
 
-add-outputs-2 : tie.Need-add-outputs-2
-add-outputs-2 c = omega (arith, after-one c, module-at _ (c .before .before .pre .standing) .end)
-
-add-body : tie.Need-add-body
-add-body c = omega (arith, after-one c, module-at _ (c .before .before .pre .standing) .end)
-
-entry-requires-2 : tie.Need-entry-requires-2
-entry-requires-2 c κs = omega (arith, after-one c, module-at _ (c .before .before .pre .standing) .end)
-
 add-body-2 : tie.Need-add-body-2
 add-body-2 c =
-    let start = c .before .before .before in
-    let known = after-both c (start .pre .m) (start .pre .standing) in
+    let pre = c .before .before .before .pre in
+    let known = after-both c (pre .m) (pre .standing) in
     omega (arith, known .first, known .second, known .there .end)
-
-returns : tie.Need-returns
-returns c m s = header-is (after-both c m s)
 
 pub header-at-spec : {M : Type 1} → statement M
 header-at-spec =
@@ -93,8 +91,8 @@ header-at-spec =
     (λ c. search needs)
     entry-requires
     (λ c. search needs)
-    add-outputs-2
-    add-body
-    entry-requires-2
+    (λ c. omega (arith, inside c))
+    (λ c. omega (arith, inside c))
+    (λ c κs. omega (arith, inside c))
     add-body-2
-    returns)
+    (λ c m s. header-is (after-both c m s)))

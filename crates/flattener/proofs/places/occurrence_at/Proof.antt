@@ -1,6 +1,6 @@
 -- `flattener::places::occurrence_at` meets its contract: the counts that it reads are those of the occurrence that stands there.
 -- Assumes nothing.
-use Prim.Native.Nat.{ℕ, _+_}
+use Prim.Native.Nat.{ℕ, _+_, _≤_}
 use borrow.Author.Needs.{needs}
 use native.Mathlib.Omega.{arith}
 use mathlib.Core.Path.{_≡_, _∙_}
@@ -50,10 +50,13 @@ place-is {image} {at} {drives} c =
 entry-requires : tie.Need-entry-requires
 entry-requires c κs = omega (arith, occurrence-at _ (c .before .pre .standing) .end)
 
--- Behind the first count, and behind both.
-after-one : (c : tie.After-entry) → c .entry .result ≡ length (c .before .before .pre .o .drives)
-after-one c = c .entry .ensures ∙ occurrence-at _ (c .before .before .pre .standing) .drivenCount
+-- Behind the first count: two more and the arguments lie in the image.
+inside : (c : tie.After-entry) → c .before .before .args .at + 3 + c .entry .result ≤ length (c .before .before .args .image .now)
+inside c =
+    let there = occurrence-at _ (c .before .before .pre .standing) in
+    omega (arith, c .entry .ensures, there .drivenCount, there .end)
 
+-- Behind both.
 after-both :
     (c : tie.After-entry2) (o : Occurrence)
     → (let args = c .before .before .before .args in
@@ -63,27 +66,11 @@ after-both c o s =
     let args = c .before .before .before .args in
     counts (args .image .now) (args .at) (c .before .entry .result) (c .entry2 .result) o s (c .before .entry .ensures) (c .entry2 .ensures)
 
--- The whole occurrence lies in the image.
-add-refers-2 : tie.Need-add-refers-2
-add-refers-2 c = omega (arith, after-one c, occurrence-at _ (c .before .before .pre .standing) .end)
-
-add-takes : tie.Need-add-takes
-add-takes c = omega (arith, after-one c, occurrence-at _ (c .before .before .pre .standing) .end)
-
-add-next : tie.Need-add-next
-add-next c = omega (arith, after-one c, occurrence-at _ (c .before .before .pre .standing) .end)
-
-entry-requires-2 : tie.Need-entry-requires-2
-entry-requires-2 c κs = omega (arith, after-one c, occurrence-at _ (c .before .before .pre .standing) .end)
-
 add-next-2 : tie.Need-add-next-2
 add-next-2 c =
-    let start = c .before .before .before in
-    let known = after-both c (start .pre .o) (start .pre .standing) in
+    let pre = c .before .before .before .pre in
+    let known = after-both c (pre .o) (pre .standing) in
     omega (arith, known .first, known .second, known .there .end)
-
-returns : tie.Need-returns
-returns c o s = place-is (after-both c o s)
 
 pub occurrence-at-spec : {M : Type 1} → statement M
 occurrence-at-spec =
@@ -91,9 +78,9 @@ occurrence-at-spec =
     (tie.spec
     entry-requires
     (λ c. search needs)
-    add-refers-2
-    add-takes
-    add-next
-    entry-requires-2
+    (λ c. omega (arith, inside c))
+    (λ c. omega (arith, inside c))
+    (λ c. omega (arith, inside c))
+    (λ c κs. omega (arith, inside c))
     add-next-2
-    returns)
+    (λ c o s. place-is (after-both c o s)))

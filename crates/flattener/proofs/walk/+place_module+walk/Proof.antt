@@ -16,8 +16,9 @@ use Rattle.flattener.proofs.walk.walk.Reads as walk
 use Rattle.flattener.proofs.walk.+place_module+walk.Lts-walk as walk-lts
 use Rattle.flattener.proofs.walk.+place_module+walk.{statement}
 use Rattle.flattener.proofs.walk.+place_module+walk.Tie.{close}
-use Rattle.flattener.proofs.walk.+place_module+walk.Proof.Setting.{μ-place-module, μ-walk, place-module-at, walk-at, place-module-claims, walk-claims}
-use Rattle.flattener.proofs.walk.+place_module+walk.Proof.Setting.{Inv-loop, μ-loop, here, ready, some}
+use Rattle.flattener.proofs.walk.+place_module+walk.Proof.Setting.{μ-place-module, μ-walk, place-module-at, walk-at}
+use Rattle.flattener.proofs.walk.+place_module+walk.Proof.Setting.{place-module-claims, walk-claims, Inv-loop, μ-loop}
+use Rattle.flattener.proofs.walk.+place_module+walk.Proof.Setting.{here, ready, some}
 
 -- What the walk's needs ask that is more than arithmetic. Before the loop, and to find the next occurrence:
 loop-holds : (t : ℕ) → walk-lts.Need-loop-holds (walk-claims t) (walk-at t) walk.Post Inv-loop μ-loop
@@ -25,12 +26,14 @@ loop-holds t c p ready = begin ready (headed ready (c .before .before .before .b
 
 occurrence-at-requires : (t : ℕ) → walk-lts.Need-occurrence-at-requires (walk-claims t) (walk-at t) walk.Post Inv-loop μ-loop
 occurrence-at-requires t c κs =
-    let now = current (c .before .loop .inv _ (c .before .before .before .before .before .before .before .before .before .pre .1 .0 .ready)) (c .loop-test .taken) in
+    let able = c .before .before .before .before .before .before .before .before .before .pre .1 .0 .ready in
+    let now = current (c .before .loop .inv _ able) (c .loop-test .taken) in
     record { o = now .o; standing = now .standing }
 
 entry-requires-2 : (t : ℕ) → walk-lts.Need-entry-requires-2 (walk-claims t) (walk-at t) walk.Post Inv-loop μ-loop
 entry-requires-2 t c κs =
-    let now = current (c .before .before .loop .inv _ (c .before .before .before .before .before .before .before .before .before .before .pre .1 .0 .ready)) (c .before .loop-test .taken) in
+    let able = c .before .before .before .before .before .before .before .before .before .before .pre .1 .0 .ready in
+    let now = current (c .before .before .loop .inv _ able) (c .before .loop-test .taken) in
     c .occurrence-at .ensures (now .o) (now .standing) .inside
 
 -- At a gate:
