@@ -13,4 +13,5 @@ pub mod Running
 pub mod Parting
 pub mod CounterFile
 pub mod Answering
+pub mod Ordering
 pub mod Promise

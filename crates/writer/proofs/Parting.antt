@@ -4,11 +4,10 @@ use Prim.Native.Nat.{ℕ, _+_, _*_, _^_, _/_, _%_, _≤_, _<_}
 use native.Mathlib.Nat.{pow-suc}
 use native.Mathlib.Numerals.{add-one}
 use native.Mathlib.Omega.{arith}
-use mathlib.Core.Path.{_≡_, refl}
+use mathlib.Core.Path.{_≡_}
 use mathlib.Core.Bool.{true}
 use mathlib.Core.List.{List, [], _∷_, _++_}
 use lib.Pow.{pow-mono}
-use lib.ListN.{length}
 use Rattle.meaning.specs.Counter.{digits}
 use Rattle.encoder.specs.Filled.{Put}
 use Rattle.writer.specs.Rooms.{Room}

@@ -5,8 +5,6 @@ use Prim.Native.Nat.{ℕ, _+_, _*_, _/_, _%_, _≤_, _<_}
 use native.Mathlib.Numerals.{add-one}
 use native.Mathlib.Omega.{arith}
 use mathlib.Core.Path.{_≡_, refl, ap, sym, _∙_}
-use mathlib.Core.Bool.{true, false}
-use mathlib.Core.List.{_∷_}
 use lib.ListN.{length}
 use Rattle.meaning.specs.Counter.{digits, lastCount, counterModule}
 use Rattle.writer.specs.Shapes.{Shaped}

@@ -6,13 +6,9 @@ ghost use mathlib.Core.List.{[], _∷_};
 ghost use lib.ListN.{length};
 ghost use Rattle.meaning.specs.Layout.{each, occurrenceNumbers, moduleNumbers, fileNumbers};
 ghost use Rattle.meaning.specs.Counter.{joinParts, counterModule, counter as counterOf};
-ghost use Rattle.meaning.specs.Calls.{writing};
 ghost use Rattle.encoder.specs.Filled.{Put, Filled};
-ghost use Rattle.writer.specs.Answers.{Answers};
 ghost use Rattle.writer.specs.Rooms.{Room};
 ghost use Rattle.writer.specs.Shapes.{Shaped};
-use crate::answer::Writing;
-use crate::answer::answer;
 use crate::blocks::bits_of;
 use crate::blocks::block_number;
 use crate::blocks::blocks;
@@ -117,7 +113,7 @@ fn counter_module(width: u16, shape: Shape, numbers: &mut [u16], at: usize) -> u
 }
 
 // The whole file, and how many numbers it has.
-fn file(width: u16, numbers: &mut [u16]) -> usize
+pub fn file(width: u16, numbers: &mut [u16]) -> usize
     requires { ⌜ (1 ≤ width) × (width ≤ 64) × (773 ≤ length (now numbers)) ⌝ }
     ensures { λ r. ⌜ Filled (fileNumbers (counterOf width)) (now (numbers .entry)) (now (numbers .exit)) r ⌝ }
 {
@@ -125,21 +121,4 @@ fn file(width: u16, numbers: &mut [u16]) -> usize
     let first = copy(&[shape.digits], numbers, 0);
     let second = counter_module(width, shape, numbers, first);
     blocks(shape.digits - 1, numbers, second)
-}
-
-// Writes the leading-zero counter of a width into `out`: 23 where the width is outside 1 to 64, then 22.
-pub fn counter(width: usize, out: &mut [u8]) -> Writing
-    ensures { λ r. ⌜ Answers (writing counterOf width (length (now (out .entry)))) (now (out .entry)) (now (out .exit)) r ⌝ }
-{
-    match width {
-        1..=64 => {
-            let mut numbers = [0u16; 773];
-            let count = file(width as u16, &mut numbers);
-            answer(&numbers[..count], out)
-        }
-        _ => Writing::Refused {
-            number: 23,
-            place: 0,
-        },
-    }
 }

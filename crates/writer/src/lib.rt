@@ -5,10 +5,11 @@ mod blocks;
 mod choice;
 mod counting;
 mod kinds;
+mod order;
 mod pieces;
 mod ripple;
 mod rows;
 
 pub use answer::Writing;
-pub use counting::counter;
-pub use ripple::adder;
+pub use order::adder;
+pub use order::counter;

@@ -4,11 +4,7 @@ ghost use Prim.Native.Nat.{_+_, _*_, _≤_};
 ghost use lib.ListN.{length};
 ghost use Rattle.meaning.specs.Layout.{each, occurrenceNumbers, moduleNumbers, fileNumbers};
 ghost use Rattle.meaning.specs.Adder.{adder as adderOf, rippleAdder, fullAdder, halfAdder};
-ghost use Rattle.meaning.specs.Calls.{writing};
 ghost use Rattle.encoder.specs.Filled.{Put, Filled};
-ghost use Rattle.writer.specs.Answers.{Answers};
-use crate::answer::Writing;
-use crate::answer::answer;
 use crate::pieces::copy;
 use crate::pieces::run;
 
@@ -67,7 +63,7 @@ fn ripple_adder(width: u16, numbers: &mut [u16], at: usize) -> usize
 }
 
 // The whole file, and how many numbers it has.
-fn file(width: u16, numbers: &mut [u16]) -> usize
+pub fn file(width: u16, numbers: &mut [u16]) -> usize
     requires { ⌜ (width ≤ 64) × (760 ≤ length (now numbers)) ⌝ }
     ensures { λ r. ⌜ Filled (fileNumbers (adderOf width)) (now (numbers .entry)) (now (numbers .exit)) r ⌝ }
 {
@@ -75,21 +71,4 @@ fn file(width: u16, numbers: &mut [u16]) -> usize
     let second = ripple_adder(width, numbers, first);
     let third = full_adder(numbers, second);
     half_adder(numbers, third)
-}
-
-// Writes the adder of a width into `out`: 23 where the width is outside 1 to 64, then 22.
-pub fn adder(width: usize, out: &mut [u8]) -> Writing
-    ensures { λ r. ⌜ Answers (writing adderOf width (length (now (out .entry)))) (now (out .entry)) (now (out .exit)) r ⌝ }
-{
-    match width {
-        1..=64 => {
-            let mut numbers = [0u16; 760];
-            let count = file(width as u16, &mut numbers);
-            answer(&numbers[..count], out)
-        }
-        _ => Writing::Refused {
-            number: 23,
-            place: 0,
-        },
-    }
 }
