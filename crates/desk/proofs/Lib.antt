@@ -1,4 +1,7 @@
 -- Facts that the proofs cite.
-pub mod Seeking
-pub mod Checking
+pub mod ModuleSearch
+pub mod ModuleSought
+pub mod StageAnswers
+pub mod Tabling
+pub mod Zeros
 pub mod ReadyFile

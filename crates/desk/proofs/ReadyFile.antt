@@ -9,32 +9,38 @@ use Rattle.meaning.specs.Lists.{All, none, more}
 use Rattle.meaning.specs.Syntax.{Module}
 use Rattle.meaning.specs.Layout.{fileNumbers}
 use Rattle.meaning.specs.Ceilings.{Bytes, Small, Within}
-use Rattle.meaning.specs.Reading.{File, holds, fails, read}
+use Rattle.meaning.specs.Reading.{File, holds, fails, read, mostModules}
 use Rattle.meaning.specs.Verdict.{Verdict, good, refused, fileVerdict, verdictOf, verdict}
 use Rattle.laws.specs.Exactness.{exactness}
-use Rattle.nets.specs.Slots.{Below}
 use Rattle.image.specs.Resolved.{resolve}
 use Rattle.image.specs.ResolvedLayout.{startOf, length-of-image}
 use Rattle.reader.specs.Answer.{Decoded, readingOf}
 use Rattle.reader.specs.Held.{Held, held, IsRead, is-read, is-refused, inFront}
 use Rattle.reader.specs.declared.Reading.{Reading}
-use Rattle.checker.specs.Files.{Laidout, FileReady}
+use Rattle.checker.specs.Files.{Laidout}
 use Rattle.desk.specs.Prepared.{Space, Desk, Opened, Prepares}
-use Rattle.desk.specs.Stages.{CheckedStage, Figured, Stage, Checks}
+use Rattle.desk.specs.Stages.{NumbersStage, Figured, Stage, Checks}
 use Rattle.desk.specs.declared.preparing.Prepared.{Prepared}
 use Rattle.desk.specs.declared.preparing.Prepared.the-variants.{Ready, Refused}
 
--- Small numbers are indices of a table that is long enough.
-small-below : (bound : ℕ) → 16384 ≤ bound → (xs : List ℕ) → All Small xs → (i : ℕ) → getD xs i 0 < bound
-small-below bound h [] a i = omega arith
-small-below bound h (x ∷ xs) (more s a) ℕ.zero = omega (arith, s)
-small-below bound h (x ∷ xs) (more s a) (suc i) = small-below bound h xs a i
+-- Numbers of a file are below 16,384, wherever they stand.
+small-below : (xs : List ℕ) → All Small xs → (i : ℕ) → getD xs i 0 < 16384
+small-below [] a i = omega arith
+small-below (x ∷ xs) (more s a) ℕ.zero = omega (arith, s)
+small-below (x ∷ xs) (more s a) (suc i) = small-below xs a i
 
 -- A refusal of reading is the file's verdict.
 pub read-refused : {file numbers numbers′ starts starts′ offsets offsets′ : List ℕ} {reading : Reading} (number place : ℕ) → Decoded file numbers numbers′ starts starts′ offsets offsets′ reading
     → reading ≡ Reading.Refused number place → verdict file ≡ refused number place
 unfolding verdict
 read-refused {file} number place d e = ap verdictOf (is-refused {file = read file} {number = number} {place = place} (sym e ∙ d .answers))
+
+-- The tables by position have an entry for each module.
+pub record Long (starts nets sizes rooms : List ℕ) : Type 0 where
+  pub startsLong : mostModules ≤ length starts
+  pub netsLong : mostModules ≤ length nets
+  pub sizesLong : mostModules ≤ length sizes
+  pub roomsLong : mostModules ≤ length rooms
 
 module _ {file numbers numbers′ starts starts′ offsets offsets′ : List ℕ} {reading : Reading} (bytes : Bytes file)
     (d : Decoded file numbers numbers′ starts starts′ offsets offsets′ reading) (modules count : ℕ) (e : reading ≡ Reading.Read modules count)
@@ -87,48 +93,31 @@ module _ {file numbers numbers′ starts starts′ offsets offsets′ : List ℕ
         }
 
     -- The stage behind reading can be entered.
-    pub stage-ready : {first slots marks image nets sizes rooms : List ℕ} → Space file numbers starts offsets first slots marks image nets sizes rooms → length starts′ ≡ length starts → length numbers′ ≡ length numbers
-        → CheckedStage (take count numbers′) starts′ modules first slots marks (take count image) nets sizes rooms
-    stage-ready {first} {slots} {marks} {image} {nets} {sizes} {rooms} s startsKept numbersKept =
+    pub stage-ready : {image nets sizes rooms : List ℕ} → Space file numbers starts image nets sizes rooms → length starts′ ≡ length starts → length numbers′ ≡ length numbers
+        → NumbersStage 16384 (take count numbers′) starts′ modules (take count image) nets sizes rooms
+    stage-ready {image} s startsKept numbersKept =
         let l = laidout (omega (arith, s .startsLong)) in
-        let long : length (take count numbers′) ≡ count = length-take-le count numbers′ (omega (arith, count-long .0, s .numbersLong)) in
-        let wide : length (take count image) ≡ count = length-take-le count image (omega (arith, count-long .0, s .imageLong)) in
+        let long : length (take count numbers′) ≡ count = length-take-le count numbers′ (omega (arith, count-long .0, count-long .1, s .numbersLong)) in
+        let wide : length (take count image) ≡ count = length-take-le count image (omega (arith, count-long .0, count-long .1, s .imageLong)) in
         record {
-          ready =
-              record {
-                ms = ms;
-                laidout = l;
-                roomy =
-                    record {
-                      tables =
-                          record {
-                            indexFirst = below (length first) (s .firstLong);
-                            indexSlots = below (length slots) (s .slotsLong);
-                            indexMarks = below (length marks) (s .marksLong);
-                            short = omega (arith, count-long .0);
-                          };
-                      room = omega arith;
-                      netsLong = omega (arith, all, within .modules .count, s .netsLong);
-                    };
-                clearFirst = s .clearFirst;
-                clearSlots = s .clearSlots;
-                clearMarks = s .clearMarks;
-              };
+          ms = ms;
+          laidout = l;
+          below = record { below = λ i. subst (λ (xs : List ℕ). getD xs i 0 < 16384) (sym numbers-are) (small-below (fileNumbers ms) (kept .small) i) };
+          short = omega (arith, count-long .0);
           exact = wide ∙ sym long;
+          netsLong = omega (arith, all, within .modules .count, s .netsLong);
           sizesLong = omega (arith, all, within .modules .count, s .sizesLong);
           roomsLong = omega (arith, all, within .modules .count, s .roomsLong);
         }
-      where
-        below : (bound : ℕ) → 16384 ≤ bound → Below bound (take count numbers′)
-        below bound h = record { below = λ i. subst (λ (xs : List ℕ). getD xs i 0 < bound) (sym numbers-are) (small-below bound h (fileNumbers ms) (kept .small) i) }
 
     -- The answer of the stage is the answer on the file.
-    pub prepared : (r : Prepared) (image image₁ nets sizes rooms : List ℕ) → 128 ≤ length starts′ → count ≤ length numbers′ → Checks r (take count numbers′) starts′ modules image₁ nets sizes rooms
+    pub prepared : (r : Prepared) (image image₁ nets sizes rooms : List ℕ) → Long starts′ nets sizes rooms → count ≤ length numbers′ → Checks r (take count numbers′) starts′ modules image₁ nets sizes rooms
         → Prepares r file numbers′ starts′ (image₁ ++ drop count image) nets sizes rooms
     unfolding verdict
-    prepared (Refused number place) image image₁ nets sizes rooms long room checks = ap verdictOf reads ∙ checks .checks ms (laidout long)
+    prepared (Refused number place) image image₁ nets sizes rooms long room checks = ap verdictOf reads ∙ checks .checks ms (laidout (long .startsLong))
     prepared (Ready n count′) image image₁ nets sizes rooms long room checks =
-        let c = checks .checks ms (laidout long) in
+        let few = within .modules .count in
+        let c = checks .checks ms (laidout (long .startsLong)) in
         let f = c .2 in
         let same : count′ ≡ count = c .1 ∙ length-take-le count numbers′ room in
         record {
@@ -143,6 +132,10 @@ module _ {file numbers numbers′ starts starts′ offsets offsets′ : List ℕ
                 numbersAre = ap (λ (k : ℕ). take k numbers′) same ∙ numbers-are;
                 imageIs =
                     take-at image₁ (drop count image) count′ (ap length (f .imageIs) ∙ length-of-image ms ∙ sym (same ∙ many)) ∙ f .imageIs;
+                startsLong = omega (arith, few, long .startsLong);
+                netsLong = omega (arith, few, long .netsLong);
+                sizesLong = omega (arith, few, long .sizesLong);
+                roomsLong = omega (arith, few, long .roomsLong);
                 startsAre = starts-are;
                 netsAre = f .netsAre;
                 sizesAre = f .sizesAre;

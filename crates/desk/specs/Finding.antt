@@ -26,6 +26,7 @@ pub record FoundAt (ms : List Module) (number k : ℕ) : Type 0 where
   pub m : Module
   pub later : List Module
   pub here : drop k ms ≡ m ∷ later
+  pub named : m .number ≡ number
   pub found : assoc number ms ≡ box m
   pub placed : positionOf number ms ≡ k
 

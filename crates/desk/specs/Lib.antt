@@ -2,3 +2,5 @@
 pub mod Finding
 pub mod Prepared
 pub mod Stages
+pub mod Sought
+pub mod Holding

@@ -1,5 +1,5 @@
 -- A file made ready for calls: read, checked and measured.
-use Prim.Native.Nat.{ℕ, _+_, _≤_, _<_}
+use Prim.Native.Nat.{ℕ, _+_, _≤_, _<_, min}
 use mathlib.Core.Path.{_≡_}
 use mathlib.Core.List.{List, _∷_}
 use lib.ListN.{length, getD, take, drop}
@@ -7,7 +7,7 @@ use Rattle.meaning.specs.Syntax.{Module}
 use Rattle.meaning.specs.Layout.{fileNumbers}
 use Rattle.meaning.specs.Limits.{netCount, bodySize, expandedSize}
 use Rattle.meaning.specs.Figures.{largestReferred, room}
-use Rattle.meaning.specs.Reading.{holds, read}
+use Rattle.meaning.specs.Reading.{holds, read, mostBytes, mostModules}
 use Rattle.meaning.specs.Ceilings.{Within}
 use Rattle.meaning.specs.Verdict.{good, refused, fileVerdict, verdict}
 use Rattle.image.specs.Resolved.{resolve}
@@ -15,21 +15,14 @@ use Rattle.image.specs.ResolvedLayout.{startOf}
 use Rattle.desk.specs.declared.preparing.Prepared.{Prepared}
 use Rattle.desk.specs.declared.preparing.Prepared.the-variants.{Ready, Refused}
 
--- The lists that the work is done in: long enough for the file, every number of a file an index of the tables, and these all 0.
-pub record Space (file numbers starts offsets first slots marks image nets sizes rooms : List ℕ) : Type 0 where
-  pub numbersLong : 65535 ≤ length numbers
-  pub imageLong : 65535 ≤ length image
-  pub startsLong : 128 ≤ length starts
-  pub offsetsLong : 128 ≤ length offsets
-  pub netsLong : 128 ≤ length nets
-  pub sizesLong : 128 ≤ length sizes
-  pub roomsLong : 128 ≤ length rooms
-  pub firstLong : 16384 ≤ length first
-  pub slotsLong : 16384 ≤ length slots
-  pub marksLong : 16384 ≤ length marks
-  pub clearFirst : (x : ℕ) → getD first x 0 ≡ 0
-  pub clearSlots : (x : ℕ) → getD slots x 0 ≡ 0
-  pub clearMarks : (x : ℕ) → getD marks x 0 ≡ 0
+-- The lists that the work is done in are long enough for the file.
+pub record Space (file numbers starts image nets sizes rooms : List ℕ) : Type 0 where
+  pub numbersLong : min (length file) mostBytes ≤ length numbers
+  pub imageLong : min (length file) mostBytes ≤ length image
+  pub startsLong : mostModules ≤ length starts
+  pub netsLong : mostModules ≤ length nets
+  pub sizesLong : mostModules ≤ length sizes
+  pub roomsLong : mostModules ≤ length rooms
 
 -- What the lists hold of an accepted file.
 pub record Desk (ms : List Module) (modules count : ℕ) (numbers starts image nets sizes rooms : List ℕ) : Type 0 where
@@ -39,6 +32,10 @@ pub record Desk (ms : List Module) (modules count : ℕ) (numbers starts image n
   pub many : count ≡ length (fileNumbers ms)
   pub numbersAre : take count numbers ≡ fileNumbers ms
   pub imageIs : take count image ≡ fileNumbers (resolve ms)
+  pub startsLong : length ms ≤ length starts
+  pub netsLong : length ms ≤ length nets
+  pub sizesLong : length ms ≤ length sizes
+  pub roomsLong : length ms ≤ length rooms
   pub startsAre : (k : ℕ) → k < length ms → getD starts k 0 ≡ startOf ms k
   pub netsAre : (k : ℕ) (m : Module) (later : List Module) → drop k ms ≡ m ∷ later → getD nets k 0 ≡ netCount m
   pub sizesAre : (k : ℕ) (m : Module) (later : List Module) → drop k ms ≡ m ∷ later → getD sizes k 0 ≡ bodySize (expandedSize later) (m .occurrences)

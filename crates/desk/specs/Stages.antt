@@ -7,12 +7,30 @@ use Rattle.meaning.specs.Syntax.{Module}
 use Rattle.meaning.specs.Layout.{fileNumbers}
 use Rattle.meaning.specs.Limits.{netCount, bodySize, expandedSize}
 use Rattle.meaning.specs.Figures.{largestReferred, room}
+use Rattle.meaning.specs.Reading.{mostBytes}
 use Rattle.meaning.specs.Verdict.{good, refused, fileVerdict}
+use Rattle.nets.specs.Slots.{Below}
 use Rattle.image.specs.Resolved.{resolve}
 use Rattle.checker.specs.Files.{FileReady, Laidout}
 use Rattle.desk.specs.declared.preparing.Prepared.{Prepared}
 use Rattle.desk.specs.declared.preparing.Prepared.the-variants.{Ready, Refused}
 
+-- The numbers of a file, each below a bound, and lists that are long enough for what the check leaves.
+pub record NumbersStage (bound : ℕ) (numbers starts : List ℕ) (modules : ℕ) (image nets sizes rooms : List ℕ) : Type 0 where
+  pub ms : List Module
+  pub laidout : Laidout numbers starts modules ms
+  pub below : Below bound numbers
+  pub short : length numbers ≤ mostBytes
+  pub exact : length image ≡ length numbers
+  pub netsLong : modules ≤ length nets
+  pub sizesLong : modules ≤ length sizes
+  pub roomsLong : modules ≤ length rooms
+
+-- A table that is all 0.
+pub record Clear (table : List ℕ) : Type 0 where
+  pub zero : (x : ℕ) → getD table x 0 ≡ 0
+
+-- The tables are there too, indexed by the numbers.
 pub record CheckedStage (numbers starts : List ℕ) (modules : ℕ) (first slots marks image nets sizes rooms : List ℕ) : Type 0 where
   pub ready : FileReady numbers starts modules first slots marks image nets
   pub exact : length image ≡ length numbers

@@ -7,7 +7,7 @@ use lib.ListN.{length, getD}
 use borrow.Author.Needs.{needs}
 use Rattle.meaning.specs.Syntax.{Module}
 use Rattle.desk.specs.Finding.{Searchable, Standing}
-use Rattle.desk.proofs.Seeking.{Sought, sought-none, sought-here, sought-more, sought-all, here-at, Numbered, numbered}
+use Rattle.desk.proofs.ModuleSearch.{Sought, sought-none, sought-here, sought-more, sought-all, here-at, Numbered, numbered}
 use Rattle.desk.proofs.finding.find.Statement.{statement}
 use Rattle.desk.proofs.finding.find.Tie as tie
 

@@ -44,6 +44,7 @@ module _ {ms : List Module} {number k : ℕ} (s : Sought ms number k) where
         m = h .m;
         later = h .later;
         here = h .here;
+        named = e;
         found = s .same ∙ rw (h .here, t);
         placed = s .further ∙ rw (h .here, t) (omega arith);
       }

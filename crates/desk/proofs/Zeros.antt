@@ -2,7 +2,7 @@
 use Prim.Native.Nat.{ℕ, zero, suc}
 use mathlib.Core.Path.{_≡_, refl}
 use lib.ListN.{getD, replicate}
-use Rattle.shelf.specs.Tables.{Clear}
+use Rattle.desk.specs.Stages.{Clear}
 
 pub zeros : (n : ℕ) → Clear (replicate n 0)
 zeros n = record { zero = zero-at n }

@@ -1,10 +1,10 @@
 -- The three ways: a broken rule, a size over its limit, all fine.
 use borrow.Author.Needs.{needs}
-use Rattle.desk.proofs.Checking.{stage-broken, stage-over, stage-fine, measurable}
-use Rattle.desk.proofs.preparing.check_numbers.Statement.{statement}
-use Rattle.desk.proofs.preparing.check_numbers.Tie as tie
-use Rattle.desk.proofs.preparing.check_numbers.Reads as reads
-use Rattle.desk.proofs.preparing.check_numbers.Lts as lts
+use Rattle.desk.proofs.StageAnswers.{stage-broken, stage-over, stage-fine, measurable}
+use Rattle.desk.proofs.checking.check_in.Statement.{statement}
+use Rattle.desk.proofs.checking.check_in.Tie as tie
+use Rattle.desk.proofs.checking.check_in.Reads as reads
+use Rattle.desk.proofs.checking.check_in.Lts as lts
 use Rattle.checker.proofs.files.check_modules.Reads as check-modules-reads
 use Rattle.sizes.proofs.measure.Reads as measure-reads
 
@@ -131,8 +131,8 @@ returns-3 c =
     let z = c .before .before .before .before .before .before .measure in
     stage-fine (c .before .before .before .before .before .before .before .before .before .before .before .before .before .before .before .before .before .before .before .before .before .before .before .before .before .before .before .before .before .before .before .before .before .before .before .before .before .before .pre) (m .result) (m .last .1 .1 .1 .1 .1 .1 .0) (m .last .1 .1 .1 .1 .1 .1 .1 .0) (m .ensures) (c .before .before .before .before .before .before .before .before .before .before .before .enum-told .given .1) (z .result) (z .last .1 .1 .1 .1 .0) (z .last .1 .1 .1 .1 .1 .0) (z .ensures) (c .enum-told2 .given .1)
 
-pub check-numbers-spec : {M : Type 1} → statement M
-check-numbers-spec =
+pub check-in-spec : {M : Type 1} → statement M
+check-in-spec =
     tie.close
     (tie.spec
     check-modules-requires
