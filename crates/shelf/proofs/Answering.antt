@@ -7,7 +7,7 @@ use Rattle.desk.specs.declared.preparing.Prepared.{Prepared}
 use Rattle.desk.specs.declared.preparing.Prepared.the-variants.{Ready, Refused}
 use Rattle.desk.specs.Prepared.{Opened, Prepares}
 use Rattle.shelf.specs.Answers.{checkOf}
-use Rattle.shelf.specs.declared.Checked.the-variants.{Good, Broken}
+use Rattle.shelf.specs.declared.judged.Checked.the-variants.{Good, Broken}
 
 module _ (file numbers starts image nets sizes rooms : List ℕ)
   where

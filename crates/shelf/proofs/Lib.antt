@@ -1,3 +1,2 @@
 -- What the library's answers rest on.
 pub mod Answering
-pub mod Zeros

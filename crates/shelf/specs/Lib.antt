@@ -1,3 +1,2 @@
 -- What the library answers, in document 01's numbers.
 pub mod Answers
-pub mod Tables
