@@ -1,0 +1,2 @@
+-- What the C face hands back.
+pub mod Results

@@ -1,0 +1,22 @@
+// The check.
+use shelf::Checked;
+ghost use mathlib.Core.Path.{_≡_};
+ghost use Rattle.meaning.specs.Verdict.{verdict};
+ghost use Rattle.shelf.specs.Answers.{checkOf, numberOf, placeOf};
+
+#[no_mangle]
+pub extern "C" fn shelf_check(file: &[u8], place: &mut usize) -> u16
+    ensures { λ r. ⌜ r ≡ numberOf (checkOf (verdict (now (file .entry)))) ⌝ }
+    ensures { λ _. ⌜ now (place .exit) ≡ placeOf (checkOf (verdict (now (file .entry)))) ⌝ }
+{
+    match shelf::check(file) {
+        Checked::Good => {
+            *place = 0;
+            0
+        }
+        Checked::Broken { number, place: at } => {
+            *place = at;
+            number
+        }
+    }
+}

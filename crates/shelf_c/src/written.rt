@@ -1,0 +1,54 @@
+// Modules written to order.
+use writer::Writing;
+ghost use mathlib.Core.Path.{_≡_};
+ghost use lib.ListN.{length};
+ghost use Rattle.meaning.specs.Adder.{adder as adderOf};
+ghost use Rattle.meaning.specs.Counter.{counter as counterOf};
+ghost use Rattle.meaning.specs.Calls.{writing, outAfter};
+ghost use Rattle.shelf_c.specs.Results.{Reports, numberIn, writtenIn, placeIn};
+
+// Hands back the three numbers of an answer.
+pub(crate) fn report(answer: Writing, written: &mut usize, place: &mut usize) -> u16
+    ensures { λ r. ⌜ r ≡ numberIn answer ⌝ }
+    ensures { λ _. ⌜ now (written .exit) ≡ writtenIn answer ⌝ }
+    ensures { λ _. ⌜ now (place .exit) ≡ placeIn answer ⌝ }
+{
+    match answer {
+        Writing::Wrote(count) => {
+            *written = count;
+            *place = 0;
+            0
+        }
+        Writing::Refused { number, place: at } => {
+            *written = 0;
+            *place = at;
+            number
+        }
+    }
+}
+
+#[no_mangle]
+pub extern "C" fn shelf_adder(
+    width: usize,
+    out: &mut [u8],
+    written: &mut usize,
+    place: &mut usize,
+) -> u16
+    ensures { λ r. ⌜ Reports (writing adderOf width (length (now (out .entry)))) r (now (written .exit)) (now (place .exit)) ⌝ }
+    ensures { λ _. ⌜ now (out .exit) ≡ outAfter (writing adderOf width (length (now (out .entry)))) (now (out .entry)) ⌝ }
+{
+    report(shelf::adder(width, out), written, place)
+}
+
+#[no_mangle]
+pub extern "C" fn shelf_counter(
+    width: usize,
+    out: &mut [u8],
+    written: &mut usize,
+    place: &mut usize,
+) -> u16
+    ensures { λ r. ⌜ Reports (writing counterOf width (length (now (out .entry)))) r (now (written .exit)) (now (place .exit)) ⌝ }
+    ensures { λ _. ⌜ now (out .exit) ≡ outAfter (writing counterOf width (length (now (out .entry)))) (now (out .entry)) ⌝ }
+{
+    report(shelf::counter(width, out), written, place)
+}
