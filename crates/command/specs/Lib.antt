@@ -1,0 +1,2 @@
+-- Where words stand.
+pub mod Words

@@ -1,0 +1,115 @@
+// A command line: words that each end with a byte of 0.
+ghost use Prim.Native.Nat.{_≤_};
+ghost use lib.ListN.{length};
+ghost use Rattle.io.specs.Counts.{Counts};
+ghost use Rattle.command.specs.Words.{Inside};
+
+// Where a word stands in its line.
+pub(crate) struct Word {
+    pub from: usize,
+    pub to: usize,
+}
+
+// Where the word that begins at a place ends.
+fn end_of(line: &[u8], from: usize) -> usize
+    requires { ⌜ from ≤ length (now line) ⌝ }
+    ensures { λ r. ⌜ from ≤ r ⌝ }
+    ensures { λ r. ⌜ r ≤ length (now (line .entry)) ⌝ }
+{
+    let mut to = from;
+    while to < line.len() {
+        if line[to] == 0 {
+            return to;
+        }
+        to += 1;
+    }
+    to
+}
+
+// How many words a line has.
+pub(crate) fn count(line: &[u8]) -> usize {
+    let mut words = 0;
+    let mut from = 0;
+    while from < line.len() {
+        from = end_of(line, from);
+        if from == line.len() {
+            return words;
+        }
+        from += 1;
+        words += 1;
+    }
+    words
+}
+
+// The word with so many words in front of it; an empty one where the line has no such word.
+pub(crate) fn word_at(line: &[u8], before: usize) -> Word
+    ensures { λ r. ⌜ Inside (now (line .entry)) r ⌝ }
+{
+    let mut from = 0;
+    let mut left = before;
+    while 0 < left {
+        let to = end_of(line, from);
+        if to == line.len() {
+            return Word { from: to, to };
+        }
+        from = to + 1;
+        left -= 1;
+    }
+    let to = end_of(line, from);
+    Word { from, to }
+}
+
+// As many of the bytes as are counted, at most all.
+pub fn at_most(count: usize, bytes: &[u8]) -> usize
+    ensures { λ r. ⌜ Counts r (now (bytes .entry)) ⌝ }
+{
+    if bytes.len() < count {
+        bytes.len()
+    } else {
+        count
+    }
+}
+
+// Whether a word is the one named.
+pub(crate) fn is(word: &[u8], name: &[u8]) -> bool {
+    if word.len() != name.len() {
+        return false;
+    }
+    for i in 0..word.len() {
+        if word[i] != name[i] {
+            return false;
+        }
+    }
+    true
+}
+
+// What a word says in decimal.
+pub(crate) enum Parsed {
+    Number(u16),
+    Other,
+}
+
+// A number from 0 to 65,535 in decimal.
+pub(crate) fn parse(word: &[u8]) -> Parsed {
+    if word.len() == 0 {
+        return Parsed::Other;
+    }
+    let mut value: u32 = 0;
+    for i in 0..word.len() {
+        let digit = word[i];
+        if digit < b'0' {
+            return Parsed::Other;
+        }
+        if b'9' < digit {
+            return Parsed::Other;
+        }
+        if 6553 < value {
+            return Parsed::Other;
+        }
+        value = 10 * value + (digit - b'0') as u32;
+    }
+    if 65535 < value {
+        return Parsed::Other;
+    }
+    Parsed::Number(value as u16)
+}

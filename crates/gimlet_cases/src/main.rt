@@ -1,0 +1,62 @@
+// Performs the command of each line of standard input, and prints the line in front of what it says. Words are parted by spaces; two
+// spaces side by side have an empty word between them.
+use libc::STDIN_FILENO;
+use libc::STDOUT_FILENO;
+ghost use Prim.Native.Nat.{_≤_};
+ghost use lib.ListN.{length};
+
+fn main() {
+    let mut lines = io::large_buffer();
+    let long = io::read_full(STDIN_FILENO, &mut lines);
+    perform_all(&mut lines[..long]);
+}
+
+// Line after line. A line that does not end is not performed.
+fn perform_all(lines: &mut [u8]) {
+    let mut from = 0;
+    while from < lines.len() {
+        let to = line_end(lines, from);
+        if to == lines.len() {
+            return;
+        }
+        let next = to + 1;
+        io::write_all(STDOUT_FILENO, b"> ");
+        io::write_all(STDOUT_FILENO, &lines[from..next]);
+        end_words(lines, from, next);
+        command::perform(&lines[from..next]);
+        from = next;
+    }
+}
+
+// Where the line that begins at a place has its line feed; the end of all lines where it has none.
+fn line_end(lines: &[u8], from: usize) -> usize
+    requires { ⌜ from ≤ length (now lines) ⌝ }
+    ensures { λ r. ⌜ from ≤ r ⌝ }
+    ensures { λ r. ⌜ r ≤ length (now (lines .entry)) ⌝ }
+{
+    let mut to = from;
+    while to < lines.len() {
+        if lines[to] == b'\n' {
+            return to;
+        }
+        to += 1;
+    }
+    to
+}
+
+// A byte of 0 in place of each space and of the line feed.
+fn end_words(lines: &mut [u8], from: usize, to: usize)
+    requires { ⌜ to ≤ length (now lines) ⌝ }
+{
+    for i in from..to {
+        lines[i] = word_byte(lines[i]);
+    }
+}
+
+fn word_byte(byte: u8) -> u8 {
+    match byte {
+        b' ' => 0,
+        b'\n' => 0,
+        _ => byte,
+    }
+}
