@@ -1,0 +1,53 @@
+-- Each refusal of 19 to 22 once those before it are passed, and that a refused call leaves what was lent.
+use Prim.Native.Nat.{ℕ, _≤_, _<_}
+use mathlib.Core.Path.{_≡_, sym, ap}
+use mathlib.Core.List.{List}
+use native.Mathlib.Omega.{arith}
+use borrow.Author.Tests.{eq-eqb, ne-eqb, le-leb, lt-leb}
+use lib.ListN.{length}
+use Rattle.meaning.specs.Figures.{room}
+use Rattle.meaning.specs.Calls.{Decision, refusal, firstAbove, Written, outAfter, scratchAfter}
+use Rattle.writer.specs.Answers.{writingOf}
+use Rattle.writer.specs.declared.answer.Writing.the-variants.{Refused}
+use Rattle.evaluating.specs.Evaluates.{Settles}
+use Rattle.evaluating.specs.Found.{Found, asked}
+
+pub refused :
+    {d : Decision Written} {number place : ℕ} (scratch out : List ℕ) → d ≡ refusal number place
+    → Settles d scratch out scratch out (Refused number place)
+refused scratch out e =
+    record {
+      answered =
+          record { is = sym (ap writingOf e); out = sym (ap (λ (d : Decision Written). outAfter d out) e) };
+      scratched = sym (ap (λ (d : Decision Written). scratchAfter (λ w. w .cleared) d scratch) e);
+    }
+
+module _ {image starts nets : List ℕ} {k given : ℕ} (f : Found image starts nets k given) (values scratch out : List ℕ) where
+  abbrev decision : Decision Written
+  decision = asked (f .number) values (length scratch) (length out) (f .ms) (f .m)
+
+  pub other-count : (length values ≡ length (f .m .inputs) → ⊥) → Settles decision scratch out scratch out (Refused 19 0)
+  unfolding asked
+  other-count apart = refused scratch out (rw (ne-eqb _ _ apart))
+
+  module _ (fed : length values ≡ length (f .m .inputs)) where
+    pub value-above :
+        {above : ℕ} → above ≡ firstAbove values → above < length values → Settles decision scratch out scratch out (Refused 20 above)
+    unfolding asked
+    value-above is within =
+        refused scratch out (rw (eq-eqb _ _ fed, ne-eqb (firstAbove values) (length values) (λ e. omega (arith, is, within, e)), is))
+
+    module _ (small : firstAbove values ≡ length values) where
+      pub scratch-short : length scratch < given → Settles decision scratch out scratch out (Refused 21 0)
+      unfolding asked
+      scratch-short short =
+          refused scratch out
+          (rw (eq-eqb _ _ fed, eq-eqb _ _ small, lt-leb (room (f .ms) (f .number)) (length scratch) (omega (arith, f .roomy, short))))
+
+      pub out-short :
+          given ≤ length scratch → length out < length (f .m .outputs) → Settles decision scratch out scratch out (Refused 22 0)
+      unfolding asked
+      out-short wide short =
+          refused scratch out
+          (rw
+          (eq-eqb _ _ fed, eq-eqb _ _ small, le-leb (room (f .ms) (f .number)) (length scratch) (omega (arith, f .roomy, wide)), lt-leb _ _ short))

@@ -1,0 +1,195 @@
+// Evaluation: a module of a file run on values, some of which may be unknown.
+use desk::seeking::Sought;
+use writer::Writing;
+ghost use Prim.Native.Nat.{_≤_};
+ghost use lib.ListN.{length};
+ghost use Rattle.desk.specs.Prepared.{Space};
+ghost use Rattle.evaluating.specs.Evaluates.{Settles, Evaluates};
+ghost use Rattle.evaluating.specs.Found.{Found, asked};
+
+mod values;
+
+// Refusals 19 to 22 in their order, then the run: the module stands at position k of the image.
+fn evaluate_at(
+    image: &[u16],
+    starts: &[usize],
+    nets: &[usize],
+    k: usize,
+    room: usize,
+    values: &[u8],
+    scratch: &mut [u32],
+    out: &mut [u8],
+) -> Writing
+    requires { ⌜ Found (now image) (now starts) (now nets) k room ⌝ }
+    ensures { λ r.
+        ⌜ ((f : Found (now (image .entry)) (now (starts .entry)) (now (nets .entry)) k room)
+        → Settles (asked (f .number) (now (values .entry)) (length (now (scratch .entry))) (length (now (out .entry))) (f .ms) (f .m)) (now (scratch .entry)) (now (out .entry)) (now (scratch .exit)) (now (out .exit)) r) ⌝ }
+{
+    let header = runner::places::module_at(image, starts[k]);
+    let outputs = header.to - header.from;
+    if values.len() != header.inputs {
+        return Writing::Refused {
+            number: 19,
+            place: 0,
+        };
+    }
+    let above = crate::values::first_above(values);
+    if above < values.len() {
+        return Writing::Refused {
+            number: 20,
+            place: above,
+        };
+    }
+    if scratch.len() < room {
+        return Writing::Refused {
+            number: 21,
+            place: 0,
+        };
+    }
+    if out.len() < outputs {
+        return Writing::Refused {
+            number: 22,
+            place: 0,
+        };
+    }
+    runner::evaluate(image, starts, nets, k, room, values, scratch, out);
+    Writing::Wrote(outputs)
+}
+
+// The module of the number sought, with lists to work in.
+fn evaluate_in(
+    file: &[u8],
+    number: u16,
+    numbers: &mut [u16],
+    starts: &mut [usize],
+    image: &mut [u16],
+    nets: &mut [usize],
+    sizes: &mut [u32],
+    rooms: &mut [u32],
+    values: &[u8],
+    scratch: &mut [u32],
+    out: &mut [u8],
+) -> Writing
+    requires { ⌜ Space (now file) (now numbers) (now starts) (now image) (now nets) (now sizes) (now rooms) ⌝ }
+    ensures { λ r. ⌜ Evaluates (now (file .entry)) number (now (values .entry)) (now (scratch .entry)) (now (out .entry)) (now (scratch .exit)) (now (out .exit)) r ⌝ }
+{
+    match desk::seeking::seek(file, number, numbers, starts, image, nets, sizes, rooms) {
+        Sought::Refused { number, place } => Writing::Refused { number, place },
+        Sought::At(k) => {
+            let room = rooms[k] as usize;
+            evaluate_at(image, starts, nets, k, room, values, scratch, out)
+        }
+    }
+}
+
+// The call on a file of at most 1,024 bytes, which should not pay for clearing long lists.
+fn evaluate_short(
+    file: &[u8],
+    number: u16,
+    values: &[u8],
+    scratch: &mut [u32],
+    out: &mut [u8],
+) -> Writing
+    requires { ⌜ length (now file) ≤ 1024 ⌝ }
+    ensures { λ r. ⌜ Evaluates (now (file .entry)) number (now (values .entry)) (now (scratch .entry)) (now (out .entry)) (now (scratch .exit)) (now (out .exit)) r ⌝ }
+{
+    let mut numbers = [0u16; 1024];
+    let mut starts = [0usize; 128];
+    let mut image = [0u16; 1024];
+    let mut nets = [0usize; 128];
+    let mut sizes = [0u32; 128];
+    let mut rooms = [0u32; 128];
+    evaluate_in(
+        file,
+        number,
+        &mut numbers,
+        &mut starts,
+        &mut image,
+        &mut nets,
+        &mut sizes,
+        &mut rooms,
+        values,
+        scratch,
+        out,
+    )
+}
+
+// The call in long arrays of the caller's.
+fn evaluate_long(
+    file: &[u8],
+    number: u16,
+    numbers: &mut [u16; 65536],
+    starts: &mut [usize; 128],
+    image: &mut [u16; 65536],
+    nets: &mut [usize; 128],
+    sizes: &mut [u32; 128],
+    rooms: &mut [u32; 128],
+    values: &[u8],
+    scratch: &mut [u32],
+    out: &mut [u8],
+) -> Writing
+    ensures { λ r. ⌜ Evaluates (now (file .entry)) number (now (values .entry)) (now (scratch .entry)) (now (out .entry)) (now (scratch .exit)) (now (out .exit)) r ⌝ }
+{
+    evaluate_in(
+        file,
+        number,
+        numbers,
+        starts,
+        image,
+        nets,
+        sizes,
+        rooms,
+        values,
+        scratch,
+        out,
+    )
+}
+
+// The call on any file.
+fn evaluate_large(
+    file: &[u8],
+    number: u16,
+    values: &[u8],
+    scratch: &mut [u32],
+    out: &mut [u8],
+) -> Writing
+    ensures { λ r. ⌜ Evaluates (now (file .entry)) number (now (values .entry)) (now (scratch .entry)) (now (out .entry)) (now (scratch .exit)) (now (out .exit)) r ⌝ }
+{
+    let mut numbers = [0u16; 65536];
+    let mut starts = [0usize; 128];
+    let mut image = [0u16; 65536];
+    let mut nets = [0usize; 128];
+    let mut sizes = [0u32; 128];
+    let mut rooms = [0u32; 128];
+    evaluate_long(
+        file,
+        number,
+        &mut numbers,
+        &mut starts,
+        &mut image,
+        &mut nets,
+        &mut sizes,
+        &mut rooms,
+        values,
+        scratch,
+        out,
+    )
+}
+
+// The outputs of the module of a number for the values of its inputs, as the first bytes of `out`, or the refusal with its place. An
+// answer leaves 0 in the first room entries of scratch, and a refused call leaves both as they were.
+pub fn evaluate(
+    file: &[u8],
+    number: u16,
+    values: &[u8],
+    scratch: &mut [u32],
+    out: &mut [u8],
+) -> Writing
+    ensures { λ r. ⌜ Evaluates (now (file .entry)) number (now (values .entry)) (now (scratch .entry)) (now (out .entry)) (now (scratch .exit)) (now (out .exit)) r ⌝ }
+{
+    if file.len() <= 1024 {
+        evaluate_short(file, number, values, scratch, out)
+    } else {
+        evaluate_large(file, number, values, scratch, out)
+    }
+}

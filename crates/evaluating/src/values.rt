@@ -1,0 +1,17 @@
+// The values that a call is given.
+ghost use mathlib.Core.Path.{_≡_};
+ghost use Rattle.meaning.specs.Calls.{firstAbove};
+
+// The index of the first value above 2, or the count of values where there is none.
+pub(crate) fn first_above(values: &[u8]) -> usize
+    ensures { λ r. ⌜ r ≡ firstAbove (now (values .entry)) ⌝ }
+{
+    let mut i = 0;
+    while i < values.len() {
+        if 2 < values[i] {
+            return i;
+        }
+        i += 1;
+    }
+    i
+}
