@@ -1,0 +1,3 @@
+-- What the count's proofs share.
+pub mod FiguresHeld
+pub mod Outcomes
