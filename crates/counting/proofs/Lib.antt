@@ -1,3 +1,5 @@
--- What the count's proofs share.
+-- What the proofs of the calls share.
 pub mod FiguresHeld
 pub mod Outcomes
+pub mod Opening
+pub mod Found

@@ -1,3 +1,5 @@
--- What a count answers, and what it rests on.
+-- What the calls answer, and what they rest on.
 pub mod Answers
 pub mod Figuring
+pub mod Contents
+pub mod Looking

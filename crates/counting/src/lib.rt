@@ -1,6 +1,7 @@
 // The figures of a module of a file: refusals 1 to 18 and 21, then its inputs, outputs, tally, gates, expanded size, room, delay and
-// largest load.
+// largest load. And what a file holds: how many modules, and their numbers.
 pub mod answers;
+pub mod contents;
 mod working;
 
 use crate::answers::Counted;
