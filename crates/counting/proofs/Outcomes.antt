@@ -1,0 +1,103 @@
+-- What a count comes to at each of its ends, once the module of the number was sought.
+use Prim.Native.Nat.{ℕ, _≤_, _<_}
+use mathlib.Core.Path.{_≡_, refl, sym, ap, subst, _∙_}
+use mathlib.Core.Bool.{Bool, true, false}
+use mathlib.Core.List.{List, _∷_}
+use native.Mathlib.Omega.{arith}
+use borrow.Author.Tests.{le-leb, lt-leb}
+use lib.Dec.{leb}
+use lib.ListN.{length, getD, length-drop}
+use Rattle.meaning.specs.Syntax.{Module}
+use Rattle.meaning.specs.Figures.{room}
+use Rattle.meaning.specs.Ceilings.{ModuleWithin}
+use Rattle.meaning.specs.Calls.{Decision, refusal, answer, demand, counting, Figures as Meant}
+use Rattle.laws.specs.Standing.{stands, holds-standing}
+use Rattle.desk.specs.Sought.{Held, Unheld, Seeks}
+use Rattle.desk.specs.Holding.{held-accepted, held-stands, held-room, held-size, held-asks, unheld-refuses}
+use Rattle.desk.specs.declared.seeking.Sought.{Sought}
+use Rattle.desk.specs.declared.seeking.Sought.the-variants.{At, Refused}
+use Rattle.counting.specs.Answers.{Counts, refusedWith, countedOf}
+use Rattle.counting.specs.Figuring.{Figurable, Figured, figuresIn}
+use Rattle.counting.specs.declared.answers.Figures.{Figures}
+use Rattle.counting.specs.declared.answers.Counted.{Counted}
+
+-- A decision that is known.
+known :
+    {d e : Decision Meant} {before after : List ℕ} {result : Counted}
+    → d ≡ e
+    → Counts e before after result
+    → Counts d before after result
+known {before = before} {after} {result} same counts = subst (λ (x : Decision Meant). Counts x before after result) (sym same) counts
+
+-- The file is refused, or has no module of the number.
+pub unheld-counts :
+    {file : List ℕ} {number n p : ℕ} → Unheld file number n p → {result : Counted} → result ≡ refusedWith n p → (scratch : List ℕ)
+    → Counts (counting file number (length scratch)) scratch scratch result
+unfolding counting
+unheld-counts u is scratch = known (unheld-refuses u _) (record { is = is; scratch = refl })
+
+module _
+    {file : List ℕ} {number k : ℕ} {numbers starts image nets sizes rooms : List ℕ}
+    (h : Held file number k numbers starts image nets sizes rooms) where
+  -- The tables have an entry for the module, which is one of 128.
+  pub below-most : k < 128
+  below-most = omega (arith, ap length (h .found .here), length-drop k (h .ms), h .desk .within .modules .count)
+
+  pub in-rooms : k < length rooms
+  in-rooms = omega (arith, ap length (h .found .here), length-drop k (h .ms), h .desk .roomsLong)
+
+  pub in-sizes : k < length sizes
+  in-sizes = omega (arith, ap length (h .found .here), length-drop k (h .ms), h .desk .sizesLong)
+
+  decided : (scratch : List ℕ) {b : Bool} → leb (room (h .ms) number) (length scratch) ≡ b
+      → counting file number (length scratch) ≡ demand 21 0 b (answer (figuresIn (h .ms) number (h .found .m)))
+  unfolding counting
+  decided scratch e = held-asks h _ ∙ ap (λ (b : Bool). demand 21 0 b (answer (figuresIn (h .ms) number (h .found .m)))) e
+
+  -- 21: scratch has fewer entries than room.
+  pub short-counts :
+      (scratch : List ℕ) → length scratch < getD rooms k 0 → {result : Counted} → result ≡ refusedWith 21 0
+      → Counts (counting file number (length scratch)) scratch scratch result
+  short-counts scratch short is =
+      known (decided scratch (lt-leb (room (h .ms) number) (length scratch) (omega (arith, held-room h)))) (record { is = is; scratch = refl })
+
+  -- The figures can be worked out, and are the answer.
+  pub figurable :
+      (scratch : List ℕ) → getD rooms k 0 ≤ length scratch
+      → Figurable image starts nets k (getD sizes k 0) (getD rooms k 0) scratch
+  figurable scratch enough =
+      record {
+        ms = h .ms;
+        number = number;
+        accepted = held-accepted h;
+        found = h .found;
+        within = holds-standing (h .desk .within .modules .modules) (stands number (h .ms) (h .found .found));
+        stands = held-stands h;
+        startsLong = h .desk .startsLong;
+        netsLong = h .desk .netsLong;
+        netsAre = h .desk .netsAre;
+        sizeIs = held-size h;
+        roomIs = held-room h;
+        enough = enough;
+      }
+
+  pub answer-counts :
+      (scratch scratch′ : List ℕ) → getD rooms k 0 ≤ length scratch → (figures : Figures)
+      → ((s : Figurable image starts nets k (getD sizes k 0) (getD rooms k 0) scratch)
+      → Figured (s .ms) (s .number) (s .found .m) scratch scratch′ figures)
+      → Counts (counting file number (length scratch)) scratch scratch′ (record { number = 0; place = 0; figures = figures })
+  unfolding figurable
+  answer-counts scratch scratch′ enough figures told =
+      let f = told (figurable scratch enough) in
+      known (decided scratch (le-leb (room (h .ms) number) (length scratch) (omega (arith, held-room h))))
+      (record { is = ap (λ (x : Figures). record { number = 0; place = 0; figures = x }) (f .is); scratch = f .clean })
+
+-- What seeking says of its answer.
+module _
+    (file : List ℕ) (number : ℕ) (numbers starts image nets sizes rooms : List ℕ) (r : Sought)
+    (s : Seeks r file number numbers starts image nets sizes rooms) where
+  pub held : (k : ℕ) → r ≡ At k → Held file number k numbers starts image nets sizes rooms
+  held k e = subst (λ (x : Sought). Seeks x file number numbers starts image nets sizes rooms) e s
+
+  pub unheld : (n p : ℕ) → r ≡ Refused n p → Unheld file number n p
+  unheld n p e = subst (λ (x : Sought). Seeks x file number numbers starts image nets sizes rooms) e s
