@@ -49,7 +49,7 @@ module _ {image starts nets : List ℕ} {k number given : ℕ} (f : Found image 
   pub header-there : ModuleThere image (getD starts k 0)
   header-there = record { m = resolved; stands = stands }
 
-  pub inputs-counted :
+  inputs-counted :
       {header : Header}
       → ((m : Module) → Stands image (getD starts k 0) (moduleNumbers m) → HeaderOf (getD starts k 0) m header)
       → header .inputs ≡ length (f .m .inputs)
@@ -71,16 +71,13 @@ module _ {image starts nets : List ℕ} {k number given : ℕ} (f : Found image 
     pub counts-fit : total counts < 2 ^ 32
     counts-fit = subst (λ (l : List ℕ). total l < 2 ^ 32) (sym counts-are) (tally-fits accepted number)
 
-    pub gates-are : {gates : ℕ} → gates ≡ total counts → gates ≡ gateCount (f .ms) number
-    gates-are summed = gates-counted (f .ms) number counts-are summed
-
     -- Inputs plus gates.
     pub nets-are :
         {header : Header} {gates : ℕ}
         → ((m : Module) → Stands image (getD starts k 0) (moduleNumbers m) → HeaderOf (getD starts k 0) m header)
         → gates ≡ total counts
         → header .inputs + gates ≡ length (f .m .inputs) + gateCount (f .ms) number
-    nets-are headed summed = ap₂ _+_ (inputs-counted headed) (gates-are summed)
+    nets-are headed summed = ap₂ _+_ (inputs-counted headed) (gates-counted (f .ms) number counts-are summed)
 
   pub nets-low : length (f .m .inputs) + gateCount (f .ms) number ≤ 192 + mostSize
   nets-low = omega (arith, found-within number (f .m) (f .within) (f .found) .inputs .count, gates-within accepted number)

@@ -1,12 +1,12 @@
 -- From the search for the module of a number to the flattening of it.
 use Prim.Native.Nat.{ℕ, _<_}
-use mathlib.Core.Path.{_≡_, refl, sym, ap, subst, _∙_}
+use mathlib.Core.Path.{_≡_, refl, sym, ap, subst}
 use mathlib.Core.List.{List}
 use native.Mathlib.Omega.{arith}
 use lib.ListN.{length, getD, length-drop}
-use Rattle.meaning.specs.Calls.{Decision, Written, refusal, flattening}
+use Rattle.meaning.specs.Calls.{flattening}
 use Rattle.image.specs.Fitting.{accepted-fits}
-use Rattle.desk.specs.Sought.{Held, Unheld, Seeks}
+use Rattle.desk.specs.Sought.{Held, Seeks}
 use Rattle.desk.specs.Holding.{held-accepted, held-stands, held-room, held-asks, unheld-refuses}
 use Rattle.desk.specs.declared.seeking.Sought.{Sought}
 use Rattle.desk.specs.declared.seeking.Sought.the-variants as sought

@@ -53,7 +53,7 @@ module _ {image starts nets : List ℕ} {k number given : ℕ} where
     abbrev numbers : List ℕ
     numbers = flatNumbers (p .here .ms) number (p .here .m)
 
-    pub laid : take count flat′ ≡ flatNumbers (p .here .ms) number (p .here .m)
+    laid : take count flat′ ≡ flatNumbers (p .here .ms) number (p .here .m)
     laid =
         let d = done (flattenable p) in
         ap (take count) (d .holds) ∙ take-at numbers (drop (length numbers) flat) count (sym (d .size))

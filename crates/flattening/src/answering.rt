@@ -12,7 +12,9 @@ ghost use Rattle.flattening.specs.Found.{fitting};
 pub(crate) fn answer(numbers: &[u16], room: usize, scratch: &mut [u32], out: &mut [u8]) -> Writing
     requires { ⌜ All Small (now numbers) ⌝ }
     requires { ⌜ room ≤ length (now scratch) ⌝ }
-    ensures { λ r. ⌜ Flattens (fitting (each numberBytes (now (numbers .entry))) room (length (now (out .entry)))) (now (scratch .entry)) (now (out .entry)) (now (scratch .exit)) (now (out .exit)) r ⌝ }
+    ensures { λ r.
+        ⌜ Flattens (fitting (each numberBytes (now (numbers .entry))) room (length (now (out .entry))))
+        (now (scratch .entry)) (now (out .entry)) (now (scratch .exit)) (now (out .exit)) r ⌝ }
 {
     if out.len() < encoder::needed(numbers) {
         return Writing::Refused {

@@ -25,12 +25,13 @@ fn flatten_at(
     requires { ⌜ Found (now image) (now starts) (now nets) k number room ⌝ }
     ensures { λ r.
         ⌜ ((f : Found (now (image .entry)) (now (starts .entry)) (now (nets .entry)) k number room)
-        → Flattens (asked number (length (now (scratch .entry))) (length (now (out .entry))) (f .ms) (f .m)) (now (scratch .entry)) (now (out .entry)) (now (scratch .exit)) (now (out .exit)) r) ⌝ }
+        → Flattens (asked number (length (now (scratch .entry))) (length (now (out .entry))) (f .ms) (f .m))
+        (now (scratch .entry)) (now (out .entry)) (now (scratch .exit)) (now (out .exit)) r) ⌝ }
 {
     let header = runner::places::module_at(image, starts[k]);
     let gates = figures::tally::gates_of(figures::tally::tally_module(image, starts, k));
-    let flat = header.inputs + gates as usize;
-    if 4096 < flat {
+    let flat_nets = header.inputs + gates as usize;
+    if 4096 < flat_nets {
         return Writing::Refused {
             number: 24,
             place: 0,
@@ -43,7 +44,7 @@ fn flatten_at(
         };
     }
     if room <= 1024 {
-        if flat <= 1024 {
+        if flat_nets <= 1024 {
             return placing::place_small(image, starts, nets, k, number, room, scratch, out);
         }
     }
@@ -64,7 +65,9 @@ fn flatten_in(
     out: &mut [u8],
 ) -> Writing
     requires { ⌜ Space (now file) (now numbers) (now starts) (now image) (now nets) (now sizes) (now rooms) ⌝ }
-    ensures { λ r. ⌜ Flattens (flattening (now (file .entry)) number (length (now (scratch .entry))) (length (now (out .entry)))) (now (scratch .entry)) (now (out .entry)) (now (scratch .exit)) (now (out .exit)) r ⌝ }
+    ensures { λ r.
+        ⌜ Flattens (flattening (now (file .entry)) number (length (now (scratch .entry))) (length (now (out .entry))))
+        (now (scratch .entry)) (now (out .entry)) (now (scratch .exit)) (now (out .exit)) r ⌝ }
 {
     match desk::seeking::seek(file, number, numbers, starts, image, nets, sizes, rooms) {
         Sought::Refused { number, place } => Writing::Refused { number, place },
@@ -78,7 +81,9 @@ fn flatten_in(
 // A file of at most 1,024 bytes.
 fn flatten_short(file: &[u8], number: u16, scratch: &mut [u32], out: &mut [u8]) -> Writing
     requires { ⌜ length (now file) ≤ 1024 ⌝ }
-    ensures { λ r. ⌜ Flattens (flattening (now (file .entry)) number (length (now (scratch .entry))) (length (now (out .entry)))) (now (scratch .entry)) (now (out .entry)) (now (scratch .exit)) (now (out .exit)) r ⌝ }
+    ensures { λ r.
+        ⌜ Flattens (flattening (now (file .entry)) number (length (now (scratch .entry))) (length (now (out .entry))))
+        (now (scratch .entry)) (now (out .entry)) (now (scratch .exit)) (now (out .exit)) r ⌝ }
 {
     let mut numbers = [0u16; 1024];
     let mut starts = [0usize; 128];
@@ -113,7 +118,9 @@ fn flatten_long(
     scratch: &mut [u32],
     out: &mut [u8],
 ) -> Writing
-    ensures { λ r. ⌜ Flattens (flattening (now (file .entry)) number (length (now (scratch .entry))) (length (now (out .entry)))) (now (scratch .entry)) (now (out .entry)) (now (scratch .exit)) (now (out .exit)) r ⌝ }
+    ensures { λ r.
+        ⌜ Flattens (flattening (now (file .entry)) number (length (now (scratch .entry))) (length (now (out .entry))))
+        (now (scratch .entry)) (now (out .entry)) (now (scratch .exit)) (now (out .exit)) r ⌝ }
 {
     flatten_in(
         file,
@@ -131,7 +138,9 @@ fn flatten_long(
 
 // A file of any length.
 fn flatten_large(file: &[u8], number: u16, scratch: &mut [u32], out: &mut [u8]) -> Writing
-    ensures { λ r. ⌜ Flattens (flattening (now (file .entry)) number (length (now (scratch .entry))) (length (now (out .entry)))) (now (scratch .entry)) (now (out .entry)) (now (scratch .exit)) (now (out .exit)) r ⌝ }
+    ensures { λ r.
+        ⌜ Flattens (flattening (now (file .entry)) number (length (now (scratch .entry))) (length (now (out .entry))))
+        (now (scratch .entry)) (now (out .entry)) (now (scratch .exit)) (now (out .exit)) r ⌝ }
 {
     let mut numbers = [0u16; 65536];
     let mut starts = [0usize; 128];
@@ -156,7 +165,9 @@ fn flatten_large(file: &[u8], number: u16, scratch: &mut [u32], out: &mut [u8]) 
 // Flattens the module of a number into `out`, with at least as many entries of scratch as its room: refusals 1 to 18, 24, 21 and 22 in
 // this order. A refusal changes nothing that was lent; an answer leaves 0 in the first room entries of scratch.
 pub fn flatten(file: &[u8], number: u16, scratch: &mut [u32], out: &mut [u8]) -> Writing
-    ensures { λ r. ⌜ Flattens (flattening (now (file .entry)) number (length (now (scratch .entry))) (length (now (out .entry)))) (now (scratch .entry)) (now (out .entry)) (now (scratch .exit)) (now (out .exit)) r ⌝ }
+    ensures { λ r.
+        ⌜ Flattens (flattening (now (file .entry)) number (length (now (scratch .entry))) (length (now (out .entry))))
+        (now (scratch .entry)) (now (out .entry)) (now (scratch .exit)) (now (out .exit)) r ⌝ }
 {
     if file.len() <= 1024 {
         flatten_short(file, number, scratch, out)

@@ -24,8 +24,10 @@ fn place_in(
     requires { ⌜ Placeable (now image) (now starts) (now nets) k number room (length (now entries)) (length (now flat)) ⌝ }
     requires { ⌜ room ≤ length (now scratch) ⌝ }
     ensures { λ r.
-        ⌜ ((p : Placeable (now (image .entry)) (now (starts .entry)) (now (nets .entry)) k number room (length (now (entries .entry))) (length (now (flat .entry))))
-        → Flattens (fitting (flatFile (p .here .ms) number (p .here .m)) room (length (now (out .entry)))) (now (scratch .entry)) (now (out .entry)) (now (scratch .exit)) (now (out .exit)) r) ⌝ }
+        ⌜ ((p : Placeable (now (image .entry)) (now (starts .entry)) (now (nets .entry)) k number room
+        (length (now (entries .entry))) (length (now (flat .entry))))
+        → Flattens (fitting (flatFile (p .here .ms) number (p .here .m)) room (length (now (out .entry))))
+        (now (scratch .entry)) (now (out .entry)) (now (scratch .exit)) (now (out .exit)) r) ⌝ }
 {
     let count = flattener::flatten(image, starts, nets, k, number, room, entries, flat);
     crate::answering::answer(&flat[..count], room, scratch, out)
@@ -47,7 +49,8 @@ pub(crate) fn place_small(
     requires { ⌜ room ≤ length (now scratch) ⌝ }
     ensures { λ r.
         ⌜ ((p : Placeable (now (image .entry)) (now (starts .entry)) (now (nets .entry)) k number room 1024 8389)
-        → Flattens (fitting (flatFile (p .here .ms) number (p .here .m)) room (length (now (out .entry)))) (now (scratch .entry)) (now (out .entry)) (now (scratch .exit)) (now (out .exit)) r) ⌝ }
+        → Flattens (fitting (flatFile (p .here .ms) number (p .here .m)) room (length (now (out .entry))))
+        (now (scratch .entry)) (now (out .entry)) (now (scratch .exit)) (now (out .exit)) r) ⌝ }
 {
     let mut entries = [0u32; 1024];
     let mut flat = [0u16; 8389];
@@ -82,7 +85,8 @@ fn place_long(
     requires { ⌜ room ≤ length (now scratch) ⌝ }
     ensures { λ r.
         ⌜ ((p : Placeable (now (image .entry)) (now (starts .entry)) (now (nets .entry)) k number room 65535 32965)
-        → Flattens (fitting (flatFile (p .here .ms) number (p .here .m)) room (length (now (out .entry)))) (now (scratch .entry)) (now (out .entry)) (now (scratch .exit)) (now (out .exit)) r) ⌝ }
+        → Flattens (fitting (flatFile (p .here .ms) number (p .here .m)) room (length (now (out .entry))))
+        (now (scratch .entry)) (now (out .entry)) (now (scratch .exit)) (now (out .exit)) r) ⌝ }
 {
     place_in(
         image,
@@ -113,7 +117,8 @@ pub(crate) fn place_large(
     requires { ⌜ room ≤ length (now scratch) ⌝ }
     ensures { λ r.
         ⌜ ((p : Placeable (now (image .entry)) (now (starts .entry)) (now (nets .entry)) k number room 65535 32965)
-        → Flattens (fitting (flatFile (p .here .ms) number (p .here .m)) room (length (now (out .entry)))) (now (scratch .entry)) (now (out .entry)) (now (scratch .exit)) (now (out .exit)) r) ⌝ }
+        → Flattens (fitting (flatFile (p .here .ms) number (p .here .m)) room (length (now (out .entry))))
+        (now (scratch .entry)) (now (out .entry)) (now (scratch .exit)) (now (out .exit)) r) ⌝ }
 {
     let mut entries = [0u32; 65535];
     let mut flat = [0u16; 32965];

@@ -38,8 +38,8 @@ tally-module-requires c κs = can-count (c .before .before .before .before .befo
 gates-of-requires : tie.Need-gates-of-requires
 gates-of-requires c κs = counts-fit (c .before .before .before .before .before .before .before .before .pre) (c .tally-module .ensures)
 
-add-flat : tie.Need-add-flat
-add-flat c = let f = c .before .before .before .before .before .before .before .before .before .before .pre in omega (arith, flat-nets (c .before) f, nets-low f)
+add-flat-nets : tie.Need-add-flat-nets
+add-flat-nets c = let f = c .before .before .before .before .before .before .before .before .before .before .pre in omega (arith, flat-nets (c .before) f, nets-low f)
 
 returns : tie.Need-returns
 returns c f = asks-many _ _ _ (f .ms) (f .m) (omega (arith, flat-nets (c .before .before) f))
@@ -80,7 +80,7 @@ flatten-at-spec =
     tally-module-requires
     gates-of-requires
     (λ c. search needs)
-    add-flat
+    add-flat-nets
     returns
     returns-2
     place-small-requires
