@@ -1,0 +1,64 @@
+-- From the search for the module of a number to the flattening of it.
+use Prim.Native.Nat.{ℕ, _<_}
+use mathlib.Core.Path.{_≡_, refl, sym, ap, subst}
+use mathlib.Core.List.{List}
+use native.Mathlib.Omega.{arith}
+use lib.ListN.{length, getD, length-drop}
+use Rattle.meaning.specs.Calls.{flattening}
+use Rattle.image.specs.Fitting.{accepted-fits}
+use Rattle.desk.specs.Sought.{Held, Seeks}
+use Rattle.desk.specs.Holding.{held-accepted, held-stands, held-room, held-asks, unheld-refuses}
+use Rattle.desk.specs.declared.seeking.Sought.{Sought}
+use Rattle.desk.specs.declared.seeking.Sought.the-variants as sought
+use Rattle.writer.specs.declared.answer.Writing.{Writing}
+use Rattle.writer.specs.declared.answer.Writing.the-variants.{Refused}
+use Rattle.flattener.specs.Imaging.{imaged}
+use Rattle.flattening.specs.Flattens.{Flattens}
+use Rattle.flattening.specs.Found.{Found, asked}
+
+module _ (file : List ℕ) (number : ℕ) (numbers starts image nets sizes rooms : List ℕ) (r : Sought)
+    (seeks : Seeks r file number numbers starts image nets sizes rooms) where
+  pub sought-refused :
+      (n place : ℕ)
+      → r ≡ sought.Refused n place
+      → (scratch out : List ℕ)
+      → Flattens (flattening file number (length scratch) (length out)) scratch out scratch out (Refused n place)
+  unfolding flattening
+  sought-refused n place e scratch out =
+      let none = subst (λ (s : Sought). Seeks s file number numbers starts image nets sizes rooms) e seeks in
+      rw (unheld-refuses none (asked number (length scratch) (length out)))
+      (record { answered = record { is = refl; out = refl }; scratched = refl })
+
+  module _ (k : ℕ) (e : r ≡ sought.At k) where
+    held : Held file number k numbers starts image nets sizes rooms
+    held = subst (λ (s : Sought). Seeks s file number numbers starts image nets sizes rooms) e seeks
+
+    pub sought-few : k < 128
+    sought-few = omega (arith, ap length (held .found .here), length-drop k (held .ms), held .desk .within .modules .count)
+
+    pub sought-within : k < length rooms
+    sought-within = omega (arith, ap length (held .found .here), length-drop k (held .ms), held .desk .roomsLong)
+
+    pub sought-found : Found image starts nets k number (getD rooms k 0)
+    sought-found =
+        record {
+          ms = held .ms;
+          m = held .found .m;
+          accepted = held .desk .accepted;
+          within = held .desk .within;
+          imaged =
+              imaged (accepted-fits (held-accepted held)) (held-stands held) (held .desk .netsAre) (held .desk .startsLong)
+              (held .desk .netsLong);
+          found = held .found .found;
+          placed = sym (held .found .placed);
+          roomy = held-room held;
+        }
+
+    pub sought-flattens :
+        {scratch out scratch′ out′ : List ℕ} {result : Writing}
+        → ((f : Found image starts nets k number (getD rooms k 0))
+        → Flattens (asked number (length scratch) (length out) (f .ms) (f .m)) scratch out scratch′ out′ result)
+        → Flattens (flattening file number (length scratch) (length out)) scratch out scratch′ out′ result
+    unfolding flattening sought-found
+    sought-flattens {scratch} {out} answered =
+        rw (held-asks held (asked number (length scratch) (length out))) (answered sought-found)

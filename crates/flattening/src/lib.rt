@@ -1,0 +1,177 @@
+// Flattening: one module of a file with all that it refers to set down in it, written as a file of its own.
+use desk::seeking::Sought;
+use writer::Writing;
+ghost use Prim.Native.Nat.{_≤_};
+ghost use lib.ListN.{length};
+ghost use Rattle.meaning.specs.Calls.{flattening};
+ghost use Rattle.desk.specs.Prepared.{Space};
+ghost use Rattle.flattening.specs.Flattens.{Flattens};
+ghost use Rattle.flattening.specs.Found.{Found, asked};
+
+mod answering;
+mod placing;
+
+// Refusals 24 and 21 in their order, then the walk: the module stands at position k of the image.
+fn flatten_at(
+    image: &[u16],
+    starts: &[usize],
+    nets: &[usize],
+    k: usize,
+    number: u16,
+    room: usize,
+    scratch: &mut [u32],
+    out: &mut [u8],
+) -> Writing
+    requires { ⌜ Found (now image) (now starts) (now nets) k number room ⌝ }
+    ensures { λ r.
+        ⌜ ((f : Found (now (image .entry)) (now (starts .entry)) (now (nets .entry)) k number room)
+        → Flattens (asked number (length (now (scratch .entry))) (length (now (out .entry))) (f .ms) (f .m))
+        (now (scratch .entry)) (now (out .entry)) (now (scratch .exit)) (now (out .exit)) r) ⌝ }
+{
+    let header = runner::places::module_at(image, starts[k]);
+    let gates = figures::tally::gates_of(figures::tally::tally_module(image, starts, k));
+    let flat_nets = header.inputs + gates as usize;
+    if 4096 < flat_nets {
+        return Writing::Refused {
+            number: 24,
+            place: 0,
+        };
+    }
+    if scratch.len() < room {
+        return Writing::Refused {
+            number: 21,
+            place: 0,
+        };
+    }
+    if room <= 1024 {
+        if flat_nets <= 1024 {
+            return placing::place_small(image, starts, nets, k, number, room, scratch, out);
+        }
+    }
+    placing::place_large(image, starts, nets, k, number, room, scratch, out)
+}
+
+// The module of the number sought, with lists to work in.
+fn flatten_in(
+    file: &[u8],
+    number: u16,
+    numbers: &mut [u16],
+    starts: &mut [usize],
+    image: &mut [u16],
+    nets: &mut [usize],
+    sizes: &mut [u32],
+    rooms: &mut [u32],
+    scratch: &mut [u32],
+    out: &mut [u8],
+) -> Writing
+    requires { ⌜ Space (now file) (now numbers) (now starts) (now image) (now nets) (now sizes) (now rooms) ⌝ }
+    ensures { λ r.
+        ⌜ Flattens (flattening (now (file .entry)) number (length (now (scratch .entry))) (length (now (out .entry))))
+        (now (scratch .entry)) (now (out .entry)) (now (scratch .exit)) (now (out .exit)) r ⌝ }
+{
+    match desk::seeking::seek(file, number, numbers, starts, image, nets, sizes, rooms) {
+        Sought::Refused { number, place } => Writing::Refused { number, place },
+        Sought::At(k) => {
+            let room = rooms[k] as usize;
+            flatten_at(image, starts, nets, k, number, room, scratch, out)
+        }
+    }
+}
+
+// A file of at most 1,024 bytes.
+fn flatten_short(file: &[u8], number: u16, scratch: &mut [u32], out: &mut [u8]) -> Writing
+    requires { ⌜ length (now file) ≤ 1024 ⌝ }
+    ensures { λ r.
+        ⌜ Flattens (flattening (now (file .entry)) number (length (now (scratch .entry))) (length (now (out .entry))))
+        (now (scratch .entry)) (now (out .entry)) (now (scratch .exit)) (now (out .exit)) r ⌝ }
+{
+    let mut numbers = [0u16; 1024];
+    let mut starts = [0usize; 128];
+    let mut image = [0u16; 1024];
+    let mut nets = [0usize; 128];
+    let mut sizes = [0u32; 128];
+    let mut rooms = [0u32; 128];
+    flatten_in(
+        file,
+        number,
+        &mut numbers,
+        &mut starts,
+        &mut image,
+        &mut nets,
+        &mut sizes,
+        &mut rooms,
+        scratch,
+        out,
+    )
+}
+
+// A file of any length, in long arrays.
+fn flatten_long(
+    file: &[u8],
+    number: u16,
+    numbers: &mut [u16; 65536],
+    starts: &mut [usize; 128],
+    image: &mut [u16; 65536],
+    nets: &mut [usize; 128],
+    sizes: &mut [u32; 128],
+    rooms: &mut [u32; 128],
+    scratch: &mut [u32],
+    out: &mut [u8],
+) -> Writing
+    ensures { λ r.
+        ⌜ Flattens (flattening (now (file .entry)) number (length (now (scratch .entry))) (length (now (out .entry))))
+        (now (scratch .entry)) (now (out .entry)) (now (scratch .exit)) (now (out .exit)) r ⌝ }
+{
+    flatten_in(
+        file,
+        number,
+        numbers,
+        starts,
+        image,
+        nets,
+        sizes,
+        rooms,
+        scratch,
+        out,
+    )
+}
+
+// A file of any length.
+fn flatten_large(file: &[u8], number: u16, scratch: &mut [u32], out: &mut [u8]) -> Writing
+    ensures { λ r.
+        ⌜ Flattens (flattening (now (file .entry)) number (length (now (scratch .entry))) (length (now (out .entry))))
+        (now (scratch .entry)) (now (out .entry)) (now (scratch .exit)) (now (out .exit)) r ⌝ }
+{
+    let mut numbers = [0u16; 65536];
+    let mut starts = [0usize; 128];
+    let mut image = [0u16; 65536];
+    let mut nets = [0usize; 128];
+    let mut sizes = [0u32; 128];
+    let mut rooms = [0u32; 128];
+    flatten_long(
+        file,
+        number,
+        &mut numbers,
+        &mut starts,
+        &mut image,
+        &mut nets,
+        &mut sizes,
+        &mut rooms,
+        scratch,
+        out,
+    )
+}
+
+// Flattens the module of a number into `out`, with at least as many entries of scratch as its room: refusals 1 to 18, 24, 21 and 22 in
+// this order. A refusal changes nothing that was lent; an answer leaves 0 in the first room entries of scratch.
+pub fn flatten(file: &[u8], number: u16, scratch: &mut [u32], out: &mut [u8]) -> Writing
+    ensures { λ r.
+        ⌜ Flattens (flattening (now (file .entry)) number (length (now (scratch .entry))) (length (now (out .entry))))
+        (now (scratch .entry)) (now (out .entry)) (now (scratch .exit)) (now (out .exit)) r ⌝ }
+{
+    if file.len() <= 1024 {
+        flatten_short(file, number, scratch, out)
+    } else {
+        flatten_large(file, number, scratch, out)
+    }
+}

@@ -1,0 +1,137 @@
+// The walk. How many bytes a flattened file has is known only behind the walk, and a refusal changes nothing that was lent: so the
+// walk has entries of its own, and the lent scratch is cleared only when the call is sure to be answered. A module that is small gets
+// short lists, so that it does not pay for clearing long ones.
+use writer::Writing;
+ghost use Prim.Native.Nat.{_≤_};
+ghost use lib.ListN.{length};
+ghost use Rattle.meaning.specs.Calls.{flatFile};
+ghost use Rattle.flattening.specs.Flattens.{Flattens};
+ghost use Rattle.flattening.specs.Found.{fitting, Placeable};
+
+// The walk in given entries, then the answer.
+fn place_in(
+    image: &[u16],
+    starts: &[usize],
+    nets: &[usize],
+    k: usize,
+    number: u16,
+    room: usize,
+    entries: &mut [u32],
+    flat: &mut [u16],
+    scratch: &mut [u32],
+    out: &mut [u8],
+) -> Writing
+    requires { ⌜ Placeable (now image) (now starts) (now nets) k number room (length (now entries)) (length (now flat)) ⌝ }
+    requires { ⌜ room ≤ length (now scratch) ⌝ }
+    ensures { λ r.
+        ⌜ ((p : Placeable (now (image .entry)) (now (starts .entry)) (now (nets .entry)) k number room
+        (length (now (entries .entry))) (length (now (flat .entry))))
+        → Flattens (fitting (flatFile (p .here .ms) number (p .here .m)) room (length (now (out .entry))))
+        (now (scratch .entry)) (now (out .entry)) (now (scratch .exit)) (now (out .exit)) r) ⌝ }
+{
+    let count = flattener::flatten(image, starts, nets, k, number, room, entries, flat);
+    crate::answering::answer(&flat[..count], room, scratch, out)
+}
+
+// A module whose room is at most 1,024 and that has at most 1,024 nets when it is flat: eight numbers for each, 192 outputs and five
+// more.
+pub(crate) fn place_small(
+    image: &[u16],
+    starts: &[usize],
+    nets: &[usize],
+    k: usize,
+    number: u16,
+    room: usize,
+    scratch: &mut [u32],
+    out: &mut [u8],
+) -> Writing
+    requires { ⌜ Placeable (now image) (now starts) (now nets) k number room 1024 8389 ⌝ }
+    requires { ⌜ room ≤ length (now scratch) ⌝ }
+    ensures { λ r.
+        ⌜ ((p : Placeable (now (image .entry)) (now (starts .entry)) (now (nets .entry)) k number room 1024 8389)
+        → Flattens (fitting (flatFile (p .here .ms) number (p .here .m)) room (length (now (out .entry))))
+        (now (scratch .entry)) (now (out .entry)) (now (scratch .exit)) (now (out .exit)) r) ⌝ }
+{
+    let mut entries = [0u32; 1024];
+    let mut flat = [0u16; 8389];
+    place_in(
+        image,
+        starts,
+        nets,
+        k,
+        number,
+        room,
+        &mut entries,
+        &mut flat,
+        scratch,
+        out,
+    )
+}
+
+// The walk in long arrays.
+fn place_long(
+    image: &[u16],
+    starts: &[usize],
+    nets: &[usize],
+    k: usize,
+    number: u16,
+    room: usize,
+    entries: &mut [u32; 65535],
+    flat: &mut [u16; 32965],
+    scratch: &mut [u32],
+    out: &mut [u8],
+) -> Writing
+    requires { ⌜ Placeable (now image) (now starts) (now nets) k number room 65535 32965 ⌝ }
+    requires { ⌜ room ≤ length (now scratch) ⌝ }
+    ensures { λ r.
+        ⌜ ((p : Placeable (now (image .entry)) (now (starts .entry)) (now (nets .entry)) k number room 65535 32965)
+        → Flattens (fitting (flatFile (p .here .ms) number (p .here .m)) room (length (now (out .entry))))
+        (now (scratch .entry)) (now (out .entry)) (now (scratch .exit)) (now (out .exit)) r) ⌝ }
+{
+    place_in(
+        image,
+        starts,
+        nets,
+        k,
+        number,
+        room,
+        entries,
+        flat,
+        scratch,
+        out,
+    )
+}
+
+// Any module: its room is at most as many as the numbers of its file, and 4,096 nets have 32,965 numbers at most.
+pub(crate) fn place_large(
+    image: &[u16],
+    starts: &[usize],
+    nets: &[usize],
+    k: usize,
+    number: u16,
+    room: usize,
+    scratch: &mut [u32],
+    out: &mut [u8],
+) -> Writing
+    requires { ⌜ Placeable (now image) (now starts) (now nets) k number room 65535 32965 ⌝ }
+    requires { ⌜ room ≤ length (now scratch) ⌝ }
+    ensures { λ r.
+        ⌜ ((p : Placeable (now (image .entry)) (now (starts .entry)) (now (nets .entry)) k number room 65535 32965)
+        → Flattens (fitting (flatFile (p .here .ms) number (p .here .m)) room (length (now (out .entry))))
+        (now (scratch .entry)) (now (out .entry)) (now (scratch .exit)) (now (out .exit)) r) ⌝ }
+{
+    let mut entries = [0u32; 65535];
+    let mut flat = [0u16; 32965];
+    place_long(
+        image,
+        starts,
+        nets,
+        k,
+        number,
+        room,
+        &mut entries,
+        &mut flat,
+        scratch,
+        out,
+    )
+}
