@@ -95,8 +95,8 @@ static void judge_counter(size_t width)
     expect(judged[width][1] == COUNTER, width, "module 32 is not the first");
     judge_figures(width);
     for (int top = -1; top < (int)width; top++)
-        for (int row = 0; row < 6; row++)
-            judge_row(width, top, row < 3 ? 2 : 3);
+        for (int row = 0; row < 4; row++)
+            judge_row(width, top, row < 2 ? 2 : 3);
 }
 
 void judge_counters(void)

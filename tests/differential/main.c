@@ -84,9 +84,9 @@ static void make_case(void)
 
     if (roll < 1)
         too_long();
-    else if (roll < 8)
+    else if (roll < 5)
         make_big(1);
-    else if (roll < 20)
+    else if (roll < 11)
         make_big(0);
     else if (roll < 450)
         make_small(0, 0, 0);

@@ -1,8 +1,6 @@
 /* The check: modules from first to last, refusals 6 to 16, then expanded sizes from the last to the first, 17. */
 #include "plain.h"
 
-#include <string.h>
-
 /* What a net of the module at hand is so far. */
 enum role { UNKNOWN, INPUT, DRIVEN };
 
@@ -43,6 +41,17 @@ static void set_role(struct nets nets, enum role role)
 {
     for (int i = 0; i < nets.count; i++)
         role_of[nets.net[i]] = (uint8_t)role;
+}
+
+/* Every net that the module names, wherever it stands. */
+static void forget_roles(const struct module *module)
+{
+    set_role(module->inputs, UNKNOWN);
+    set_role(module->outputs, UNKNOWN);
+    for (int i = 0; i < module->count; i++) {
+        set_role(module->occurrences[i].drives, UNKNOWN);
+        set_role(module->occurrences[i].takes, UNKNOWN);
+    }
 }
 
 /* Rules 11 to 14 for one occurrence of the module at `position`. */
@@ -88,7 +97,7 @@ static int check_module(const struct file *file, int position)
         return 8;
     if (has_twice(module->outputs))
         return 9;
-    memset(role_of, UNKNOWN, sizeof role_of);
+    forget_roles(module);
     set_role(module->inputs, INPUT);
     if (has_role(module->outputs, INPUT))
         return 10;
