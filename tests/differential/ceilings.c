@@ -152,14 +152,14 @@ static void many_modules(struct draft *draft, int modules)
 static void wide_when_flat(struct draft *draft, int nets)
 {
     struct draft_module *outer = &draft->modules[0], *inner = &draft->modules[1];
-    int next = 1, gates = nets - 1;
+    int inputs = between(1, 192), next = inputs, gates = nets - inputs;
 
     draft_start(draft, 2);
     add_net(&inner->inputs, 0);
     for (int i = 0; i < 64; i++)
         add_gate(inner, 2, i + 1, i, below(i + 1));
     add_net(&inner->outputs, 64);
-    add_net(&outer->inputs, 0);
+    add_nets(&outer->inputs, 0, inputs);
     while (gates > 0) {
         int refers = gates >= 64 ? inner->number : 1;
         struct draft_occurrence *occurrence = add_occurrence(outer, refers);

@@ -260,13 +260,17 @@ static uint16_t any_number(void)
     }
 }
 
+/* Mostly a module of the file; now and then its number with bits added that no number of a file has. */
 static uint16_t choose_number(size_t modules)
 {
     size_t place;
     uint16_t number = any_number();
 
-    if (modules > 0 && percent(92))
+    if (modules > 0 && percent(92)) {
         plain_number_at(file, file_len, (size_t)below((int)modules), &number, &place);
+        if (percent(2))
+            number = (uint16_t)(number + 16384 * between(1, 3));
+    }
     return number;
 }
 
