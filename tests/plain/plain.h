@@ -72,6 +72,20 @@ struct figures {
 };
 void plain_figures(const struct file *file, int position, struct figures *figures);
 
+/* calls.c: the file of the call at hand, filled by plain_check, and how a call ends */
+extern struct file plain_file;
+extern uint32_t plain_sizes[MOST_MODULES];
+uint16_t plain_end(size_t *place, int number, size_t at);
+
+/* write.c: a file in the making. Flattened files and adders are far below this length */
+struct bytes {
+    size_t length;
+    uint8_t byte[MOST_BYTES];
+};
+void plain_put(struct bytes *bytes, uint32_t number);
+void plain_put_range(struct bytes *bytes, uint32_t first, uint32_t count); /* a list of numbers in order */
+uint16_t plain_give(const struct bytes *answer, uint8_t *out, size_t out_len, size_t *written, size_t *place);
+
 /* The calls */
 uint16_t plain_check(const uint8_t *file, size_t file_len, size_t *place);
 uint16_t plain_modules(const uint8_t *file, size_t file_len, size_t *modules, size_t *place);
