@@ -63,75 +63,88 @@ static uint16_t end(size_t *place, uint16_t number, size_t at)
 
 /* ---- reading */
 
+/* Kept in registers: everything that takes a cursor is put into read_file. A step that fails gives minus the number of
+ * the refusal and leaves `at` on the number that it is about. */
 struct cursor {
-    const uint8_t *at, *end, *start;
+    const uint8_t *at, *end;
     uint16_t *to;
-    uint32_t no;
-    size_t place;
 };
 
-static inline int take_slow(struct cursor *c)
+#define INTO static inline __attribute__((always_inline))
+
+INTO int long_number(const uint8_t *at, const uint8_t *file_end)
 {
-    if (c->at >= c->end || c->at + 1 == c->end) {
-        c->no = 2;
-        c->place = (size_t)(c->end - c->start);
-        return -1;
-    }
-    if (c->at[1] == 0 || c->at[1] >= 128) {
-        c->no = 3;
-        c->place = (size_t)(c->at - c->start);
-        return -1;
-    }
-    c->at += 2;
-    return *c->to++ = (uint16_t)(c->at[-2] - 128 + 128 * c->at[-1]);
+    if (file_end - at < 2)
+        return -2;
+    if (at[1] == 0 || at[1] >= 128)
+        return -3;
+    return at[0] - 128 + 128 * at[1];
 }
 
-static inline int take(struct cursor *c)
+INTO int take(struct cursor *c)
 {
-    if (c->at < c->end && *c->at < 128)
-        return *c->to++ = *c->at++;
-    return take_slow(c);
+    int n;
+
+    if (c->at < c->end && *c->at < 128) {
+        n = *c->at++;
+    } else {
+        n = long_number(c->at, c->end);
+        if (n < 0)
+            return n;
+        c->at += 2;
+    }
+    *c->to++ = (uint16_t)n;
+    return n;
 }
 
-static inline int take_count(struct cursor *c, int ceiling)
+INTO int take_count(struct cursor *c, int ceiling)
 {
-    const uint8_t *start = c->at;
     int n = take(c);
 
     if (n > ceiling) {
-        c->no = 4;
-        c->place = (size_t)(start - c->start);
-        return -1;
+        c->at -= n < 128 ? 1 : 2;
+        return -4;
     }
     return n;
 }
 
-static inline int take_list(struct cursor *c)
+INTO int take_list(struct cursor *c)
 {
-    int n = take_count(c, LIST);
+    int n = take_count(c, LIST), last;
 
     for (int i = 0; i < n; i++)
-        if (take(c) < 0)
-            return -1;
+        if ((last = take(c)) < 0)
+            return last;
     return n;
 }
 
-static int take_module(struct cursor *c, struct module *m)
+INTO int take_occurrence(struct cursor *c)
 {
-    int number, ins, outs, runs;
+    int last;
+
+    if ((last = take_list(c)) < 0 || (last = take(c)) < 0)
+        return last;
+    return take_list(c);
+}
+
+INTO int take_module(struct cursor *c, struct module *m)
+{
+    int number, ins, outs, runs, last;
 
     m->start = (uint32_t)(c->to - numbers);
-    if ((number = take(c)) < 0 || (ins = take_list(c)) < 0)
-        return -1;
+    if ((number = take(c)) < 0)
+        return number;
+    if ((ins = take_list(c)) < 0)
+        return ins;
     m->outputs = (uint32_t)(c->to - numbers) + 1;
     if ((outs = take_list(c)) < 0)
-        return -1;
+        return outs;
     m->body = (uint32_t)(c->to - numbers) + 1;
     if ((runs = take_count(c, OCCURRENCES)) < 0)
-        return -1;
+        return runs;
     for (int i = 0; i < runs; i++)
-        if (take_list(c) < 0 || take(c) < 0 || take_list(c) < 0)
-            return -1;
+        if ((last = take_occurrence(c)) < 0)
+            return last;
     m->number = (uint16_t)number;
     m->ins = (uint16_t)ins;
     m->outs = (uint16_t)outs;
@@ -141,19 +154,18 @@ static int take_module(struct cursor *c, struct module *m)
 
 static uint16_t read_file(const uint8_t *file, size_t length, size_t *place)
 {
-    struct cursor c = {file, file + length, file, numbers, 0, 0};
-    int count;
+    struct cursor c = {file, file + length, numbers};
+    int count, last;
 
     if (length > BYTES)
         return end(place, 1, 0);
-    count = take_count(&c, MODULES);
-    for (int i = 0; i < count; i++)
-        if (take_module(&c, &modules[i]) < 0)
-            break;
-    if (c.no != 0)
-        return end(place, (uint16_t)c.no, c.place);
+    last = count = take_count(&c, MODULES);
+    for (int i = 0; i < count && last >= 0; i++)
+        last = take_module(&c, &modules[i]);
+    if (last < 0)
+        return end(place, (uint16_t)-last, last == -2 ? length : (size_t)(c.at - file));
     if (c.at < c.end)
-        return end(place, 5, (size_t)(c.at - c.start));
+        return end(place, 5, (size_t)(c.at - file));
     module_count = (uint32_t)count;
     return 0;
 }

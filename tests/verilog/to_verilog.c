@@ -179,7 +179,7 @@ static void print_bench(uint16_t number)
     printf("  end\nendmodule\n");
 }
 
-static void print_top(void)
+static void print_top(unsigned long long seed)
 {
     printf("module top;\n  integer rows, differ;\n");
     for (int i = 1; i <= benches; i++)
@@ -187,7 +187,8 @@ static void print_top(void)
     printf("  initial begin\n    #%d rows = 0; differ = 0;\n", ROWS + 1);
     for (int i = 1; i <= benches; i++)
         printf("    rows = rows + b%d.rows; differ = differ + b%d.differ;\n", i, i);
-    printf("    $display(\"verilog: %d modules, %%0d rows, %%0d differ\", rows, differ);\n", benches);
+    printf("    $display(\"verilog: seed %llu, %d modules, %%0d rows, %%0d differ\", rows, differ);\n", seed,
+           benches);
     printf("  end\nendmodule\n");
 }
 
@@ -227,10 +228,9 @@ int main(int argc, char **argv)
     unsigned long long seed = argc > 1 ? strtoull(argv[1], NULL, 10) : 1;
 
     random_start(seed);
-    printf("// seed %llu\n", seed);
     judge_written(18, shelf_adder);
     judge_written(32, shelf_counter);
     judge_random();
-    print_top();
+    print_top(seed);
     return 0;
 }
