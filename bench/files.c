@@ -1,3 +1,4 @@
+/* See files.h. Built as drafts of the differential test, with net numbers as a designer would count them. */
 #include "files.h"
 
 #include "../tests/differential/make.h"

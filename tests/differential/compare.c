@@ -1,3 +1,4 @@
+/* See compare.h. What is lent to the two readings is laid out alike, so that whole buffers can be compared. */
 #define _DEFAULT_SOURCE
 #include "compare.h"
 
@@ -178,7 +179,7 @@ static void compare_number_at(size_t position)
     end_call();
 }
 
-/* Two equal buffers to lend, one for each reading. */
+/* As many entries as `given` says, the same in both lenders. */
 static uint32_t *lend_scratch(const struct lender *lender)
 {
     return (uint32_t *)(void *)lend(lender, given.scratch_len * sizeof(uint32_t), NULL);

@@ -1,3 +1,4 @@
+/* See counters.h. Figures and rows are worked out by the plain reading from the bytes that the library wrote. */
 #include "counters.h"
 
 #include "../plain/plain.h"

@@ -1,3 +1,4 @@
+/* See damage.h. Damage is aimed at a rule but not certain to break it: the plain reading says what came of it. */
 #include "damage.h"
 
 #include "random.h"

@@ -1,3 +1,4 @@
+/* See draft.h. Lists and occurrences of a draft stand in two arrays that the next draft uses again. */
 #include "draft.h"
 
 #include <stdlib.h>
@@ -17,11 +18,6 @@ void draft_start(struct draft *draft, int count)
         memset(&draft->modules[i], 0, sizeof draft->modules[i]);
         draft->modules[i].number = 16 + i;
     }
-}
-
-int draft_room(void)
-{
-    return occurrences_used < OCCURRENCE_ROOM - 8 && nets_used < NET_ROOM - 4096;
 }
 
 struct draft_occurrence *add_occurrence(struct draft_module *module, int refers)

@@ -39,7 +39,6 @@ void add_net(struct list *list, int net);
 void add_nets(struct list *list, int first, int count);
 void add_gate(struct draft_module *module, int kind, int drives, int a, int b); /* of one or two arguments */
 void drop_net(struct list *list, int index);
-int draft_room(void); /* is there room for more occurrences? */
 
 /* What each number of the encoded draft is, for damage at the right place. */
 enum role_of_number { MODULE_COUNT, LIST_COUNT, OCCURRENCE_COUNT, OTHER };

@@ -1,3 +1,4 @@
+/* See lend.h. */
 #define _DEFAULT_SOURCE
 #include "lend.h"
 

@@ -18,7 +18,7 @@ struct lender make_lender(size_t most);
 /* The last `length` bytes, with what `from` holds, or a pattern where it is null. */
 uint8_t *lend(const struct lender *lender, size_t length, const uint8_t *from);
 
-/* The byte that a guard or a patterned buffer has at a distance from its end. */
+/* Are the bytes before the lent ones as they were? */
 int guard_kept(const struct lender *lender, size_t length);
 
 #endif

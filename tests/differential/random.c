@@ -1,3 +1,4 @@
+/* See random.h. */
 #include "random.h"
 
 static uint64_t state;
