@@ -1,0 +1,248 @@
+/* The benchmark: the proved library against tuned C, the same calls in the same run.
+ *
+ * Each row is timed in many rounds, the two taking turns; the least time of each counts, as everything that disturbs
+ * a run makes it longer. Before a row is timed, both must give the same answer. The last column is ours / theirs. */
+#define _POSIX_C_SOURCE 200809L
+#include "files.h"
+#include "shelf.h"
+#include "tuned.h"
+
+#include <stdio.h>
+#include <stdlib.h>
+#include <string.h>
+#include <time.h>
+
+enum { ROUNDS = 25, ROUND_NS = 2000000, MOST = 65536 };
+
+/* The calls of one side. */
+struct side {
+    uint16_t (*check)(const uint8_t *, size_t, size_t *);
+    uint16_t (*evaluate)(const uint8_t *, size_t, uint16_t, const uint8_t *, size_t, uint32_t *, size_t, uint8_t *,
+                         size_t, size_t *, size_t *);
+    uint16_t (*count)(const uint8_t *, size_t, uint16_t, uint32_t *, size_t, uint32_t *, uint32_t *, size_t *);
+    uint16_t (*flatten)(const uint8_t *, size_t, uint16_t, uint32_t *, size_t, uint8_t *, size_t, size_t *, size_t *);
+    uint16_t (*adder)(size_t, uint8_t *, size_t, size_t *, size_t *);
+    uint16_t (*counter)(size_t, uint8_t *, size_t, size_t *, size_t *);
+};
+
+static const struct side ours = {shelf_check,   shelf_evaluate, shelf_count,
+                                 shelf_flatten, shelf_adder,    shelf_counter};
+static const struct side theirs = {tuned_check,   tuned_evaluate, tuned_count,
+                                   tuned_flatten, tuned_adder,    tuned_counter};
+
+/* What a row works on, and what it leaves for comparison. */
+static struct bench_file file;
+static size_t width, inputs;
+static uint8_t values[256], out[MOST];
+static uint32_t scratch[MOST], figures[7], tally[16];
+static size_t written, place;
+
+typedef uint16_t task(const struct side *side);
+
+static uint16_t check(const struct side *side)
+{
+    return side->check(file.bytes, file.length, &place);
+}
+
+static uint16_t evaluate(const struct side *side)
+{
+    return side->evaluate(file.bytes, file.length, file.module, values, inputs, scratch, MOST, out, MOST, &written,
+                          &place);
+}
+
+static uint16_t count(const struct side *side)
+{
+    return side->count(file.bytes, file.length, file.module, scratch, MOST, figures, tally, &place);
+}
+
+/* Every module of a file whose modules are numbered from 16 on. */
+static uint16_t count_all(const struct side *side)
+{
+    for (uint16_t number = 16; number < 16 + 128; number++) {
+        uint16_t refused =
+            side->count(file.bytes, file.length, number, scratch, MOST, figures, tally, &place);
+
+        if (refused != 0)
+            return refused;
+    }
+    return 0;
+}
+
+static uint16_t flatten(const struct side *side)
+{
+    return side->flatten(file.bytes, file.length, file.module, scratch, MOST, out, MOST, &written, &place);
+}
+
+static uint16_t write_adder(const struct side *side)
+{
+    return side->adder(width, out, MOST, &written, &place);
+}
+
+static uint16_t write_counter(const struct side *side)
+{
+    return side->counter(width, out, MOST, &written, &place);
+}
+
+/* ---- timing */
+
+static double now(void)
+{
+    struct timespec time;
+
+    clock_gettime(CLOCK_MONOTONIC, &time);
+    return 1e9 * (double)time.tv_sec + (double)time.tv_nsec;
+}
+
+static double time_of(task *run, const struct side *side, int times)
+{
+    double start = now();
+
+    for (int i = 0; i < times; i++)
+        run(side);
+    return (now() - start) / times;
+}
+
+static int repetitions(task *run)
+{
+    double once = time_of(run, &theirs, 3);
+
+    return once > ROUND_NS ? 1 : (int)(ROUND_NS / once) + 1;
+}
+
+struct pair {
+    double ours, theirs;
+};
+
+static double less(double a, double b)
+{
+    return a < b ? a : b;
+}
+
+static struct pair measure(task *run)
+{
+    int times = repetitions(run);
+    struct pair least = {1e18, 1e18};
+
+    for (int i = 0; i < ROUNDS; i++) {
+        least.ours = less(least.ours, time_of(run, &ours, times));
+        least.theirs = less(least.theirs, time_of(run, &theirs, times));
+    }
+    return least;
+}
+
+/* ---- the table */
+
+/* Both sides must answer, and alike. */
+static void agree(task *run, const char *name)
+{
+    static uint8_t our_out[MOST];
+    uint32_t our_figures[7];
+    size_t our_written;
+    uint16_t refused;
+
+    written = 0;
+    memset(out, 0, sizeof out);
+    memset(figures, 0, sizeof figures);
+    refused = run(&ours);
+    our_written = written;
+    memcpy(our_out, out, sizeof out);
+    memcpy(our_figures, figures, sizeof figures);
+    memset(out, 0, sizeof out);
+    if (run(&theirs) != 0 || refused != 0 || written != our_written || memcmp(out, our_out, sizeof out) != 0 ||
+        memcmp(figures, our_figures, sizeof figures) != 0) {
+        printf("%s: refused, or the two answers differ\n", name);
+        exit(1);
+    }
+}
+
+/* `units` is what a time is also given by: numbers of the file, occurrences run, calls; 0 for none. */
+static void row(const char *call, const char *on, task *run, int units, const char *unit)
+{
+    struct pair pair;
+
+    agree(run, call);
+    pair = measure(run);
+    printf("%-10s %-30s %6zu %12.0f %12.0f %7.2f", call, on, file.length, pair.ours, pair.theirs,
+           pair.ours / pair.theirs);
+    if (units > 0)
+        printf("  %7.2f %7.2f ns a%s", pair.ours / units, pair.theirs / units, unit);
+    printf("\n");
+    fflush(stdout);
+}
+
+static void row_on(const char *call, struct bench_file with, task *run, int units, const char *unit)
+{
+    file = with;
+    row(call, file.name, run, units, unit);
+}
+
+static struct bench_file written_adder(size_t bits)
+{
+    static uint8_t bytes[2048];
+    struct bench_file adder = {bits == 1 ? "adder 1, the smallest" : "adder 64", bytes, 0, 0, 18};
+
+    if (tuned_adder(bits, bytes, sizeof bytes, &adder.length, &place) != 0)
+        exit(1);
+    return adder;
+}
+
+static void check_rows(void)
+{
+    struct bench_file files[] = {one_module(), many_modules(), long_lists(), many_references(), empty_references()};
+
+    for (size_t i = 0; i < sizeof files / sizeof *files; i++)
+        row_on("check", files[i], check, files[i].numbers, " number");
+    row_on("check", written_adder(1), check, 0, "");
+}
+
+static void evaluate_rows(void)
+{
+    for (size_t i = 0; i < sizeof values; i++)
+        values[i] = (uint8_t)(i % 3);
+    inputs = 3;
+    row_on("evaluate", written_adder(1), evaluate, 0, "");
+    inputs = 129;
+    row_on("evaluate", written_adder(64), evaluate, 512, "n occurrence");
+    inputs = 2;
+    row_on("evaluate", full_size(), evaluate, 65535, "n occurrence");
+    inputs = 16;
+    row_on("evaluate", one_module(), evaluate, 4080, "n occurrence");
+}
+
+static void count_rows(void)
+{
+    row_on("count", written_adder(1), count, 0, "");
+    row_on("count", written_adder(64), count, 0, "");
+    row_on("count all", many_modules(), count_all, 128, " module");
+    row_on("count", full_size(), count, 65535, "n occurrence");
+    row_on("count", doubling(), count, 65535, "n occurrence");
+}
+
+static void flatten_rows(void)
+{
+    row_on("flatten", written_adder(64), flatten, 320, " gate");
+    row_on("flatten", one_module(), flatten, 4080, " gate");
+    row_on("flatten", deep_when_flat(), flatten, 3840, " gate");
+}
+
+static void writer_rows(void)
+{
+    file = (struct bench_file){0};
+    width = 1;
+    row("adder", "width 1", write_adder, 0, "");
+    row("counter", "width 1", write_counter, 0, "");
+    width = 64;
+    row("adder", "width 64", write_adder, 0, "");
+    row("counter", "width 64", write_counter, 0, "");
+}
+
+int main(void)
+{
+    printf("%-10s %-30s %6s %12s %12s %7s\n", "call", "on", "bytes", "ours, ns", "tuned C, ns", "ratio");
+    check_rows();
+    evaluate_rows();
+    count_rows();
+    flatten_rows();
+    writer_rows();
+    return 0;
+}

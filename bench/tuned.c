@@ -1,0 +1,840 @@
+/* The calls on shelf files as a good engineer would write them for speed: one pass decodes the bytes, one resolves
+ * every net to its slot and every reference to its position, and all memory is static. Tables over net numbers are
+ * never cleared: an entry counts only if it bears the stamp of the module at hand. Not for two threads at once. */
+#include "tuned.h"
+
+#include <string.h>
+
+enum {
+    BYTES = 65535,
+    MODULES = 128,
+    LIST = 192,
+    NUMBERS = 16384,
+    NETS = 4096,
+    OCCURRENCES = 4096,
+    SIZE = 65535,
+    GATES = 16,
+    ROOM = 40959 /* at most so in a good file, which lists every net of every frame */
+};
+
+struct module {
+    uint32_t start;   /* of its number in `numbers` */
+    uint32_t outputs; /* of its output list */
+    uint32_t body;    /* of its count of occurrences */
+    uint32_t image;   /* of its first occurrence in `image` */
+    uint32_t references;
+    uint32_t gates, size, room, nets, load;
+    uint16_t number, ins, outs, runs, calls;
+    uint8_t again; /* a later module has the same number */
+};
+
+static uint16_t numbers[BYTES + 1];
+static struct module modules[MODULES];
+static uint32_t module_count;
+
+/* For each occurrence what it refers to (a gate, or 16 + position), then the slots of its arguments. What it drives
+ * are the next slots of the frame. Outputs stand apart, one row a module. */
+static uint16_t image[BYTES + 1];
+static uint16_t output_slots[MODULES][LIST];
+static uint8_t references[BYTES / 3 + 1];
+
+/* Stamped tables: stamp in the high half, slot or position in the low half. */
+static uint32_t slot_of[NUMBERS], listed[NUMBERS], position_of[NUMBERS];
+static uint32_t stamp;
+
+static const uint8_t arity[GATES] = {1, 1, 2, 3, 4, 2, 3, 4, 2, 2, 2, 3, 4, 2, 3, 4};
+
+static uint32_t next_stamp(void)
+{
+    if (++stamp == 0x10000) {
+        memset(slot_of, 0, sizeof slot_of);
+        memset(listed, 0, sizeof listed);
+        memset(position_of, 0, sizeof position_of);
+        stamp = 1;
+    }
+    return stamp << 16;
+}
+
+static uint16_t end(size_t *place, uint16_t number, size_t at)
+{
+    *place = at;
+    return number;
+}
+
+/* ---- reading */
+
+/* Kept in registers: everything that takes a cursor is put into read_file. A step that fails gives minus the number of
+ * the refusal and leaves `at` on the number that it is about. */
+struct cursor {
+    const uint8_t *at, *end;
+    uint16_t *to;
+};
+
+#define INTO static inline __attribute__((always_inline))
+
+INTO int long_number(const uint8_t *at, const uint8_t *file_end)
+{
+    if (file_end - at < 2)
+        return -2;
+    if (at[1] == 0 || at[1] >= 128)
+        return -3;
+    return at[0] - 128 + 128 * at[1];
+}
+
+INTO int take(struct cursor *c)
+{
+    int n;
+
+    if (c->at < c->end && *c->at < 128) {
+        n = *c->at++;
+    } else {
+        n = long_number(c->at, c->end);
+        if (n < 0)
+            return n;
+        c->at += 2;
+    }
+    *c->to++ = (uint16_t)n;
+    return n;
+}
+
+INTO int take_count(struct cursor *c, int ceiling)
+{
+    int n = take(c);
+
+    if (n > ceiling) {
+        c->at -= n < 128 ? 1 : 2;
+        return -4;
+    }
+    return n;
+}
+
+INTO int take_list(struct cursor *c)
+{
+    int n = take_count(c, LIST), last;
+
+    for (int i = 0; i < n; i++)
+        if ((last = take(c)) < 0)
+            return last;
+    return n;
+}
+
+INTO int take_occurrence(struct cursor *c)
+{
+    int last;
+
+    if ((last = take_list(c)) < 0 || (last = take(c)) < 0)
+        return last;
+    return take_list(c);
+}
+
+INTO int take_module(struct cursor *c, struct module *m)
+{
+    int number, ins, outs, runs, last;
+
+    m->start = (uint32_t)(c->to - numbers);
+    if ((number = take(c)) < 0)
+        return number;
+    if ((ins = take_list(c)) < 0)
+        return ins;
+    m->outputs = (uint32_t)(c->to - numbers) + 1;
+    if ((outs = take_list(c)) < 0)
+        return outs;
+    m->body = (uint32_t)(c->to - numbers) + 1;
+    if ((runs = take_count(c, OCCURRENCES)) < 0)
+        return runs;
+    for (int i = 0; i < runs; i++)
+        if ((last = take_occurrence(c)) < 0)
+            return last;
+    m->number = (uint16_t)number;
+    m->ins = (uint16_t)ins;
+    m->outs = (uint16_t)outs;
+    m->runs = (uint16_t)runs;
+    return 0;
+}
+
+static uint16_t read_file(const uint8_t *file, size_t length, size_t *place)
+{
+    struct cursor c = {file, file + length, numbers};
+    int count, last;
+
+    if (length > BYTES)
+        return end(place, 1, 0);
+    last = count = take_count(&c, MODULES);
+    for (int i = 0; i < count && last >= 0; i++)
+        last = take_module(&c, &modules[i]);
+    if (last < 0)
+        return end(place, (uint16_t)-last, last == -2 ? length : (size_t)(c.at - file));
+    if (c.at < c.end)
+        return end(place, 5, (size_t)(c.at - file));
+    module_count = (uint32_t)count;
+    return 0;
+}
+
+/* ---- the check */
+
+static void find_positions(uint32_t mark)
+{
+    for (uint32_t k = module_count; k-- > 0;) {
+        uint32_t *entry = &position_of[modules[k].number];
+
+        modules[k].again = (*entry & 0xFFFF0000) == mark;
+        *entry = mark | k;
+    }
+}
+
+static uint16_t check_lists(const struct module *m, uint32_t mark)
+{
+    const uint16_t *in = numbers + m->start + 2, *out = numbers + m->outputs;
+
+    if (m->number < 16)
+        return 6;
+    if (m->again)
+        return 7;
+    for (uint32_t i = 0; i < m->ins; i++) {
+        if ((slot_of[in[i]] & 0xFFFF0000) == mark)
+            return 8;
+        slot_of[in[i]] = mark | i;
+    }
+    for (uint32_t i = 0; i < m->outs; i++) {
+        if (listed[out[i]] == mark)
+            return 9;
+        listed[out[i]] = mark;
+    }
+    for (uint32_t i = 0; i < m->outs; i++)
+        if ((slot_of[out[i]] & 0xFFFF0000) == mark)
+            return 10;
+    return 0;
+}
+
+/* Rules 11 to 14 for every occurrence, and the image of the module. */
+static uint16_t check_body(uint32_t k, uint32_t mark, uint32_t positions, uint16_t **image_end,
+                           uint8_t **references_end)
+{
+    struct module *m = &modules[k];
+    const uint16_t *at = numbers + m->body;
+    uint16_t *to = *image_end;
+    uint8_t *calls = *references_end;
+    uint32_t slot = m->ins;
+
+    for (uint32_t i = 0; i < m->runs; i++) {
+        uint32_t drives = *at++, limit = mark | slot, refers, takes, ins, outs;
+
+        for (uint32_t j = 0; j < drives; j++) {
+            uint32_t *entry = &slot_of[*at++];
+
+            if ((*entry & 0xFFFF0000) == mark)
+                return 11;
+            *entry = mark | slot++;
+        }
+        refers = *at++;
+        takes = *at++;
+        *to++ = (uint16_t)refers;
+        for (uint32_t j = 0; j < takes; j++) {
+            uint32_t entry = slot_of[*at++];
+
+            /* An older stamp gives a huge difference, a net of this occurrence one not below its first slot. */
+            if (entry - mark >= limit - mark)
+                return 12;
+            *to++ = (uint16_t)entry;
+        }
+        if (refers < GATES) {
+            ins = arity[refers];
+            outs = 1;
+        } else {
+            uint32_t entry = position_of[refers], later = entry & 0xFFFF;
+
+            if ((entry & 0xFFFF0000) != positions || later <= k)
+                return 13;
+            to[-1 - (int)takes] = (uint16_t)(GATES + later);
+            *calls++ = (uint8_t)later;
+            ins = modules[later].ins;
+            outs = modules[later].outs;
+        }
+        if (takes != ins || drives != outs)
+            return 14;
+    }
+    m->nets = slot;
+    m->calls = (uint16_t)(calls - *references_end);
+    *image_end = to;
+    *references_end = calls;
+    return 0;
+}
+
+static uint16_t check_outputs(uint32_t k, uint32_t mark)
+{
+    const struct module *m = &modules[k];
+
+    for (uint32_t i = 0; i < m->outs; i++) {
+        uint32_t entry = slot_of[numbers[m->outputs + i]];
+
+        if ((entry & 0xFFFF0000) != mark)
+            return 15;
+        output_slots[k][i] = (uint16_t)entry;
+    }
+    return m->nets > NETS ? 16 : 0;
+}
+
+static uint16_t measure(size_t *place)
+{
+    for (uint32_t k = module_count; k-- > 0;) {
+        struct module *m = &modules[k];
+        uint32_t size = m->runs, room = 0, gates = (uint32_t)m->runs - m->calls;
+
+        for (uint32_t i = 0; i < m->calls; i++) {
+            const struct module *inner = &modules[references[m->references + i]];
+
+            size += inner->size;
+            gates += inner->gates;
+            if (inner->room > room)
+                room = inner->room;
+        }
+        if (size > SIZE)
+            return end(place, 17, k);
+        m->size = size;
+        m->gates = gates;
+        m->room = m->nets + room;
+    }
+    return end(place, 0, 0);
+}
+
+static uint16_t open_file(const uint8_t *file, size_t length, size_t *place)
+{
+    uint16_t no = read_file(file, length, place), *image_end = image;
+    uint8_t *references_end = references;
+    uint32_t positions;
+
+    if (no != 0)
+        return no;
+    positions = next_stamp();
+    find_positions(positions);
+    for (uint32_t k = 0; k < module_count; k++) {
+        uint32_t mark = next_stamp();
+
+        if (mark < positions) { /* the stamps began anew and took the positions with them */
+            positions = mark;
+            find_positions(positions);
+            mark = next_stamp();
+        }
+        modules[k].image = (uint32_t)(image_end - image);
+        modules[k].references = (uint32_t)(references_end - references);
+        if ((no = check_lists(&modules[k], mark)) != 0 ||
+            (no = check_body(k, mark, positions, &image_end, &references_end)) != 0 ||
+            (no = check_outputs(k, mark)) != 0)
+            return end(place, no, k);
+    }
+    return measure(place);
+}
+
+static int find(uint16_t number)
+{
+    for (uint32_t k = 0; k < module_count; k++)
+        if (modules[k].number == number)
+            return (int)k;
+    return -1;
+}
+
+uint16_t TUNED(check)(const uint8_t *file, size_t file_len, size_t *place)
+{
+    return open_file(file, file_len, place);
+}
+
+uint16_t TUNED(modules)(const uint8_t *file, size_t file_len, size_t *count, size_t *place)
+{
+    uint16_t no = open_file(file, file_len, place);
+
+    *count = no == 0 ? module_count : 0;
+    return no;
+}
+
+uint16_t TUNED(number_at)(const uint8_t *file, size_t file_len, size_t position, uint16_t *number, size_t *place)
+{
+    uint16_t no = open_file(file, file_len, place);
+
+    *number = 0;
+    if (no != 0)
+        return no;
+    if (position >= module_count)
+        return end(place, 18, 0);
+    *number = modules[position].number;
+    return 0;
+}
+
+/* ---- evaluation */
+
+/* A gate's value by kind and up to four values of two bits, the first argument lowest. */
+static uint8_t gate_values[GATES][256];
+
+static int three_valued(int kind, uint32_t values)
+{
+    int zeros = 0, unknowns = 0, ones = 0, all, any;
+
+    for (int i = 0; i < arity[kind]; i++, values >>= 2) {
+        zeros += (values & 3) == 0;
+        ones += (values & 3) == 1;
+        unknowns += (values & 3) >= 2;
+    }
+    all = zeros ? 0 : unknowns ? 2 : 1;
+    any = ones ? 1 : unknowns ? 2 : 0;
+    switch (kind) {
+    case 0: case 5: case 6: case 7:
+        return any;
+    case 1: case 13: case 14: case 15:
+        return any == 2 ? 2 : 1 - any;
+    case 2: case 3: case 4:
+        return all == 2 ? 2 : 1 - all;
+    case 8:
+        return unknowns ? 2 : ones != 1;
+    case 9:
+        return unknowns ? 2 : ones == 1;
+    default:
+        return all;
+    }
+}
+
+static void make_gate_values(void)
+{
+    static int made;
+
+    if (made)
+        return;
+    for (int kind = 0; kind < GATES; kind++)
+        for (uint32_t values = 0; values < 256; values++)
+            gate_values[kind][values] = (uint8_t)three_valued(kind, values);
+    made = 1;
+}
+
+static uint8_t frame_values[ROOM];
+
+static void run_values(uint32_t k, uint8_t *frame)
+{
+    const struct module *m = &modules[k];
+    const uint16_t *at = image + m->image;
+    uint8_t *next = frame + m->ins, *inner_frame = frame + m->nets;
+
+    for (uint32_t i = 0; i < m->runs; i++) {
+        uint32_t refers = *at++;
+
+        if (refers < GATES) {
+            uint32_t index = frame[at[0]];
+
+            switch (arity[refers]) {
+            case 4:
+                index |= (uint32_t)frame[at[3]] << 6; /* fall through */
+            case 3:
+                index |= (uint32_t)frame[at[2]] << 4; /* fall through */
+            case 2:
+                index |= (uint32_t)frame[at[1]] << 2;
+            }
+            at += arity[refers];
+            *next++ = gate_values[refers][index];
+        } else {
+            uint32_t inner = refers - GATES, ins = modules[inner].ins, outs = modules[inner].outs;
+
+            for (uint32_t j = 0; j < ins; j++)
+                inner_frame[j] = frame[*at++];
+            run_values(inner, inner_frame);
+            for (uint32_t j = 0; j < outs; j++)
+                *next++ = inner_frame[output_slots[inner][j]];
+        }
+    }
+}
+
+uint16_t TUNED(evaluate)(const uint8_t *file, size_t file_len, uint16_t number, const uint8_t *values,
+                         size_t values_len, uint32_t *scratch, size_t scratch_len, uint8_t *out, size_t out_len,
+                         size_t *written, size_t *place)
+{
+    uint16_t no = open_file(file, file_len, place);
+    const struct module *m;
+    int k;
+
+    *written = 0;
+    if (no != 0)
+        return no;
+    if ((k = find(number)) < 0)
+        return end(place, 18, 0);
+    m = &modules[k];
+    if (values_len != m->ins)
+        return end(place, 19, 0);
+    for (size_t i = 0; i < values_len; i++)
+        if (values[i] > 2)
+            return end(place, 20, i);
+    if (scratch_len < m->room)
+        return end(place, 21, 0);
+    if (out_len < m->outs)
+        return end(place, 22, 0);
+    make_gate_values();
+    memcpy(frame_values, values, values_len);
+    run_values((uint32_t)k, frame_values);
+    for (uint32_t i = 0; i < m->outs; i++)
+        out[i] = frame_values[output_slots[k][i]];
+    memset(scratch, 0, m->room * sizeof *scratch);
+    *written = m->outs;
+    return 0;
+}
+
+/* ---- counts */
+
+static uint32_t tallies[MODULES][GATES], input_loads[MODULES][LIST], loads[NETS];
+
+/* Tally and loads of a module, those of later modules being there. */
+static void count_module(uint32_t k)
+{
+    struct module *m = &modules[k];
+    const uint16_t *at = image + m->image;
+    uint32_t *tally = tallies[k], most = 0;
+
+    memset(tally, 0, sizeof tallies[k]);
+    memset(loads, 0, m->nets * sizeof *loads);
+    for (uint32_t i = 0; i < m->runs; i++) {
+        uint32_t refers = *at++;
+
+        if (refers < GATES) {
+            tally[refers]++;
+            for (uint32_t j = 0; j < arity[refers]; j++)
+                loads[*at++]++;
+        } else {
+            uint32_t inner = refers - GATES;
+
+            for (uint32_t j = 0; j < GATES; j++)
+                tally[j] += tallies[inner][j];
+            for (uint32_t j = 0; j < modules[inner].ins; j++)
+                loads[*at++] += input_loads[inner][j];
+            if (modules[inner].load > most)
+                most = modules[inner].load;
+        }
+    }
+    for (uint32_t i = 0; i < m->nets; i++)
+        if (loads[i] > most)
+            most = loads[i];
+    memcpy(input_loads[k], loads, m->ins * sizeof *loads);
+    m->load = most;
+}
+
+/* Counts the modules that k reaches, and k itself, the last first. */
+static void count_reached(uint32_t k)
+{
+    static uint8_t reached[MODULES];
+
+    memset(reached, 0, module_count);
+    reached[k] = 1;
+    for (uint32_t i = k; i < module_count; i++)
+        if (reached[i])
+            for (uint32_t j = 0; j < modules[i].calls; j++)
+                reached[references[modules[i].references + j]] = 1;
+    for (uint32_t i = module_count; i-- > k;)
+        if (reached[i])
+            count_module(i);
+}
+
+static uint16_t frame_times[ROOM];
+
+static void run_times(uint32_t k, uint16_t *frame)
+{
+    const struct module *m = &modules[k];
+    const uint16_t *at = image + m->image;
+    uint16_t *next = frame + m->ins, *inner_frame = frame + m->nets;
+
+    for (uint32_t i = 0; i < m->runs; i++) {
+        uint32_t refers = *at++;
+
+        if (refers < GATES) {
+            uint16_t latest = 0;
+
+            for (uint32_t j = 0; j < arity[refers]; j++, at++)
+                if (frame[*at] > latest)
+                    latest = frame[*at];
+            *next++ = (uint16_t)(latest + 1);
+        } else {
+            uint32_t inner = refers - GATES;
+
+            for (uint32_t j = 0; j < modules[inner].ins; j++)
+                inner_frame[j] = frame[*at++];
+            run_times(inner, inner_frame);
+            for (uint32_t j = 0; j < modules[inner].outs; j++)
+                *next++ = inner_frame[output_slots[inner][j]];
+        }
+    }
+}
+
+static uint32_t delay(uint32_t k)
+{
+    uint32_t latest = 0;
+
+    memset(frame_times, 0, modules[k].ins * sizeof *frame_times);
+    run_times(k, frame_times);
+    for (uint32_t i = 0; i < modules[k].outs; i++)
+        if (frame_times[output_slots[k][i]] > latest)
+            latest = frame_times[output_slots[k][i]];
+    return latest;
+}
+
+uint16_t TUNED(count)(const uint8_t *file, size_t file_len, uint16_t number, uint32_t *scratch, size_t scratch_len,
+                      uint32_t figures[7], uint32_t tally[16], size_t *place)
+{
+    uint16_t no = open_file(file, file_len, place);
+    const struct module *m;
+    int k;
+
+    memset(figures, 0, 7 * sizeof *figures);
+    memset(tally, 0, GATES * sizeof *tally);
+    if (no != 0)
+        return no;
+    if ((k = find(number)) < 0)
+        return end(place, 18, 0);
+    m = &modules[k];
+    if (scratch_len < m->room)
+        return end(place, 21, 0);
+    count_reached((uint32_t)k);
+    figures[0] = m->ins;
+    figures[1] = m->outs;
+    figures[2] = m->gates;
+    figures[3] = m->size;
+    figures[4] = m->room;
+    figures[5] = delay((uint32_t)k);
+    figures[6] = m->load;
+    memcpy(tally, tallies[k], sizeof tallies[k]);
+    memset(scratch, 0, m->room * sizeof *scratch);
+    return 0;
+}
+
+/* ---- writing */
+
+static uint8_t made[BYTES];
+
+static inline uint8_t *put(uint8_t *to, uint32_t n)
+{
+    if (n < 128) {
+        *to++ = (uint8_t)n;
+        return to;
+    }
+    *to++ = (uint8_t)(128 | n);
+    *to++ = (uint8_t)(n >> 7);
+    return to;
+}
+
+static uint8_t *put_range(uint8_t *to, uint32_t first, uint32_t count)
+{
+    to = put(to, count);
+    for (uint32_t i = 0; i < count; i++)
+        to = put(to, first + i);
+    return to;
+}
+
+/* Hands over what stands in `made`, up to `made_end`. */
+static uint16_t give(const uint8_t *made_end, uint8_t *out, size_t out_len, size_t *written, size_t *place)
+{
+    size_t length = (size_t)(made_end - made);
+
+    if (out_len < length)
+        return end(place, 22, 0);
+    memcpy(out, made, length);
+    *written = length;
+    return end(place, 0, 0);
+}
+
+/* ---- flattening */
+
+static uint16_t frame_nets[ROOM];
+static uint32_t next_net;
+
+static uint8_t *run_nets(uint32_t k, uint16_t *frame, uint8_t *to)
+{
+    const struct module *m = &modules[k];
+    const uint16_t *at = image + m->image;
+    uint16_t *next = frame + m->ins, *inner_frame = frame + m->nets;
+
+    for (uint32_t i = 0; i < m->runs; i++) {
+        uint32_t refers = *at++;
+
+        if (refers < GATES) {
+            *to++ = 1;
+            to = put(to, next_net);
+            *to++ = (uint8_t)refers;
+            *to++ = arity[refers];
+            for (uint32_t j = 0; j < arity[refers]; j++)
+                to = put(to, frame[*at++]);
+            *next++ = (uint16_t)next_net++;
+        } else {
+            uint32_t inner = refers - GATES;
+
+            for (uint32_t j = 0; j < modules[inner].ins; j++)
+                inner_frame[j] = frame[*at++];
+            to = run_nets(inner, inner_frame, to);
+            for (uint32_t j = 0; j < modules[inner].outs; j++)
+                *next++ = inner_frame[output_slots[inner][j]];
+        }
+    }
+    return to;
+}
+
+/* The head holds the outputs, which are known only after the gates: these are made further up and moved down. */
+static uint8_t *flatten_module(uint32_t k)
+{
+    enum { HEAD = 1 + 2 + 2 + 2 * LIST + 2 + 2 * LIST + 2 };
+    const struct module *m = &modules[k];
+    uint8_t *gates = made + HEAD, *gates_end, *to = made;
+
+    for (uint32_t i = 0; i < m->ins; i++)
+        frame_nets[i] = (uint16_t)i;
+    next_net = m->ins;
+    gates_end = run_nets(k, frame_nets, gates);
+    *to++ = 1;
+    to = put(to, m->number);
+    to = put_range(to, 0, m->ins);
+    to = put(to, m->outs);
+    for (uint32_t i = 0; i < m->outs; i++)
+        to = put(to, frame_nets[output_slots[k][i]]);
+    to = put(to, m->gates);
+    memmove(to, gates, (size_t)(gates_end - gates));
+    return to + (gates_end - gates);
+}
+
+uint16_t TUNED(flatten)(const uint8_t *file, size_t file_len, uint16_t number, uint32_t *scratch,
+                        size_t scratch_len, uint8_t *out, size_t out_len, size_t *written, size_t *place)
+{
+    uint16_t no = open_file(file, file_len, place);
+    const struct module *m;
+    int k;
+
+    *written = 0;
+    if (no != 0)
+        return no;
+    if ((k = find(number)) < 0)
+        return end(place, 18, 0);
+    m = &modules[k];
+    if (m->ins + m->gates > NETS)
+        return end(place, 24, 0);
+    if (scratch_len < m->room)
+        return end(place, 21, 0);
+    no = give(flatten_module((uint32_t)k), out, out_len, written, place);
+    if (no == 0)
+        memset(scratch, 0, m->room * sizeof *scratch);
+    return no;
+}
+
+/* ---- the writers */
+
+static uint8_t *put_gate(uint8_t *to, uint32_t net, uint8_t kind, uint32_t a, uint32_t b)
+{
+    *to++ = 1;
+    to = put(to, net);
+    *to++ = kind;
+    *to++ = 2;
+    return put(put(to, a), b);
+}
+
+uint16_t TUNED(adder)(size_t width, uint8_t *out, size_t out_len, size_t *written, size_t *place)
+{
+    static const uint8_t cells[] = {
+        0x11, 3, 0, 1, 2, 2, 3, 4, 3, 2, 5, 6, 0x10, 2, 0, 1, 2, 3, 7, 0x10, 2, 5, 2, 1, 4, 5, 2, 6, 7,
+        0x10, 2, 0, 1, 2, 2, 3, 2, 1, 2, 9, 2, 0, 1, 1, 3, 0x0A, 2, 0, 1};
+    uint32_t n = (uint32_t)width;
+    uint8_t *to = made;
+
+    *written = 0;
+    if (width - 1 > 63)
+        return end(place, 23, 0);
+    *to++ = 3;
+    *to++ = 18;
+    to = put_range(to, 0, 2 * n + 1);
+    to = put(to, n + 1);
+    for (uint32_t i = 0; i < n; i++)
+        to = put(to, 2 * n + 1 + i);
+    to = put(put(to, 4 * n), n);
+    for (uint32_t i = 0; i < n; i++) {
+        *to++ = 2;
+        to = put(put(to, 2 * n + 1 + i), 3 * n + 1 + i);
+        *to++ = 17;
+        *to++ = 3;
+        to = put(put(put(to, 1 + i), n + 1 + i), i ? 3 * n + i : 0);
+    }
+    memcpy(to, cells, sizeof cells);
+    return give(to + sizeof cells, out, out_len, written, place);
+}
+
+/* The wiring of counters is that of docs/COUNTER.md. */
+enum { NOT = 1, OR = 5, XOR = 9, AND = 10, NOR = 13, COUNTER = 32 };
+
+/* AND with a block's empty, OR with its count bit, for each count bit in turn. */
+static uint8_t *put_joins(uint8_t *to, uint32_t bits, uint32_t empty, uint32_t below, uint32_t above, uint32_t ands,
+                          uint32_t ors)
+{
+    for (uint32_t i = 0; i < bits; i++) {
+        to = put_gate(to, ands + i, AND, empty, below + i);
+        to = put_gate(to, ors + i, OR, above + i, ands + i);
+    }
+    return to;
+}
+
+/* The block of a level from 1 up: 2^level bits. */
+static uint8_t *put_block(uint8_t *to, uint32_t level)
+{
+    uint32_t j = level - 1, half = 1u << j, low = 2 * half, high = low + level, ands = high + level, ors = ands + j;
+    uint32_t top = ors + j, empty = top + 1, high_empty = high + j;
+
+    *to++ = (uint8_t)(COUNTER + level);
+    to = put_range(to, 0, 2 * half);
+    if (level == 1) {
+        static const uint8_t pair[] = {2, 2, 3, 2, 1, 3, NOR, 2, 0, 1, 1, 2, NOR, 2, 1, 3};
+
+        memcpy(to, pair, sizeof pair);
+        return to + sizeof pair;
+    }
+    to = put_range(to, ors, level + 1);
+    *to++ = (uint8_t)(2 + 2 * j + 2);
+    to = put_range(to, low, level);
+    *to++ = (uint8_t)(COUNTER + j);
+    to = put_range(to, 0, half);
+    to = put_range(to, high, level);
+    *to++ = (uint8_t)(COUNTER + j);
+    to = put_range(to, half, half);
+    to = put_joins(to, j, high_empty, low, high, ands, ors);
+    to = put_gate(to, empty, AND, high_empty, low + j);
+    return put_gate(to, top, XOR, high_empty, empty);
+}
+
+/* The nets of one part of module 32: the part's low count bits stand before its ANDs and ORs, the others after. */
+static uint8_t *put_part(uint8_t *to, uint32_t level, uint32_t first_bit, uint32_t net, uint32_t below, uint32_t count)
+{
+    uint32_t ands = net + count, ors = ands + count, rest = ors + count, empty = rest + level - count;
+
+    to = put(to, level + 1);
+    for (uint32_t i = 0; i < count; i++)
+        to = put(to, net + i);
+    for (uint32_t i = count; i <= level; i++)
+        to = put(to, rest + i - count);
+    *to++ = (uint8_t)(level == 0 ? NOT : COUNTER + level);
+    to = put_range(to, first_bit, 1u << level);
+    return put_joins(to, count, empty, below, net, ands, ors);
+}
+
+uint16_t TUNED(counter)(size_t width, uint8_t *out, size_t out_len, size_t *written, size_t *place)
+{
+    uint32_t n = (uint32_t)width, runs = 0, net = n, below = 0, count = 0, first_bit = 0, top = 0;
+    uint8_t body[1024], *to = made, *body_end = body;
+
+    *written = 0;
+    if (width - 1 > 63)
+        return end(place, 23, 0);
+    for (uint32_t level = 0; level < 7; level++) {
+        if (!(n >> level & 1))
+            continue;
+        body_end = put_part(body_end, level, first_bit, net, below, count);
+        runs += 1 + 2 * count;
+        below = net + 2 * count;
+        net = below + level + 1;
+        first_bit += 1u << level;
+        count = level + 1;
+        top = level;
+    }
+    *to++ = (uint8_t)(1 + top);
+    *to++ = COUNTER;
+    to = put_range(to, 0, n);
+    to = put_range(to, below, count);
+    to = put(to, runs);
+    memcpy(to, body, (size_t)(body_end - body));
+    to += body_end - body;
+    for (uint32_t level = top; level >= 1; level--)
+        to = put_block(to, level);
+    return give(to, out, out_len, written, place);
+}

@@ -1,0 +1,91 @@
+/* The shelf library from C.
+ *
+ * A shelf file is a list of modules built from gates; docs/ and the scope of the project say what its bytes mean.
+ * Every function below is total: any bytes, any lengths and any numbers may be passed. Link libshelf_c.a (x86-64).
+ *
+ * Slices. A lent buffer is passed as a pointer and a length: `file`, `values` and `out` in bytes, `scratch` in
+ * entries. A pointer must be good for that many entries, also where the length is 0 it must not be a null pointer,
+ * and no two buffers of one call may overlap. `file` and `values` are only read.
+ *
+ * What comes back. Every function returns 0 for an answer, or the number of a refusal, 1 to 24. `*place` gets 0 with
+ * an answer and the refusal's place with a refusal:
+ *
+ *    1  the file is over 65,535 bytes                        0
+ *    2  the file ends where a byte is due                    the file's length
+ *    3  a number is not in its shortest form                 first byte of the number
+ *    4  a count is over its ceiling                          first byte of the count
+ *    5  bytes follow the last module                         the first of them
+ *    6  a module's number is under 16                        the module's position, from 0; so too for 7 to 17
+ *    7  a later module has the same number
+ *    8  an input is listed twice
+ *    9  an output is listed twice
+ *   10  a net is both input and output
+ *   11  an occurrence drives a net twice, or an input, or a net that is driven already
+ *   12  an argument is neither an input nor driven earlier
+ *   13  an occurrence refers to no gate and no later module
+ *   14  the count of arguments or of driven nets does not match
+ *   15  an output is not driven
+ *   16  more than 4,096 nets
+ *   17  the expanded size is over 65,535
+ *   18  no module of that number, or at that position       0
+ *   19  the count of values differs from the inputs          0
+ *   20  a value is above 2                                   index of the first such value
+ *   21  scratch has fewer entries than the module's room     0
+ *   22  the output buffer is shorter than the answer         0
+ *   23  the width is outside 1 to 64                         0
+ *   24  flattening needs more than 4,096 nets                0
+ *
+ * What a call leaves. A refusal changes no lent buffer. An answer fills the first bytes of `out` and leaves the rest;
+ * it leaves 0 in the first `room` entries of `scratch` and the rest as it was. The places for single results
+ * (`written`, `modules`, `number`, `figures`, `tally`, `place`) are always written: 0 throughout where refused.
+ */
+#ifndef SHELF_H
+#define SHELF_H
+
+#include <stddef.h>
+#include <stdint.h>
+
+#ifdef __cplusplus
+extern "C" {
+#endif
+
+/* Is this a good file? Refusals 1 to 17; of several, the first in the order of reading and of the rules. */
+uint16_t shelf_check(const uint8_t *file, size_t file_len, size_t *place);
+
+/* How many modules the file has, in *modules. Refusals 1 to 17. */
+uint16_t shelf_modules(const uint8_t *file, size_t file_len, size_t *modules, size_t *place);
+
+/* The number of the module at a position, counted from 0, in *number. Refusals 1 to 17, then 18 where the file has
+ * no such position. */
+uint16_t shelf_number_at(const uint8_t *file, size_t file_len, size_t position, uint16_t *number, size_t *place);
+
+/* Runs the module of that number on values 0 (false), 1 (true), 2 (unknown), one for each input in order. The values
+ * of its outputs, in order, come in the first bytes of out; *written is how many there are.
+ * Refusals 1 to 17, then 18, 19, 20, 21, 22. */
+uint16_t shelf_evaluate(const uint8_t *file, size_t file_len, uint16_t number, const uint8_t *values,
+                        size_t values_len, uint32_t *scratch, size_t scratch_len, uint8_t *out, size_t out_len,
+                        size_t *written, size_t *place);
+
+/* Counts the module of that number. figures: inputs, outputs, gates, expanded size, room, delay, largest load.
+ * tally: how many gates of each kind, in gate order; their sum is the gates. Refusals 1 to 17, then 18, 21. */
+uint16_t shelf_count(const uint8_t *file, size_t file_len, uint16_t number, uint32_t *scratch, size_t scratch_len,
+                     uint32_t figures[7], uint32_t tally[16], size_t *place);
+
+/* Writes a file of one module of that number, gates only, that gives the same outputs on all values. The file comes
+ * in the first *written bytes of out, at most 52,989. Refusals 1 to 17, then 18, 24, 21, 22. */
+uint16_t shelf_flatten(const uint8_t *file, size_t file_len, uint16_t number, uint32_t *scratch, size_t scratch_len,
+                       uint8_t *out, size_t out_len, size_t *written, size_t *place);
+
+/* Writes the file of the ripple adder of that width: module 18, inputs carry, a, b, outputs sum, carry, low bits
+ * first. The file comes in the first *written bytes of out, at most 1,019. Refusals 23, 22. */
+uint16_t shelf_adder(size_t width, uint8_t *out, size_t out_len, size_t *written, size_t *place);
+
+/* Writes the file of the leading-zero counter of that width: module 32, low bits first. The file comes in the first
+ * *written bytes of out. Refusals 23, 22. */
+uint16_t shelf_counter(size_t width, uint8_t *out, size_t out_len, size_t *written, size_t *place);
+
+#ifdef __cplusplus
+}
+#endif
+
+#endif

@@ -1,0 +1,437 @@
+/* See compare.h. What is lent to the two readings is laid out alike, so that whole buffers can be compared. */
+#define _DEFAULT_SOURCE
+#include "compare.h"
+
+#include "../plain/plain.h"
+#include "counters.h"
+#include "draft.h"
+#include "lend.h"
+#include "random.h"
+#include "shelf.h"
+
+#include <signal.h>
+#include <stdio.h>
+#include <stdlib.h>
+#include <string.h>
+
+enum { REFUSALS = 25, SCRATCH_MOST = 70000, OUT_MOST = 70000, VALUES_MOST = 1000 };
+
+static const char *const call_names[CALLS] = {"check", "modules", "number_at", "evaluate",
+                                              "count", "flatten", "adder",     "counter"};
+static long met[CALLS][REFUSALS];
+
+/* What is lent to the library (`ours`) and to the plain reading (`plain`). */
+static struct lender file_lender, values_lender, our_scratch, plain_scratch, our_out, plain_out;
+
+/* The case at hand: what was passed, and what came back. */
+struct given {
+    enum call call;
+    uint16_t number;
+    size_t position, width, values_len, scratch_len, out_len;
+};
+
+struct outcome {
+    uint16_t number;
+    size_t place, result;
+    uint32_t figures[7], tally[16];
+};
+
+static uint64_t seed;
+static long case_number;
+static const uint8_t *file, *lent_file;
+static size_t file_len;
+static uint8_t values[VALUES_MOST];
+static struct given given;
+static struct outcome ours, plain;
+
+static void dump(const char *name, const uint8_t *bytes, size_t length)
+{
+    printf("%s, %zu bytes:", name, length);
+    for (size_t i = 0; i < length; i++)
+        printf("%s%02X", i % 32 == 0 ? "\n  " : " ", bytes[i]);
+    printf("\n");
+}
+
+static void print_outcome(const char *name, const struct outcome *outcome)
+{
+    printf("%s: number %u place %zu result %zu figures", name, outcome->number, outcome->place, outcome->result);
+    for (int i = 0; i < 7; i++)
+        printf(" %u", outcome->figures[i]);
+    printf(" tally");
+    for (int i = 0; i < 16; i++)
+        printf(" %u", outcome->tally[i]);
+    printf("\n");
+}
+
+void report(const char *what)
+{
+    printf("DIFFERENCE: %s\nseed %llu case %ld call %s\n", what, (unsigned long long)seed, case_number,
+           call_names[given.call]);
+    printf("module %u position %zu width %zu values %zu scratch %zu out %zu\n", given.number, given.position,
+           given.width, given.values_len, given.scratch_len, given.out_len);
+    print_outcome("library", &ours);
+    print_outcome("plain  ", &plain);
+    dump("values", values, given.values_len);
+    dump("file", file, file_len);
+    exit(1);
+}
+
+static void on_trap(int signal_number)
+{
+    (void)signal_number;
+    report("memory was touched that was not lent");
+}
+
+void compare_start(uint64_t with_seed)
+{
+    seed = with_seed;
+    file_lender = make_lender(FILE_ROOM);
+    values_lender = make_lender(VALUES_MOST);
+    our_scratch = make_lender(SCRATCH_MOST * sizeof(uint32_t));
+    plain_scratch = make_lender(SCRATCH_MOST * sizeof(uint32_t));
+    our_out = make_lender(OUT_MOST);
+    plain_out = make_lender(OUT_MOST);
+    signal(SIGSEGV, on_trap);
+    signal(SIGBUS, on_trap);
+}
+
+void compare_case(long number)
+{
+    case_number = number;
+}
+
+/* Before a call: places for results hold rubbish, which the call must overwrite. */
+static void begin(enum call call)
+{
+    memset(&given, 0, sizeof given);
+    memset(&ours, 0, sizeof ours);
+    memset(&plain, 0, sizeof plain);
+    given.call = call;
+    ours.place = 77;
+    plain.place = 88;
+}
+
+static void begin_with_result(enum call call)
+{
+    begin(call);
+    ours.result = 1077;
+    plain.result = 1088;
+}
+
+static int same_outcome(void)
+{
+    return ours.number == plain.number && ours.place == plain.place && ours.result == plain.result &&
+           memcmp(ours.figures, plain.figures, sizeof ours.figures) == 0 &&
+           memcmp(ours.tally, plain.tally, sizeof ours.tally) == 0;
+}
+
+static int same_memory(const struct lender *a, const struct lender *b, size_t length)
+{
+    return memcmp(a->end - length, b->end - length, length) == 0 && guard_kept(a, length);
+}
+
+/* After a call: the answer, and every byte of what was lent. */
+static void end_call(void)
+{
+    if (!same_outcome())
+        report("the answers differ");
+    if (memcmp(lent_file, file, file_len) != 0 || !guard_kept(&file_lender, file_len))
+        report("the file was changed");
+    if (ours.number < REFUSALS)
+        met[given.call][ours.number]++;
+}
+
+static void end_call_with_buffers(void)
+{
+    if (!same_memory(&our_scratch, &plain_scratch, given.scratch_len * sizeof(uint32_t)))
+        report("scratch differs");
+    if (!same_memory(&our_out, &plain_out, given.out_len))
+        report("the output buffer differs");
+    end_call();
+}
+
+static void compare_check(void)
+{
+    begin(CHECK);
+    ours.number = shelf_check(lent_file, file_len, &ours.place);
+    plain.number = plain_check(file, file_len, &plain.place);
+    end_call();
+}
+
+static void compare_modules(void)
+{
+    begin_with_result(MODULES);
+    ours.number = shelf_modules(lent_file, file_len, &ours.result, &ours.place);
+    plain.number = plain_modules(file, file_len, &plain.result, &plain.place);
+    end_call();
+}
+
+static void compare_number_at(size_t position)
+{
+    uint16_t our_number = 1077, plain_number = 1088;
+
+    begin(NUMBER_AT);
+    given.position = position;
+    ours.number = shelf_number_at(lent_file, file_len, position, &our_number, &ours.place);
+    plain.number = plain_number_at(file, file_len, position, &plain_number, &plain.place);
+    ours.result = our_number;
+    plain.result = plain_number;
+    end_call();
+}
+
+/* As many entries as `given` says, the same in both lenders. */
+static uint32_t *lend_scratch(const struct lender *lender)
+{
+    return (uint32_t *)(void *)lend(lender, given.scratch_len * sizeof(uint32_t), NULL);
+}
+
+static void compare_evaluate(uint16_t number, size_t values_len, size_t scratch_len, size_t out_len)
+{
+    const uint8_t *lent_values = lend(&values_lender, values_len, values);
+
+    begin_with_result(EVALUATE);
+    given.number = number;
+    given.values_len = values_len;
+    given.scratch_len = scratch_len;
+    given.out_len = out_len;
+    ours.number = shelf_evaluate(lent_file, file_len, number, lent_values, values_len, lend_scratch(&our_scratch),
+                                 scratch_len, lend(&our_out, out_len, NULL), out_len, &ours.result, &ours.place);
+    plain.number = plain_evaluate(file, file_len, number, values, values_len, lend_scratch(&plain_scratch),
+                                  scratch_len, lend(&plain_out, out_len, NULL), out_len, &plain.result,
+                                  &plain.place);
+    if (memcmp(lent_values, values, values_len) != 0 || !guard_kept(&values_lender, values_len))
+        report("the values were changed");
+    end_call_with_buffers();
+}
+
+static void compare_count(uint16_t number, size_t scratch_len)
+{
+    begin(COUNT);
+    memset(ours.figures, 0x11, sizeof ours.figures);
+    memset(ours.tally, 0x11, sizeof ours.tally);
+    given.number = number;
+    given.scratch_len = scratch_len;
+    lend(&our_out, 0, NULL);
+    lend(&plain_out, 0, NULL);
+    ours.number = shelf_count(lent_file, file_len, number, lend_scratch(&our_scratch), scratch_len, ours.figures,
+                              ours.tally, &ours.place);
+    plain.number = plain_count(file, file_len, number, lend_scratch(&plain_scratch), scratch_len, plain.figures,
+                               plain.tally, &plain.place);
+    end_call_with_buffers();
+}
+
+static void compare_flatten(uint16_t number, size_t scratch_len, size_t out_len)
+{
+    begin_with_result(FLATTEN);
+    given.number = number;
+    given.scratch_len = scratch_len;
+    given.out_len = out_len;
+    ours.number = shelf_flatten(lent_file, file_len, number, lend_scratch(&our_scratch), scratch_len,
+                                lend(&our_out, out_len, NULL), out_len, &ours.result, &ours.place);
+    plain.number = plain_flatten(file, file_len, number, lend_scratch(&plain_scratch), scratch_len,
+                                 lend(&plain_out, out_len, NULL), out_len, &plain.result, &plain.place);
+    end_call_with_buffers();
+}
+
+/* ---- what to pass */
+
+/* The right length, one less, none, or more. */
+static size_t near(size_t right)
+{
+    int roll = below(100);
+
+    if (roll < 60)
+        return right;
+    if (roll < 75)
+        return right > 0 ? right - 1 : 0;
+    if (roll < 80)
+        return 0;
+    return right + (size_t)below(roll < 95 ? 20 : 300);
+}
+
+static uint16_t any_number(void)
+{
+    switch (below(4)) {
+    case 0:
+        return (uint16_t)below(16);
+    case 1:
+        return (uint16_t)between(16384, 65535);
+    default:
+        return (uint16_t)between(16, percent(50) ? 150 : 16383);
+    }
+}
+
+/* Mostly a module of the file; now and then its number with bits added that no number of a file has. */
+static uint16_t choose_number(size_t modules)
+{
+    size_t place;
+    uint16_t number = any_number();
+
+    if (modules > 0 && percent(92)) {
+        plain_number_at(file, file_len, (size_t)below((int)modules), &number, &place);
+        if (percent(2))
+            number = (uint16_t)(number + 16384 * between(1, 3));
+    }
+    return number;
+}
+
+/* Values of one mood: anything, known only, mostly unknown; now and then some that are none. */
+static void choose_values(size_t length)
+{
+    int mood = below(3), bad = percent(8) && length > 0;
+
+    for (size_t i = 0; i < length; i++)
+        values[i] = (uint8_t)(mood == 0 ? below(3) : mood == 1 ? below(2) : percent(80) ? 2 : below(2));
+    for (int i = bad ? between(1, 3) : 0; i > 0; i--)
+        values[below((int)length)] = (uint8_t)(percent(50) ? 3 : between(3, 255));
+}
+
+/* What the right lengths are, by asking the plain reading with plenty of memory. */
+struct right {
+    size_t inputs, outputs, room, flat;
+};
+
+static struct right right_lengths(uint16_t number)
+{
+    static uint32_t scratch[SCRATCH_MOST];
+    static uint8_t out[OUT_MOST];
+    uint32_t figures[7], tally[16];
+    size_t flat, place;
+    uint16_t refused = plain_count(file, file_len, number, scratch, SCRATCH_MOST, figures, tally, &place);
+
+    if (refused != 0)
+        return (struct right){(size_t)below(10), (size_t)below(10), (size_t)below(30), (size_t)below(60)};
+    plain_flatten(file, file_len, number, scratch, SCRATCH_MOST, out, OUT_MOST, &flat, &place);
+    return (struct right){figures[0], figures[1], figures[4], flat};
+}
+
+static void compare_module_calls(size_t modules)
+{
+    uint16_t number = choose_number(modules);
+    struct right right = right_lengths(number);
+    size_t values_len = percent(90) ? right.inputs : near(right.inputs);
+
+    choose_values(values_len);
+    compare_evaluate(number, values_len, near(right.room), near(right.outputs));
+    compare_count(number, near(right.room));
+    compare_flatten(number, near(right.room), near(right.flat));
+}
+
+void compare_file(const uint8_t *bytes, size_t length)
+{
+    size_t modules, place;
+
+    file = bytes;
+    file_len = length;
+    lent_file = lend(&file_lender, length, bytes);
+    plain_modules(file, file_len, &modules, &place);
+    compare_check();
+    compare_modules();
+    compare_number_at(percent(95) ? (size_t)below((int)modules + 2) : (size_t)random_word());
+    compare_module_calls(modules);
+    if (modules > 0)
+        compare_module_calls(modules);
+}
+
+/* ---- the writers */
+
+static size_t any_width(void)
+{
+    int roll = below(100);
+
+    if (roll < 90)
+        return (size_t)below(67);
+    return roll < 95 ? (size_t)random_word() : (size_t)1 << (roll % 64) | (size_t)below(65);
+}
+
+static void begin_writer(enum call call, size_t width, size_t right)
+{
+    begin_with_result(call);
+    file_len = 0;
+    lent_file = lend(&file_lender, 0, NULL);
+    given.width = width;
+    given.out_len = near(right);
+    lend_scratch(&our_scratch);
+    lend_scratch(&plain_scratch);
+}
+
+static void compare_adder(void)
+{
+    static uint8_t out[OUT_MOST];
+    size_t width = any_width(), right, place;
+
+    plain_adder(width, out, OUT_MOST, &right, &place);
+    begin_writer(ADDER, width, right);
+    ours.number =
+        shelf_adder(width, lend(&our_out, given.out_len, NULL), given.out_len, &ours.result, &ours.place);
+    plain.number =
+        plain_adder(width, lend(&plain_out, given.out_len, NULL), given.out_len, &plain.result, &plain.place);
+    end_call_with_buffers();
+}
+
+/* The bytes of a counter are the library's own; they have been judged once, and must come again. */
+static void compare_counter(void)
+{
+    size_t width = any_width();
+
+    begin_writer(COUNTER, width, judged_counter_length(width));
+    ours.number =
+        shelf_counter(width, lend(&our_out, given.out_len, NULL), given.out_len, &ours.result, &ours.place);
+    plain.number = judged_counter(width, lend(&plain_out, given.out_len, NULL), given.out_len, &plain.result,
+                                  &plain.place);
+    end_call_with_buffers();
+}
+
+void compare_writers(void)
+{
+    compare_adder();
+    compare_counter();
+}
+
+/* ---- the end */
+
+static int can_give(enum call call, int number)
+{
+    if (number == 0)
+        return 1;
+    if (call == ADDER || call == COUNTER)
+        return number == 22 || number == 23;
+    if (number <= 17)
+        return 1;
+    switch (call) {
+    case NUMBER_AT:
+        return number == 18;
+    case EVALUATE:
+        return number <= 22;
+    case COUNT:
+        return number == 18 || number == 21;
+    case FLATTEN:
+        return number == 18 || number == 21 || number == 22 || number == 24;
+    default:
+        return 0;
+    }
+}
+
+int compare_summary(void)
+{
+    int complete = 1;
+
+    printf("%-8s", "given");
+    for (int call = 0; call < CALLS; call++)
+        printf(" %10s", call_names[call]);
+    printf("\n");
+    for (int number = 0; number < REFUSALS; number++) {
+        printf("%-8d", number);
+        for (int call = 0; call < CALLS; call++) {
+            if (!can_give((enum call)call, number)) {
+                printf(" %10s", "-");
+                continue;
+            }
+            printf(" %10ld", met[call][number]);
+            if (met[call][number] == 0)
+                complete = 0;
+        }
+        printf("\n");
+    }
+    return complete;
+}

@@ -1,0 +1,25 @@
+/* Each call, made to the library and to the plain reading with the same things lent, and everything compared. */
+#ifndef COMPARE_H
+#define COMPARE_H
+
+#include <stddef.h>
+#include <stdint.h>
+
+enum call { CHECK, MODULES, NUMBER_AT, EVALUATE, COUNT, FLATTEN, ADDER, COUNTER, CALLS };
+
+void compare_start(uint64_t seed);
+void compare_case(long number); /* named in the report of a difference */
+
+/* All calls on a file, with random module numbers, values and lengths near the right ones. */
+void compare_file(const uint8_t *bytes, size_t length);
+
+/* Both writers, with a random width and length. */
+void compare_writers(void);
+
+/* Prints how often each call gave each number; says whether every number that a call can give was met. */
+int compare_summary(void);
+
+/* Prints what is known of the case at hand, and ends the test. */
+void report(const char *what);
+
+#endif

@@ -1,0 +1,39 @@
+/* The file that a call is about, checked, and the calls that ask no more of it. */
+#include "plain.h"
+
+struct file plain_file;
+uint32_t plain_sizes[MOST_MODULES];
+
+uint16_t plain_end(size_t *place, int number, size_t at)
+{
+    *place = at;
+    return (uint16_t)number;
+}
+
+uint16_t plain_check(const uint8_t *bytes, size_t length, size_t *place)
+{
+    struct refusal refusal = plain_checked(bytes, length, &plain_file, plain_sizes);
+
+    return plain_end(place, refusal.number, refusal.place);
+}
+
+uint16_t plain_modules(const uint8_t *bytes, size_t length, size_t *modules, size_t *place)
+{
+    uint16_t number = plain_check(bytes, length, place);
+
+    *modules = number == 0 ? (size_t)plain_file.count : 0;
+    return number;
+}
+
+uint16_t plain_number_at(const uint8_t *bytes, size_t length, size_t position, uint16_t *number, size_t *place)
+{
+    uint16_t refused = plain_check(bytes, length, place);
+
+    *number = 0;
+    if (refused != 0)
+        return refused;
+    if (position >= (size_t)plain_file.count)
+        return plain_end(place, 18, 0);
+    *number = (uint16_t)plain_file.modules[position].number;
+    return 0;
+}

@@ -1,0 +1,51 @@
+/* Evaluation: refusals 18 to 22 in order, then the values of the outputs. Only an answer touches a lent buffer. */
+#include "plain.h"
+
+#include <string.h>
+
+static uint32_t value_at_gate(void *state, int kind, const uint32_t *arguments)
+{
+    uint8_t values[4];
+
+    (void)state;
+    for (int i = 0; i < plain_arity(kind); i++)
+        values[i] = (uint8_t)arguments[i];
+    return (uint32_t)plain_gate(kind, values);
+}
+
+uint16_t plain_evaluate(const uint8_t *bytes, size_t length, uint16_t number, const uint8_t *values,
+                        size_t values_len, uint32_t *scratch, size_t scratch_len, uint8_t *out, size_t out_len,
+                        size_t *written, size_t *place)
+{
+    uint16_t refused = plain_check(bytes, length, place);
+    uint32_t inputs[MOST_IN_LIST], outputs[MOST_IN_LIST];
+    const struct module *module;
+    struct figures figures;
+    int position;
+
+    *written = 0;
+    if (refused != 0)
+        return refused;
+    position = plain_find(&plain_file, number);
+    if (position < 0)
+        return plain_end(place, 18, 0);
+    module = &plain_file.modules[position];
+    if (values_len != (size_t)module->inputs.count)
+        return plain_end(place, 19, 0);
+    for (size_t i = 0; i < values_len; i++) {
+        if (values[i] > 2)
+            return plain_end(place, 20, i);
+        inputs[i] = values[i];
+    }
+    plain_figures(&plain_file, position, &figures);
+    if (scratch_len < figures.room)
+        return plain_end(place, 21, 0);
+    if (out_len < (size_t)module->outputs.count)
+        return plain_end(place, 22, 0);
+    plain_run(&plain_file, position, inputs, outputs, value_at_gate, NULL);
+    for (int i = 0; i < module->outputs.count; i++)
+        out[i] = (uint8_t)outputs[i];
+    memset(scratch, 0, figures.room * sizeof *scratch);
+    *written = (size_t)module->outputs.count;
+    return 0;
+}
