@@ -1,6 +1,6 @@
 // Commands that make a file.
 use crate::words::Parsed;
-use writer::Writing;
+use shelf::Writing;
 
 // Writes what was made to a file, or says why nothing was made.
 fn keep(made: Writing, bytes: &[u8], path: &[u8]) {

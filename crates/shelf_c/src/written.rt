@@ -1,5 +1,5 @@
 // Modules written to order.
-use writer::Writing;
+use shelf::Writing;
 ghost use mathlib.Core.Path.{_≡_};
 ghost use lib.ListN.{length};
 ghost use Rattle.meaning.specs.Adder.{adder as adderOf};

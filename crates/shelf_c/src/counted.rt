@@ -1,0 +1,90 @@
+// The figures of a module, and what a file holds.
+use shelf::Listed;
+use shelf::Named;
+ghost use mathlib.Core.Path.{_≡_};
+ghost use lib.ListN.{length};
+ghost use Rattle.meaning.specs.Calls.{counting, numberOf, placeOf, scratchAfter};
+ghost use Rattle.counting.specs.Contents.{moduleCount, numberAt};
+ghost use Rattle.shelf_c.specs.Results.{answerOf, figuresIn, tallyIn};
+
+// `figures` gets inputs, outputs, gates, expanded size, room, delay and largest load.
+#[no_mangle]
+pub extern "C" fn shelf_count(
+    file: &[u8],
+    number: u16,
+    scratch: &mut [u32],
+    figures: &mut [u32; 7],
+    tally: &mut [u32; 16],
+    place: &mut usize,
+) -> u16
+    ensures { λ r. ⌜ r ≡ numberOf (counting (now (file .entry)) number (length (now (scratch .entry)))) ⌝ }
+    ensures { λ _. ⌜ now (place .exit) ≡ placeOf (counting (now (file .entry)) number (length (now (scratch .entry)))) ⌝ }
+    ensures { λ _. ⌜ now (figures .exit) ≡ figuresIn (counting (now (file .entry)) number (length (now (scratch .entry)))) ⌝ }
+    ensures { λ _. ⌜ now (tally .exit) ≡ tallyIn (counting (now (file .entry)) number (length (now (scratch .entry)))) ⌝ }
+    ensures { λ _. ⌜ now (scratch .exit) ≡ scratchAfter (λ f. f .room) (counting (now (file .entry)) number (length (now (scratch .entry)))) (now (scratch .entry)) ⌝ }
+{
+    let counted = shelf::count(file, number, scratch);
+    let found = counted.figures;
+    *figures = [
+        found.inputs,
+        found.outputs,
+        found.gates,
+        found.size,
+        found.room,
+        found.delay,
+        found.load,
+    ];
+    let kinds = found.tally;
+    let counts = kinds.counts;
+    *tally = counts;
+    *place = counted.place;
+    counted.number
+}
+
+#[no_mangle]
+pub extern "C" fn shelf_modules(file: &[u8], modules: &mut usize, place: &mut usize) -> u16
+    ensures { λ r. ⌜ r ≡ numberOf (moduleCount (now (file .entry))) ⌝ }
+    ensures { λ _. ⌜ now (modules .exit) ≡ answerOf (moduleCount (now (file .entry))) ⌝ }
+    ensures { λ _. ⌜ now (place .exit) ≡ placeOf (moduleCount (now (file .entry))) ⌝ }
+{
+    match shelf::modules(file) {
+        Listed::Modules(count) => {
+            *modules = count;
+            *place = 0;
+            0
+        }
+        Listed::Refused { number, place: at } => {
+            *modules = 0;
+            *place = at;
+            number
+        }
+    }
+}
+
+#[no_mangle]
+pub extern "C" fn shelf_number_at(
+    file: &[u8],
+    position: usize,
+    number: &mut u16,
+    place: &mut usize,
+) -> u16
+    ensures { λ r. ⌜ r ≡ numberOf (numberAt (now (file .entry)) position) ⌝ }
+    ensures { λ _. ⌜ now (number .exit) ≡ answerOf (numberAt (now (file .entry)) position) ⌝ }
+    ensures { λ _. ⌜ now (place .exit) ≡ placeOf (numberAt (now (file .entry)) position) ⌝ }
+{
+    match shelf::number_at(file, position) {
+        Named::Number(found) => {
+            *number = found;
+            *place = 0;
+            0
+        }
+        Named::Refused {
+            number: refusal,
+            place: at,
+        } => {
+            *number = 0;
+            *place = at;
+            refusal
+        }
+    }
+}

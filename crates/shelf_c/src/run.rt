@@ -1,0 +1,43 @@
+// Modules run and flattened.
+ghost use mathlib.Core.Path.{_≡_};
+ghost use lib.ListN.{length};
+ghost use Rattle.meaning.specs.Calls.{evaluation, flattening, outAfter, scratchAfter};
+ghost use Rattle.shelf_c.specs.Results.{Reports};
+use crate::written::report;
+
+#[no_mangle]
+pub extern "C" fn shelf_evaluate(
+    file: &[u8],
+    number: u16,
+    values: &[u8],
+    scratch: &mut [u32],
+    out: &mut [u8],
+    written: &mut usize,
+    place: &mut usize,
+) -> u16
+    ensures { λ r. ⌜ Reports (evaluation (now (file .entry)) number (now (values .entry)) (length (now (scratch .entry))) (length (now (out .entry)))) r (now (written .exit)) (now (place .exit)) ⌝ }
+    ensures { λ _. ⌜ now (out .exit) ≡ outAfter (evaluation (now (file .entry)) number (now (values .entry)) (length (now (scratch .entry))) (length (now (out .entry)))) (now (out .entry)) ⌝ }
+    ensures { λ _. ⌜ now (scratch .exit) ≡ scratchAfter (λ w. w .cleared) (evaluation (now (file .entry)) number (now (values .entry)) (length (now (scratch .entry))) (length (now (out .entry)))) (now (scratch .entry)) ⌝ }
+{
+    report(
+        shelf::evaluate(file, number, values, scratch, out),
+        written,
+        place,
+    )
+}
+
+#[no_mangle]
+pub extern "C" fn shelf_flatten(
+    file: &[u8],
+    number: u16,
+    scratch: &mut [u32],
+    out: &mut [u8],
+    written: &mut usize,
+    place: &mut usize,
+) -> u16
+    ensures { λ r. ⌜ Reports (flattening (now (file .entry)) number (length (now (scratch .entry))) (length (now (out .entry)))) r (now (written .exit)) (now (place .exit)) ⌝ }
+    ensures { λ _. ⌜ now (out .exit) ≡ outAfter (flattening (now (file .entry)) number (length (now (scratch .entry))) (length (now (out .entry)))) (now (out .entry)) ⌝ }
+    ensures { λ _. ⌜ now (scratch .exit) ≡ scratchAfter (λ w. w .cleared) (flattening (now (file .entry)) number (length (now (scratch .entry))) (length (now (out .entry)))) (now (scratch .entry)) ⌝ }
+{
+    report(shelf::flatten(file, number, scratch, out), written, place)
+}
