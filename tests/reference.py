@@ -319,3 +319,28 @@ FULL = (17, [0, 1, 2], [3, 4], [([5, 6], 16, [0, 1]), ([3, 7], 16, [5, 2]), ([4]
 def adder(n):
     cells = [([2 * n + 1 + i, 3 * n + 1 + i], 17, [1 + i, n + 1 + i, 3 * n + i if i else 0]) for i in range(n)]
     return encode([(18, list(range(2 * n + 1)), list(range(2 * n + 1, 3 * n + 1)) + [4 * n], cells), FULL, HALF])
+
+
+# What written modules compute, in plain arithmetic
+
+
+def bits(value, width):
+    """The binary digits of a number, low bit first."""
+    return [value >> i & 1 for i in range(width)]
+
+
+def adder_sum(width, carry, a, b):
+    """What an adder gives on known bits: the sums, then the last carry."""
+    return bits(carry + a + b, width + 1)
+
+
+def leading_zeros(inputs):
+    """What a counter gives where its highest 1 and every bit above it are known: the zeros above it, or the width."""
+    width = len(inputs)
+    count = 0
+    for v in reversed(inputs):
+        assert v != 2
+        if v == 1:
+            break
+        count += 1
+    return bits(count, width.bit_length())

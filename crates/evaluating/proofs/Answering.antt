@@ -18,7 +18,7 @@ use Rattle.runner.specs.Loading.{evaluable}
 use Rattle.writer.specs.Answers.{writingOf}
 use Rattle.writer.specs.declared.answer.Writing.the-variants.{Wrote}
 use Rattle.evaluating.specs.Evaluates.{Settles}
-use Rattle.evaluating.specs.Found.{Found, asked}
+use Rattle.evaluating.specs.Asked.{Ready, asked}
 use Rattle.evaluating.proofs.SmallValues.{all-small}
 
 -- The engine's promise at a position.
@@ -27,7 +27,7 @@ Runs image starts nets k given values scratch out scratch′ out′ =
     (e : Evaluable image starts nets k given values scratch out) → Evaluated (e .callable .rs) k given values scratch out scratch′ out′
 
 module _
-    {image starts nets : List ℕ} {k given : ℕ} (f : Found image starts nets k given) (values scratch out : List ℕ)
+    {image starts nets : List ℕ} {k given : ℕ} (f : Ready image starts nets k given) (values scratch out : List ℕ)
     (fed : length values ≡ length (f .m .inputs)) (small : firstAbove values ≡ length values) (wide : given ≤ length scratch)
     (long : length (f .m .outputs) ≤ length out)
   where

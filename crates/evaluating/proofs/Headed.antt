@@ -12,9 +12,9 @@ use Rattle.image.specs.Resolved.{referTo, resolveModule}
 use Rattle.image.specs.Shapes.{inputs-of-resolved, outputs-of-resolved}
 use Rattle.runner.specs.Places.{ModuleThere, HeaderOf}
 use Rattle.runner.specs.declared.places.Header.{Header}
-use Rattle.evaluating.specs.Found.{Found}
+use Rattle.evaluating.specs.Asked.{Ready}
 
-module _ {image starts nets : List ℕ} {k given : ℕ} (f : Found image starts nets k given) where
+module _ {image starts nets : List ℕ} {k given : ℕ} (f : Ready image starts nets k given) where
   here : drop k (f .ms) ≡ f .m ∷ drop (suc k) (f .ms)
   here = subst (λ (p : ℕ). drop p (f .ms) ≡ f .m ∷ drop (suc p) (f .ms)) (f .placed) (found-at (f .number) (f .ms) (f .found))
 

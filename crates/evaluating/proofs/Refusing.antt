@@ -10,7 +10,7 @@ use Rattle.meaning.specs.Calls.{Decision, refusal, firstAbove, Written, outAfte
 use Rattle.writer.specs.Answers.{writingOf}
 use Rattle.writer.specs.declared.answer.Writing.the-variants.{Refused}
 use Rattle.evaluating.specs.Evaluates.{Settles}
-use Rattle.evaluating.specs.Found.{Found, asked}
+use Rattle.evaluating.specs.Asked.{Ready, asked}
 
 pub refused :
     {d : Decision Written} {number place : ℕ} (scratch out : List ℕ) → d ≡ refusal number place
@@ -22,7 +22,7 @@ refused scratch out e =
       scratched = sym (ap (λ (d : Decision Written). scratchAfter (λ w. w .cleared) d scratch) e);
     }
 
-module _ {image starts nets : List ℕ} {k given : ℕ} (f : Found image starts nets k given) (values scratch out : List ℕ) where
+module _ {image starts nets : List ℕ} {k given : ℕ} (f : Ready image starts nets k given) (values scratch out : List ℕ) where
   abbrev decision : Decision Written
   decision = asked (f .number) values (length scratch) (length out) (f .ms) (f .m)
 

@@ -1,6 +1,6 @@
 -- From the module that was sought to the call on it.
 use Prim.Native.Nat.{ℕ, _<_}
-use mathlib.Core.Path.{_≡_, sym, ap, subst, _∙_}
+use mathlib.Core.Path.{_≡_, sym, ap, subst}
 use mathlib.Core.List.{List}
 use native.Mathlib.Omega.{arith}
 use lib.ListN.{length, getD, length-drop}
@@ -13,7 +13,7 @@ use Rattle.desk.specs.declared.seeking.Sought.the-variants.{At, Refused}
 use Rattle.writer.specs.declared.answer.Writing.{Writing}
 use Rattle.writer.specs.declared.answer.Writing.the-variants as writing
 use Rattle.evaluating.specs.Evaluates.{Settles, Evaluates}
-use Rattle.evaluating.specs.Found.{Found, asked}
+use Rattle.evaluating.specs.Asked.{Ready, asked}
 use Rattle.evaluating.proofs.Refusing.{refused}
 
 module _
@@ -44,8 +44,8 @@ module _
       pub few : k < mostModules
       few = omega (arith, present, held .desk .within .modules .count)
 
-      abbrev pub found : Found image starts nets k (getD rooms k 0)
-      found =
+      abbrev pub ready : Ready image starts nets k (getD rooms k 0)
+      ready =
           record {
             ms = held .ms;
             accepted = held-accepted held;
@@ -65,10 +65,10 @@ module _
 
       pub asks :
           (values scratch out : List ℕ) {scratch′ out′ : List ℕ} {r : Writing}
-          → ((f : Found image starts nets k (getD rooms k 0))
+          → ((f : Ready image starts nets k (getD rooms k 0))
           → Settles (asked (f .number) values (length scratch) (length out) (f .ms) (f .m)) scratch out scratch′ out′ r)
           → Evaluates file number values scratch out scratch′ out′ r
       unfolding evaluation asked
       asks values scratch out {scratch′} {out′} {r} run =
           subst (λ (d : Decision Written). Settles d scratch out scratch′ out′ r)
-          (sym (held-asks held (asked number values (length scratch) (length out)))) (run found)
+          (sym (held-asks held (asked number values (length scratch) (length out)))) (run ready)

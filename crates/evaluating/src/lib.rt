@@ -5,7 +5,7 @@ ghost use Prim.Native.Nat.{_≤_};
 ghost use lib.ListN.{length};
 ghost use Rattle.desk.specs.Prepared.{Space};
 ghost use Rattle.evaluating.specs.Evaluates.{Settles, Evaluates};
-ghost use Rattle.evaluating.specs.Found.{Found, asked};
+ghost use Rattle.evaluating.specs.Asked.{Ready, asked};
 
 mod values;
 
@@ -20,9 +20,9 @@ fn evaluate_at(
     scratch: &mut [u32],
     out: &mut [u8],
 ) -> Writing
-    requires { ⌜ Found (now image) (now starts) (now nets) k room ⌝ }
+    requires { ⌜ Ready (now image) (now starts) (now nets) k room ⌝ }
     ensures { λ r.
-        ⌜ ((f : Found (now (image .entry)) (now (starts .entry)) (now (nets .entry)) k room)
+        ⌜ ((f : Ready (now (image .entry)) (now (starts .entry)) (now (nets .entry)) k room)
         → Settles (asked (f .number) (now (values .entry)) (length (now (scratch .entry))) (length (now (out .entry))) (f .ms) (f .m)) (now (scratch .entry)) (now (out .entry)) (now (scratch .exit)) (now (out .exit)) r) ⌝ }
 {
     let header = runner::places::module_at(image, starts[k]);

@@ -4,7 +4,7 @@ use mathlib.Core.Path.{sym, _∙_}
 use native.Mathlib.Omega.{arith}
 use Rattle.evaluating.proofs.SmallValues.{none-above}
 use Rattle.evaluating.proofs.Headed.{inside, there, inputs-are, outputs-are}
-use Rattle.evaluating.proofs.Refusing.{refused, other-count, value-above, scratch-short, out-short}
+use Rattle.evaluating.proofs.Refusing.{other-count, value-above, scratch-short, out-short}
 use Rattle.evaluating.proofs.Answering.{runnable, answered}
 use Rattle.evaluating.proofs.evaluate_at.Statement.{statement}
 use Rattle.evaluating.proofs.evaluate_at.Tie as tie

@@ -1,7 +1,7 @@
 -- A refusal of 1 to 18, or the call on the module that was found.
 use borrow.Author.Needs.{needs}
 use native.Mathlib.Omega.{arith}
-use Rattle.evaluating.proofs.Seeking.{unsought, measured, few, found, asks}
+use Rattle.evaluating.proofs.Seeking.{unsought, measured, few, ready, asks}
 use Rattle.evaluating.proofs.evaluate_in.Statement.{statement}
 use Rattle.evaluating.proofs.evaluate_in.Tie as tie
 
@@ -31,7 +31,7 @@ cast-room c = omega (arith, c .slice-known15 .given (c .before .before .k .given
 evaluate-at-requires : tie.Need-evaluate-at-requires
 evaluate-at-requires c κs =
     let s = c .before .before .before .before .before .before .before .before .before .before .before .before .before .before .before .before .before .before .before .before .before .seek in
-    found _ _ _ _ _ _ _ _ (s .result) (s .ensures) _ (c .before .before .before .before .before .before .before .k .given .1)
+    ready _ _ _ _ _ _ _ _ (s .result) (s .ensures) _ (c .before .before .before .before .before .before .before .k .given .1)
 
 returns : tie.Need-returns
 returns c =

@@ -23,8 +23,8 @@ asked number values scratch out ms m =
     (demand 22 0 (leb (length (m .outputs)) out)
     (answer (record { bytes = map code (evaluate ms number (map value values)); cleared = room ms number })))))
 
--- An accepted file stands in the image, and the module of a number at its position there, with its room.
-pub record Found (image starts nets : List ℕ) (k given : ℕ) : Type 0 where
+-- What it rests on: an accepted file stands in the image, and the module of a number at its position there, with its room.
+pub record Ready (image starts nets : List ℕ) (k given : ℕ) : Type 0 where
   pub ms : List Module
   pub accepted : Accepted ms
   pub imaged : Imaged image starts nets ms
