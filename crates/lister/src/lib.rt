@@ -1,4 +1,6 @@
 // The listing of a file: the text that the listing program prints.
+pub mod printing;
+
 use counting::answers::Counted;
 use counting::contents::Listed;
 use counting::contents::Named;

@@ -1,11 +1,9 @@
-// Prints the listing of the file on standard input: a line for each module, or one line that says why the file is refused.
+// Prints the listing of the file on standard input: a line for each module, or one line that says why the file is refused. It reads
+// 65,536 bytes at most, one more than a file may have.
 use libc::STDIN_FILENO;
-use libc::STDOUT_FILENO;
 
 fn main() {
     let mut file = io::large_buffer();
-    let read = io::read_full(STDIN_FILENO, &mut file);
-    let mut text = [0u8; 24192];
-    let used = lister::list(&file[..read], &mut text);
-    io::write_all(STDOUT_FILENO, &text[..used]);
+    let count = io::read_full(STDIN_FILENO, &mut file);
+    lister::printing::print(&file[..count]);
 }
