@@ -11,7 +11,7 @@ use Rattle.meaning.specs.Syntax.{Module}
 use Rattle.meaning.specs.Figures.{room}
 use Rattle.meaning.specs.Ceilings.{ModuleWithin}
 use Rattle.meaning.specs.Calls.{Decision, refusal, answer, demand, counting, Figures as Meant}
-use Rattle.laws.specs.Standing.{stands, holds-standing}
+use Rattle.laws.specs.Figures.Bounds.{found-within}
 use Rattle.desk.specs.Sought.{Held, Unheld, Seeks}
 use Rattle.desk.specs.Holding.{held-accepted, held-stands, held-room, held-size, held-asks, unheld-refuses}
 use Rattle.desk.specs.declared.seeking.Sought.{Sought}
@@ -71,7 +71,7 @@ module _
         number = number;
         accepted = held-accepted h;
         found = h .found;
-        within = holds-standing (h .desk .within .modules .modules) (stands number (h .ms) (h .found .found));
+        within = found-within number (h .found .m) (h .desk .within) (h .found .found);
         stands = held-stands h;
         startsLong = h .desk .startsLong;
         netsLong = h .desk .netsLong;

@@ -1,5 +1,6 @@
 -- What a file holds, as calls on it say: refusals 1 to 17 first.
 use Prim.Native.Nat.{ℕ}
+use mathlib.Core.Path.{_≡_, sym, _∙_}
 use mathlib.Core.List.{List, [], _∷_}
 use lib.ListN.{length, drop}
 use Rattle.meaning.specs.Syntax.{Module}
@@ -29,3 +30,14 @@ listedOf (answer modules) = listed.Modules modules
 abbrev pub namedOf : Decision ℕ → Named
 namedOf (refusal number place) = named.Refused number place
 namedOf (answer number) = named.Number number
+
+-- Each contract is an equation, so any two outcomes that it permits coincide.
+pub one-count : (file : List ℕ) {result result′ : Listed} → result ≡ listedOf (moduleCount file) → result′ ≡ listedOf (moduleCount file) → result ≡ result′
+one-count file one other = one ∙ sym other
+
+pub one-number :
+    (file : List ℕ) (position : ℕ) {result result′ : Named}
+    → result ≡ namedOf (numberAt file position)
+    → result′ ≡ namedOf (numberAt file position)
+    → result ≡ result′
+one-number file position one other = one ∙ sym other

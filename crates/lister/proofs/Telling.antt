@@ -1,0 +1,77 @@
+-- From what the count answers to a line: an answer is told from a refusal by its number 0, since on an accepted file every refusal has
+-- a number of its own.
+use Prim.Native.Nat.{ℕ, _≤_}
+use mathlib.Core.Path.{_≡_, sym, ap, subst, _∙_}
+use mathlib.Core.Bool.{Bool, true, false}
+use mathlib.Core.List.{List}
+use native.Mathlib.Omega.{arith}
+use lib.Dec.{leb}
+use Rattle.meaning.specs.Syntax.{Module}
+use Rattle.meaning.specs.Boxlist.{Found, box, F, assoc}
+use Rattle.meaning.specs.Calls.{Decision, refusal, answer, demand, onModule, Figures as Meant, counting}
+use Rattle.meaning.specs.Figures.{room}
+use Rattle.meaning.specs.Listing.{line}
+use Rattle.counting.specs.Answers.{countedOf}
+use Rattle.counting.specs.Figuring.{figuresIn}
+use Rattle.counting.specs.declared.answers.Figures.{Figures}
+use Rattle.counting.specs.declared.answers.Counted.{Counted}
+use Rattle.text.specs.Pieces.{PutDown}
+use Rattle.text.specs.Lines.{figuresOf}
+use Rattle.text.specs.declared.Counts.{Counts}
+use Rattle.lister.specs.Sheet.{Told, Opened}
+use Rattle.lister.proofs.Sheets.{asks}
+
+-- What a line says of the figures.
+abbrev pub countsOf : Figures → Counts
+countsOf f =
+    record {
+      inputs = f .inputs;
+      outputs = f .outputs;
+      gates = f .gates;
+      size = f .size;
+      room = f .room;
+      delay = f .delay;
+      load = f .load;
+    }
+
+module _ (position number : ℕ) {out out′ : List ℕ} {r : ℕ} (counted : Counted) where
+  pub answered :
+      counted .number ≡ 0
+      → ((tally : List ℕ) → PutDown (line position number (answer (figuresOf (countsOf (counted .figures)) tally))) out 0 out′ r)
+      → (decision : Decision Meant)
+      → Told decision
+      → counted ≡ countedOf decision
+      → PutDown (line position number decision) out 0 out′ r
+  answered none put (refusal n p) told e = absurd (omega (arith, ap (λ (x : Counted). x .number) e))
+  answered none put (answer f) told e =
+      let same : figuresOf (countsOf (counted .figures)) (f .tally) ≡ f = ap (λ (x : Counted). figuresOf (countsOf (x .figures)) (f .tally)) e in
+      subst (λ (x : Meant). PutDown (line position number (answer x)) out 0 out′ r) same (put (f .tally))
+
+  pub refused :
+      (counted .number ≡ 0 → ⊥)
+      → ((place : ℕ) → PutDown (line position number (refusal (counted .number) place)) out 0 out′ r)
+      → (decision : Decision Meant)
+      → Told decision
+      → counted ≡ countedOf decision
+      → PutDown (line position number decision) out 0 out′ r
+  refused some put (refusal n p) told e =
+      subst (λ (x : ℕ). PutDown (line position number (refusal x p)) out 0 out′ r) (ap (λ (x : Counted). x .number) e) (put p)
+  refused some put (answer f) told e = absurd (some (ap (λ (x : Counted). x .number) e))
+
+-- On an accepted file a count is refused by 18 or 21 only.
+pub told-opened : {file : List ℕ} → Opened file → (number scratch : ℕ) → Told (counting file number scratch)
+unfolding counting
+told-opened o number scratch =
+    subst Told (sym (asks o (λ ms. onModule (assoc number ms) (asked ms))))
+    (on-module (assoc number (o .ms)) (asked (o .ms)) (λ m. demanded (leb (room (o .ms) number) scratch) (figuresIn (o .ms) number m)))
+  where
+    asked : List Module → Module → Decision Meant
+    asked ms m = demand 21 0 (leb (room ms number) scratch) (answer (figuresIn ms number m))
+
+    demanded : (b : Bool) (f : Meant) → Told (demand 21 0 b (answer f))
+    demanded true f = omega arith
+    demanded false f = omega arith
+
+    on-module : (found : Found) (ask : Module → Decision Meant) → ((m : Module) → Told (ask m)) → Told (onModule found ask)
+    on-module (box m) ask told = told m
+    on-module F ask told = omega arith

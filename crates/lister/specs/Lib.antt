@@ -1,0 +1,2 @@
+-- What listing a file asks.
+pub mod Sheet
