@@ -16,16 +16,6 @@ use Rattle.flattening.specs.Flattens.{Flattens}
 use Rattle.flattening.specs.Found.{fitting, Placeable}
 
 module _ {image starts nets : List ℕ} {k number given : ℕ} where
-  -- Longer lists serve as well.
-  abbrev pub wider :
-      {entries places entries′ places′ : ℕ}
-      → Placeable image starts nets k number given entries places
-      → entries ≤ entries′
-      → places ≤ places′
-      → Placeable image starts nets k number given entries′ places′
-  wider p more longer =
-      record { here = p .here; few = p .few; enough = omega (arith, p .enough); long = omega (arith, p .long) }
-
   abbrev pub flattenable :
       {entries flat : List ℕ}
       → Placeable image starts nets k number given (length entries) (length flat)

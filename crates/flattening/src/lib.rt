@@ -105,37 +105,6 @@ fn flatten_short(file: &[u8], number: u16, scratch: &mut [u32], out: &mut [u8]) 
     )
 }
 
-// A file of any length, in long arrays.
-fn flatten_long(
-    file: &[u8],
-    number: u16,
-    numbers: &mut [u16; 65536],
-    starts: &mut [usize; 128],
-    image: &mut [u16; 65536],
-    nets: &mut [usize; 128],
-    sizes: &mut [u32; 128],
-    rooms: &mut [u32; 128],
-    scratch: &mut [u32],
-    out: &mut [u8],
-) -> Writing
-    ensures { λ r.
-        ⌜ Flattens (flattening (now (file .entry)) number (length (now (scratch .entry))) (length (now (out .entry))))
-        (now (scratch .entry)) (now (out .entry)) (now (scratch .exit)) (now (out .exit)) r ⌝ }
-{
-    flatten_in(
-        file,
-        number,
-        numbers,
-        starts,
-        image,
-        nets,
-        sizes,
-        rooms,
-        scratch,
-        out,
-    )
-}
-
 // A file of any length.
 fn flatten_large(file: &[u8], number: u16, scratch: &mut [u32], out: &mut [u8]) -> Writing
     ensures { λ r.
@@ -148,7 +117,7 @@ fn flatten_large(file: &[u8], number: u16, scratch: &mut [u32], out: &mut [u8]) 
     let mut nets = [0usize; 128];
     let mut sizes = [0u32; 128];
     let mut rooms = [0u32; 128];
-    flatten_long(
+    flatten_in(
         file,
         number,
         &mut numbers,

@@ -68,40 +68,6 @@ pub(crate) fn place_small(
     )
 }
 
-// The walk in long arrays.
-fn place_long(
-    image: &[u16],
-    starts: &[usize],
-    nets: &[usize],
-    k: usize,
-    number: u16,
-    room: usize,
-    entries: &mut [u32; 65535],
-    flat: &mut [u16; 32965],
-    scratch: &mut [u32],
-    out: &mut [u8],
-) -> Writing
-    requires { ⌜ Placeable (now image) (now starts) (now nets) k number room 65535 32965 ⌝ }
-    requires { ⌜ room ≤ length (now scratch) ⌝ }
-    ensures { λ r.
-        ⌜ ((p : Placeable (now (image .entry)) (now (starts .entry)) (now (nets .entry)) k number room 65535 32965)
-        → Flattens (fitting (flatFile (p .here .ms) number (p .here .m)) room (length (now (out .entry))))
-        (now (scratch .entry)) (now (out .entry)) (now (scratch .exit)) (now (out .exit)) r) ⌝ }
-{
-    place_in(
-        image,
-        starts,
-        nets,
-        k,
-        number,
-        room,
-        entries,
-        flat,
-        scratch,
-        out,
-    )
-}
-
 // Any module: its room is at most as many as the numbers of its file, and 4,096 nets have 32,965 numbers at most.
 pub(crate) fn place_large(
     image: &[u16],
@@ -122,7 +88,7 @@ pub(crate) fn place_large(
 {
     let mut entries = [0u32; 65535];
     let mut flat = [0u16; 32965];
-    place_long(
+    place_in(
         image,
         starts,
         nets,
