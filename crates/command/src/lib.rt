@@ -37,6 +37,14 @@ pub fn perform(line: &[u8]) {
 fn carry_out(words: usize, name: &[u8], first: &[u8], second: &[u8], third: &[u8]) {
     if words == 2 && is(name, b"check") {
         asking::check(first);
+    } else if words == 2 && is(name, b"list") {
+        asking::list(first);
+    } else if words == 3 && is(name, b"count") {
+        asking::count(first, second);
+    } else if words == 4 && is(name, b"run") {
+        asking::run(first, second, third);
+    } else if words == 4 && is(name, b"flatten") {
+        making::flatten(first, second, third);
     } else if words == 3 && is(name, b"adder") {
         making::adder(first, second);
     } else if words == 3 && is(name, b"counter") {

@@ -1,4 +1,5 @@
 // Commands that make a file.
+use crate::files::Loaded;
 use crate::words::Parsed;
 use shelf::Writing;
 
@@ -21,7 +22,7 @@ fn keep(made: Writing, bytes: &[u8], path: &[u8]) {
 
 pub(crate) fn adder(width: &[u8], path: &[u8]) {
     match crate::words::parse(width) {
-        Parsed::Other => crate::saying::fail(b"not a number from 0 to 65535: ", width),
+        Parsed::Other => crate::saying::not_a_number(width),
         Parsed::Number(n) => {
             let mut bytes = io::buffer();
             let made = shelf::adder(n as usize, &mut bytes);
@@ -32,11 +33,36 @@ pub(crate) fn adder(width: &[u8], path: &[u8]) {
 
 pub(crate) fn counter(width: &[u8], path: &[u8]) {
     match crate::words::parse(width) {
-        Parsed::Other => crate::saying::fail(b"not a number from 0 to 65535: ", width),
+        Parsed::Other => crate::saying::not_a_number(width),
         Parsed::Number(n) => {
             let mut bytes = io::large_buffer();
             let made = shelf::counter(n as usize, &mut bytes);
             keep(made, &bytes, path);
         }
     }
+}
+
+pub(crate) fn flatten(path: &[u8], number: &[u8], to: &[u8]) {
+    match crate::words::parse(number) {
+        Parsed::Other => crate::saying::not_a_number(number),
+        Parsed::Number(n) => flatten_module(path, n, to),
+    }
+}
+
+fn flatten_module(path: &[u8], number: u16, to: &[u8]) {
+    let mut file = io::large_buffer();
+    match crate::files::load(path, &mut file) {
+        Loaded::Failed => crate::saying::fail(b"cannot read ", path),
+        Loaded::Bytes(count) => {
+            let long = crate::words::at_most(count, &file);
+            let mut scratch = [0u32; 40960];
+            flatten_in(&file[..long], number, &mut scratch, to);
+        }
+    }
+}
+
+fn flatten_in(file: &[u8], number: u16, scratch: &mut [u32; 40960], to: &[u8]) {
+    let mut bytes = io::large_buffer();
+    let made = shelf::flatten(file, number, scratch, &mut bytes);
+    keep(made, &bytes, to);
 }

@@ -9,12 +9,23 @@ pub(crate) fn say_number(number: u64) {
     io::print_decimal(STDOUT_FILENO, number);
 }
 
+// A figure with its name in front.
+pub(crate) fn say_figure(name: &[u8], figure: u32) {
+    say(name);
+    say_number(figure as u64);
+}
+
 // A command that could not be carried out: why, and on what.
 pub(crate) fn fail(why: &[u8], what: &[u8]) {
     say(b"failed: ");
     say(why);
     say(what);
     say(b"\n");
+}
+
+// A word that should be a number.
+pub(crate) fn not_a_number(word: &[u8]) {
+    fail(b"not a number from 0 to 65535: ", word);
 }
 
 // A command that is not one of ours.

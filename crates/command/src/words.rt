@@ -113,3 +113,44 @@ pub(crate) fn parse(word: &[u8]) -> Parsed {
     }
     Parsed::Number(value as u16)
 }
+
+// Whether each byte of a word is a digit.
+pub(crate) fn all_digits(word: &[u8]) -> bool {
+    for i in 0..word.len() {
+        if word[i] < b'0' {
+            return false;
+        }
+        if b'9' < word[i] {
+            return false;
+        }
+    }
+    true
+}
+
+// The digits of a word as numbers, at the front of a buffer. A word longer than the buffer is cut, and still longer than any list of
+// values that a module takes.
+pub(crate) fn to_values(word: &[u8], buffer: &mut [u8]) -> usize
+    ensures { λ r. ⌜ Counts r (now (buffer .exit)) ⌝ }
+{
+    let mut i = 0;
+    while i < word.len() {
+        if buffer.len() <= i {
+            return at_most(i, buffer);
+        }
+        buffer[i] = value_of(word[i]);
+        i += 1;
+    }
+    at_most(i, buffer)
+}
+
+// The value of a digit.
+fn value_of(digit: u8) -> u8 {
+    digit % b'0'
+}
+
+// Numbers below 10 as digits.
+pub(crate) fn to_digits(values: &mut [u8]) {
+    for i in 0..values.len() {
+        values[i] = b'0' + values[i] % 10;
+    }
+}
