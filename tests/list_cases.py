@@ -74,13 +74,11 @@ def filled(bytes_wanted):
         number += 1
     # what is left goes to one module, whose inputs settle the bytes that occurrences do not
     for inputs in range(3, 8):
-        for occurrences in range(4001):
+        few = (rest - 10 - inputs) // 3
+        for occurrences in range(max(few, 0), few + 5):
             last = (number, list(range(inputs)), [], [([], 16, [])] * occurrences)
-            size = len(encode(modules + [last, leaf]))
-            if size == bytes_wanted:
+            if len(encode(modules + [last, leaf])) == bytes_wanted:
                 return modules + [last, leaf]
-            if size > bytes_wanted:
-                break
     raise ValueError(bytes_wanted)
 
 

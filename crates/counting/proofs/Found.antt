@@ -1,14 +1,14 @@
 -- What a look into a file comes to.
 use Prim.Native.Nat.{ℕ, _≤_, _<_}
-use mathlib.Core.Path.{_≡_, refl, sym, ap, subst, _∙_}
-use mathlib.Core.List.{List, _∷_}
+use mathlib.Core.Path.{_≡_, sym, ap, subst, _∙_}
+use mathlib.Core.List.{List}
 use native.Mathlib.Omega.{arith}
 use lib.ListN.{length, drop, drop-of-length-le}
 use Rattle.meaning.specs.Syntax.{Module}
 use Rattle.meaning.specs.Reading.{File, holds, fails, read}
 use Rattle.meaning.specs.Verdict.{Verdict, refused, fileVerdict, verdictOf, verdict}
 use Rattle.meaning.specs.Calls.{Decision, refusal, answer, ifGood, onRead, onFile}
-use Rattle.desk.proofs.ModuleSearch.{Here, here-at}
+use Rattle.desk.proofs.ModuleSearch.{here-at}
 use Rattle.counting.specs.Contents.{moduleCount, numberAt, firstNumber, listedOf, namedOf}
 use Rattle.counting.specs.Looking.{Opens, Looks}
 use Rattle.counting.specs.declared.contents.Looked.{Looked}

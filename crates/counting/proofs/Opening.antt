@@ -1,9 +1,9 @@
 -- A file made ready: its modules stand in the list of its numbers, each with its number first.
 use Prim.Native.Nat.{ℕ, _≤_, _<_}
 use mathlib.Core.Path.{_≡_, sym, ap, subst}
-use mathlib.Core.List.{List, _∷_}
+use mathlib.Core.List.{List}
 use native.Mathlib.Omega.{arith}
-use lib.ListN.{length, getD, drop, length-drop}
+use lib.ListN.{length, getD, length-drop}
 use Rattle.meaning.specs.Syntax.{Module}
 use Rattle.meaning.specs.Layout.{moduleNumbers}
 use Rattle.meaning.specs.Verdict.{refused as refusedWith, verdict}
@@ -15,7 +15,7 @@ use Rattle.desk.specs.Prepared.{Opened, Prepares}
 use Rattle.desk.specs.Holding.{stands-in-front}
 use Rattle.desk.specs.declared.preparing.Prepared.{Prepared}
 use Rattle.desk.specs.declared.preparing.Prepared.the-variants.{Ready, Refused}
-use Rattle.desk.proofs.ModuleSearch.{Here, here-at}
+use Rattle.desk.proofs.ModuleSearch.{here-at}
 use Rattle.counting.specs.Looking.{NumberHere, Opens}
 
 -- Where the number of a module stands.

@@ -1,22 +1,20 @@
 -- What a count comes to at each of its ends, once the module of the number was sought.
 use Prim.Native.Nat.{ℕ, _≤_, _<_}
 use mathlib.Core.Path.{_≡_, refl, sym, ap, subst, _∙_}
-use mathlib.Core.Bool.{Bool, true, false}
-use mathlib.Core.List.{List, _∷_}
+use mathlib.Core.Bool.{Bool}
+use mathlib.Core.List.{List}
 use native.Mathlib.Omega.{arith}
 use borrow.Author.Tests.{le-leb, lt-leb}
 use lib.Dec.{leb}
 use lib.ListN.{length, getD, length-drop}
-use Rattle.meaning.specs.Syntax.{Module}
 use Rattle.meaning.specs.Figures.{room}
-use Rattle.meaning.specs.Ceilings.{ModuleWithin}
-use Rattle.meaning.specs.Calls.{Decision, refusal, answer, demand, counting, Figures as Meant}
+use Rattle.meaning.specs.Calls.{Decision, answer, demand, counting, Figures as Meant}
 use Rattle.laws.specs.Figures.Bounds.{found-within}
 use Rattle.desk.specs.Sought.{Held, Unheld, Seeks}
 use Rattle.desk.specs.Holding.{held-accepted, held-stands, held-room, held-size, held-asks, unheld-refuses}
 use Rattle.desk.specs.declared.seeking.Sought.{Sought}
 use Rattle.desk.specs.declared.seeking.Sought.the-variants.{At, Refused}
-use Rattle.counting.specs.Answers.{Counts, refusedWith, countedOf}
+use Rattle.counting.specs.Answers.{Counts, refusedWith}
 use Rattle.counting.specs.Figuring.{Figurable, Figured, figuresIn}
 use Rattle.counting.specs.declared.answers.Figures.{Figures}
 use Rattle.counting.specs.declared.answers.Counted.{Counted}

@@ -11,7 +11,7 @@ use Rattle.meaning.specs.Syntax.{Module}
 use Rattle.meaning.specs.Calls.{counting}
 use Rattle.meaning.specs.Listing.{line, lines, listingScratch}
 use Rattle.image.specs.Laid.{laid}
-use Rattle.desk.proofs.ModuleSearch.{Here, here-at}
+use Rattle.desk.proofs.ModuleSearch.{here-at}
 use Rattle.counting.specs.Looking.{NumberHere}
 use Rattle.text.specs.Pieces.{PutDown}
 use Rattle.text.specs.Lines.{longestLine}

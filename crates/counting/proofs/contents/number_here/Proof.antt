@@ -4,30 +4,16 @@ use Rattle.counting.proofs.Opening.{inside, number-there, nothing-there
 use borrow.Author.Needs.{needs}
 use Rattle.counting.proofs.contents.number_here.Statement.{statement}
 use Rattle.counting.proofs.contents.number_here.Tie as tie
-use Rattle.counting.proofs.contents.number_here.Reads as reads
-use Rattle.counting.proofs.contents.number_here.Lts as lts
 
--- src/contents.rt:35:17
-mul-result : tie.Need-mul-result
-mul-result c = search needs
-
--- src/contents.rt:35:17
-shared-slice-read-result : tie.Need-shared-slice-read-result
-shared-slice-read-result c = search needs
-
--- src/contents.rt:35:9
 mul-result-2 : tie.Need-mul-result-2
 mul-result-2 c = omega (arith, inside (c .before .before .pre) (c .before .if1 .taken), c .before .before .good)
 
--- src/contents.rt:35:9
 shared-slice-read-result-2 : tie.Need-shared-slice-read-result-2
 shared-slice-read-result-2 c = inside (c .before .before .before .pre) (c .before .before .if1 .taken)
 
--- src/contents.rt:30:1
 returns : tie.Need-returns
 returns c = λ ms standing all. number-there standing
 
--- src/contents.rt:30:1
 returns-2 : tie.Need-returns-2
 returns-2 c = λ ms standing all. nothing-there (omega (arith, c .if1 .left))
 
@@ -35,8 +21,8 @@ pub number-here-spec : {M : Type 1} → statement M
 number-here-spec =
     tie.close
     (tie.spec
-    mul-result
-    shared-slice-read-result
+    (λ c. search needs)
+    (λ c. search needs)
     mul-result-2
     shared-slice-read-result-2
     returns

@@ -4,59 +4,37 @@ use Rattle.counting.proofs.FiguresHeld.{inside, there, inputs-are, orde
 use borrow.Author.Needs.{needs}
 use Rattle.counting.proofs.working.figures_at.Statement.{statement}
 use Rattle.counting.proofs.working.figures_at.Tie as tie
-use Rattle.counting.proofs.working.figures_at.Reads as reads
-use Rattle.counting.proofs.working.figures_at.Lts as lts
-use Rattle.figures.proofs.load.largest_load.Reads as largest-load-reads
-use Rattle.figures.proofs.tally.gates_of.Reads as gates-of-reads
-use Rattle.figures.proofs.tally.tally_module.Reads as tally-module-reads
-use Rattle.runner.proofs.delay.Reads as delay-reads
-use Rattle.runner.proofs.places.module_at.Reads as module-at-reads
 
--- src/working.rt:26:51
 mul-module-at : tie.Need-mul-module-at
 mul-module-at c = omega (arith, inside (c .before .before .before .before .pre), c .before .before .before .before .good)
 
--- src/working.rt:26:51
 shared-slice-read-module-at : tie.Need-shared-slice-read-module-at
 shared-slice-read-module-at c = inside (c .before .before .before .before .before .pre)
 
--- src/working.rt:26:9
 module-at-requires : tie.Need-module-at-requires
 module-at-requires c κs = there (c .before .before .before .before .before .pre)
 
--- src/working.rt:27:18
 cast-inputs : tie.Need-cast-inputs
 cast-inputs c = omega (arith, inputs-are (c .before .before .before .before .before .before .before .pre) (c .before .module-at .ensures), c .before .before .before .before .before .before .before .pre .within .inputs .count)
 
--- src/working.rt:28:20
 sub-outputs : tie.Need-sub-outputs
 sub-outputs c = ordered (c .before .before .before .before .before .before .before .before .pre) (c .before .before .module-at .ensures)
 
--- src/working.rt:28:19
 cast-outputs : tie.Need-cast-outputs
 cast-outputs c = omega (arith, outputs-are (c .before .before .before .before .before .before .before .before .pre) (c .before .before .module-at .ensures), c .before .before .before .before .before .before .before .before .pre .within .outputs .count)
 
--- src/working.rt:29:9
 tally-module-requires : tie.Need-tally-module-requires
 tally-module-requires c κs = countable (c .before .before .before .before .before .before .before .before .pre)
 
--- src/working.rt:30:9
 gates-of-requires : tie.Need-gates-of-requires
 gates-of-requires c κs = tally-fits (c .before .before .before .before .before .before .before .before .before .pre) (tally-is (c .before .before .before .before .before .before .before .before .before .pre) (c .tally-module .ensures))
 
--- src/working.rt:31:9
 delay-requires : tie.Need-delay-requires
 delay-requires c κs = callable (c .before .before .before .before .before .before .before .before .before .before .before .pre)
 
--- src/working.rt:32:9
 largest-load-requires : tie.Need-largest-load-requires
 largest-load-requires c κs = (loadable (c .before .before .before .before .before .before .before .before .before .before .before .before .before .before .before .pre), search needs)
 
--- src/working.rt:13:1
-same-length : tie.Need-same-length
-same-length c = search needs
-
--- src/working.rt:13:1
 returns : tie.Need-returns
 returns c =
     λ s.
@@ -90,5 +68,5 @@ figures-at-spec =
     gates-of-requires
     delay-requires
     largest-load-requires
-    same-length
+    (λ c. search needs)
     returns)
