@@ -1,18 +1,15 @@
 -- A file made ready: its modules stand in the list of its numbers, each with its number first.
 use Prim.Native.Nat.{ℕ, _≤_, _<_}
-use mathlib.Core.Path.{_≡_, sym, ap, subst}
+use mathlib.Core.Path.{_≡_, ap, subst}
 use mathlib.Core.List.{List}
 use native.Mathlib.Omega.{arith}
 use lib.ListN.{length, getD, length-drop}
 use Rattle.meaning.specs.Syntax.{Module}
-use Rattle.meaning.specs.Layout.{moduleNumbers}
 use Rattle.meaning.specs.Verdict.{refused as refusedWith, verdict}
-use Rattle.image.specs.Stands.{Stands}
-use Rattle.image.specs.Pieces.{moved, module-at}
-use Rattle.image.specs.ResolvedLayout.{startOf, stands-at-start}
+use Rattle.image.specs.Pieces.{module-at}
 use Rattle.desk.specs.Finding.{Searchable, Standing}
 use Rattle.desk.specs.Prepared.{Opened, Prepares}
-use Rattle.desk.specs.Holding.{stands-in-front}
+use Rattle.desk.specs.Holding.{opened-stands}
 use Rattle.desk.specs.declared.preparing.Prepared.{Prepared}
 use Rattle.desk.specs.declared.preparing.Prepared.the-variants.{Ready, Refused}
 use Rattle.desk.proofs.ModuleSearch.{here-at}
@@ -35,21 +32,6 @@ nothing-there {ms} {position} beyond =
 
 module _ {file : List ℕ} {modules count : ℕ} {numbers starts image nets sizes rooms : List ℕ}
     (o : Opened file modules count numbers starts image nets sizes rooms) where
-  standing : Standing numbers starts (o .ms)
-  standing =
-      record {
-        stands = λ k m later there.
-            let within : k < length (o .ms) = omega (arith, ap length there, length-drop k (o .ms)) in
-            stands-in-front numbers count
-            (moved (startOf (o .ms) k) (o .desk .startsAre k within)
-            (subst (λ (xs : List ℕ). Stands xs (startOf (o .ms) k) (moduleNumbers m)) (sym (o .desk .numbersAre))
-            (stands-at-start (o .ms) k there)));
-        listed = o .desk .startsLong;
-      }
-
-  pub searchable : Searchable numbers starts modules
-  searchable = record { ms = o .ms; standing = standing; all = o .desk .all }
-
   pub opens :
       {position number : ℕ}
       → ((ms : List Module) → Standing numbers starts ms → modules ≡ length ms → NumberHere ms position number)
@@ -60,7 +42,7 @@ module _ {file : List ℕ} {modules count : ℕ} {numbers starts image nets size
         reads = o .reads;
         accepted = o .desk .accepted;
         all = o .desk .all;
-        here = told (o .ms) standing (o .desk .all);
+        here = told (o .ms) (opened-stands o) (o .desk .all);
       }
 
 -- What preparing says of its answer.

@@ -1,18 +1,13 @@
 -- From a file made ready to the module of a number in it.
-use Prim.Native.Nat.{ℕ, _<_}
-use mathlib.Core.Path.{_≡_, refl, sym, ap, subst, _∙_}
-use mathlib.Core.List.{List, _∷_}
-use native.Mathlib.Omega.{arith}
-use lib.ListN.{length, drop, length-drop, getD}
+use Prim.Native.Nat.{ℕ}
+use mathlib.Core.Path.{_≡_, refl, subst}
+use mathlib.Core.List.{List}
+use lib.ListN.{length}
 use Rattle.meaning.specs.Syntax.{Module}
-use Rattle.meaning.specs.Layout.{moduleNumbers}
-use Rattle.image.specs.Stands.{Stands}
-use Rattle.image.specs.Pieces.{moved}
-use Rattle.image.specs.ResolvedLayout.{startOf, stands-at-start}
 use Rattle.desk.specs.Finding.{Standing, Searchable, Finds}
 use Rattle.desk.specs.Prepared.{Opened, Prepares}
 use Rattle.desk.specs.Sought.{Seeks, broken, absent}
-use Rattle.desk.specs.Holding.{stands-in-front}
+use Rattle.desk.specs.Holding.{opened-stands, opened-searchable}
 use Rattle.desk.specs.declared.finding.Place.{Place}
 use Rattle.desk.specs.declared.finding.Place.the-variants.{At, Nowhere}
 use Rattle.desk.specs.declared.preparing.Prepared.{Prepared}
@@ -27,24 +22,13 @@ module _ (file numbers starts image nets sizes rooms : List ℕ) (prepared : Pre
     opened : Opened file modules count numbers starts image nets sizes rooms
     opened = subst (λ (r : Prepared). Prepares r file numbers starts image nets sizes rooms) e p
 
-    standing : Standing numbers starts (opened .ms)
-    standing =
-        record {
-          stands = λ k m later there.
-              let inside : k < length (opened .ms) = omega (arith, ap length there, length-drop k (opened .ms)) in
-              stands-in-front numbers count
-              (moved (startOf (opened .ms) k) (opened .desk .startsAre k inside)
-              (subst (λ (xs : List ℕ). Stands xs (startOf (opened .ms) k) (moduleNumbers m)) (sym (opened .desk .numbersAre)) (stands-at-start (opened .ms) k there)));
-          listed = opened .desk .startsLong;
-        }
-
     -- The search can begin.
     pub searchable : Searchable numbers starts modules
-    searchable = record { ms = opened .ms; standing = standing; all = opened .desk .all }
+    searchable = opened-searchable opened
 
     module _ (number : ℕ) (place : Place) (f : (ms : List Module) → Standing numbers starts ms → modules ≡ length ms → Finds place ms number) where
       found : Finds place (opened .ms) number
-      found = f (opened .ms) standing (opened .desk .all)
+      found = f (opened .ms) (opened-stands opened) (opened .desk .all)
 
       pub sought-at : (k : ℕ) → place ≡ At k → Seeks (sought.At k) file number numbers starts image nets sizes rooms
       sought-at k at =

@@ -17,7 +17,7 @@ use Rattle.runner.specs.Evaluating.{evaluate-means}
 use Rattle.runner.specs.Loading.{evaluable}
 use Rattle.writer.specs.Answers.{writingOf}
 use Rattle.writer.specs.declared.answer.Writing.the-variants.{Wrote}
-use Rattle.evaluating.specs.Evaluates.{Settles}
+use Rattle.writer.specs.Settled.{Settles}
 use Rattle.evaluating.specs.Asked.{Ready, asked}
 use Rattle.evaluating.proofs.SmallValues.{all-small}
 

@@ -9,7 +9,7 @@ use Rattle.meaning.specs.Figures.{room}
 use Rattle.meaning.specs.Calls.{Decision, refusal, firstAbove, Written, outAfter, scratchAfter}
 use Rattle.writer.specs.Answers.{writingOf}
 use Rattle.writer.specs.declared.answer.Writing.the-variants.{Refused}
-use Rattle.evaluating.specs.Evaluates.{Settles}
+use Rattle.writer.specs.Settled.{Settles}
 use Rattle.evaluating.specs.Asked.{Ready, asked}
 
 pub refused :

@@ -12,7 +12,8 @@ use Rattle.desk.specs.declared.seeking.Sought.{Sought}
 use Rattle.desk.specs.declared.seeking.Sought.the-variants.{At, Refused}
 use Rattle.writer.specs.declared.answer.Writing.{Writing}
 use Rattle.writer.specs.declared.answer.Writing.the-variants as writing
-use Rattle.evaluating.specs.Evaluates.{Settles, Evaluates}
+use Rattle.writer.specs.Settled.{Settles}
+use Rattle.evaluating.specs.Evaluates.{Evaluates}
 use Rattle.evaluating.specs.Asked.{Ready, asked}
 use Rattle.evaluating.proofs.Refusing.{refused}
 

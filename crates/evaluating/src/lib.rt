@@ -4,7 +4,8 @@ use writer::Writing;
 ghost use Prim.Native.Nat.{_≤_};
 ghost use lib.ListN.{length};
 ghost use Rattle.desk.specs.Prepared.{Space};
-ghost use Rattle.evaluating.specs.Evaluates.{Settles, Evaluates};
+ghost use Rattle.writer.specs.Settled.{Settles};
+ghost use Rattle.evaluating.specs.Evaluates.{Evaluates};
 ghost use Rattle.evaluating.specs.Asked.{Ready, asked};
 
 mod values;

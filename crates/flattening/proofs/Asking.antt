@@ -9,13 +9,13 @@ use Rattle.meaning.specs.Figures.{gateCount, room}
 use Rattle.meaning.specs.Calls.{flatFile}
 use Rattle.writer.specs.declared.answer.Writing.{Writing}
 use Rattle.writer.specs.declared.answer.Writing.the-variants.{Refused}
-use Rattle.flattening.specs.Flattens.{Flattens}
+use Rattle.writer.specs.Settled.{Settles}
 use Rattle.flattening.specs.Found.{fitting, asked}
 
 module _ (number : ℕ) (scratch out : List ℕ) (ms : List Module) (m : Module) where
   pub asks-many :
       4096 < length (m .inputs) + gateCount ms number
-      → Flattens (asked number (length scratch) (length out) ms m) scratch out scratch out (Refused 24 0)
+      → Settles (asked number (length scratch) (length out) ms m) scratch out scratch out (Refused 24 0)
   asks-many many =
       rw (lt-leb (length (m .inputs) + gateCount ms number) 4096 many)
       (record { answered = record { is = refl; out = refl }; scratched = refl })
@@ -23,7 +23,7 @@ module _ (number : ℕ) (scratch out : List ℕ) (ms : List Module) (m : Module)
   module _ (few : length (m .inputs) + gateCount ms number ≤ 4096) where
     pub asks-narrow :
         length scratch < room ms number
-        → Flattens (asked number (length scratch) (length out) ms m) scratch out scratch out (Refused 21 0)
+        → Settles (asked number (length scratch) (length out) ms m) scratch out scratch out (Refused 21 0)
     asks-narrow narrow =
         rw (le-leb (length (m .inputs) + gateCount ms number) 4096 few, lt-leb (room ms number) (length scratch) narrow)
         (record { answered = record { is = refl; out = refl }; scratched = refl })
@@ -32,8 +32,8 @@ module _ (number : ℕ) (scratch out : List ℕ) (ms : List Module) (m : Module)
         {given : ℕ} {scratch′ out′ : List ℕ} {result : Writing}
         → given ≡ room ms number
         → given ≤ length scratch
-        → Flattens (fitting (flatFile ms number m) given (length out)) scratch out scratch′ out′ result
-        → Flattens (asked number (length scratch) (length out) ms m) scratch out scratch′ out′ result
+        → Settles (fitting (flatFile ms number m) given (length out)) scratch out scratch′ out′ result
+        → Settles (asked number (length scratch) (length out) ms m) scratch out scratch′ out′ result
     asks-on {given} roomy enough answered =
         rw (
           ← roomy,

@@ -6,11 +6,11 @@ use lib.ListN.{length, drop, replicate}
 use borrow.Author.Tests.{le-leb, lt-leb}
 use Rattle.encoder.specs.Filled.{Filled}
 use Rattle.writer.specs.declared.answer.Writing.the-variants.{Wrote, Refused}
-use Rattle.flattening.specs.Flattens.{Flattens}
+use Rattle.writer.specs.Settled.{Settles}
 use Rattle.flattening.specs.Found.{fitting}
 
 module _ (bytes : List ℕ) (cleared : ℕ) (scratch out : List ℕ) where
-  pub ends-short : length out < length bytes → Flattens (fitting bytes cleared (length out)) scratch out scratch out (Refused 22 0)
+  pub ends-short : length out < length bytes → Settles (fitting bytes cleared (length out)) scratch out scratch out (Refused 22 0)
   ends-short short =
       rw (lt-leb (length bytes) (length out) short) (record { answered = record { is = refl; out = refl }; scratched = refl })
 
@@ -19,7 +19,7 @@ module _ (bytes : List ℕ) (cleared : ℕ) (scratch out : List ℕ) where
       → length bytes ≤ length out
       → scratch′ ≡ replicate cleared 0 ++ drop cleared scratch
       → Filled bytes out out′ count
-      → Flattens (fitting bytes cleared (length out)) scratch out scratch′ out′ (Wrote count)
+      → Settles (fitting bytes cleared (length out)) scratch out scratch′ out′ (Wrote count)
   ends-written room clear filled =
       rw (le-leb (length bytes) (length out) room)
       (record { answered = record { is = ap Wrote (filled .size); out = rw (← filled .size) (filled .holds) }; scratched = clear })

@@ -13,7 +13,7 @@ use Rattle.desk.specs.declared.seeking.Sought.the-variants as sought
 use Rattle.writer.specs.declared.answer.Writing.{Writing}
 use Rattle.writer.specs.declared.answer.Writing.the-variants.{Refused}
 use Rattle.flattener.specs.Imaging.{imaged}
-use Rattle.flattening.specs.Flattens.{Flattens}
+use Rattle.writer.specs.Settled.{Settles}
 use Rattle.flattening.specs.Found.{Found, asked}
 
 module _ (file : List ℕ) (number : ℕ) (numbers starts image nets sizes rooms : List ℕ) (r : Sought)
@@ -22,7 +22,7 @@ module _ (file : List ℕ) (number : ℕ) (numbers starts image nets sizes rooms
       (n place : ℕ)
       → r ≡ sought.Refused n place
       → (scratch out : List ℕ)
-      → Flattens (flattening file number (length scratch) (length out)) scratch out scratch out (Refused n place)
+      → Settles (flattening file number (length scratch) (length out)) scratch out scratch out (Refused n place)
   unfolding flattening
   sought-refused n place e scratch out =
       let none = subst (λ (s : Sought). Seeks s file number numbers starts image nets sizes rooms) e seeks in
@@ -57,8 +57,8 @@ module _ (file : List ℕ) (number : ℕ) (numbers starts image nets sizes rooms
     pub sought-flattens :
         {scratch out scratch′ out′ : List ℕ} {result : Writing}
         → ((f : Found image starts nets k number (getD rooms k 0))
-        → Flattens (asked number (length scratch) (length out) (f .ms) (f .m)) scratch out scratch′ out′ result)
-        → Flattens (flattening file number (length scratch) (length out)) scratch out scratch′ out′ result
+        → Settles (asked number (length scratch) (length out) (f .ms) (f .m)) scratch out scratch′ out′ result)
+        → Settles (flattening file number (length scratch) (length out)) scratch out scratch′ out′ result
     unfolding flattening sought-found
     sought-flattens {scratch} {out} answered =
         rw (held-asks held (asked number (length scratch) (length out))) (answered sought-found)

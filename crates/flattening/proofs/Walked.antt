@@ -12,7 +12,7 @@ use Rattle.meaning.specs.Calls.{flatFile}
 use Rattle.writer.specs.declared.answer.Writing.{Writing}
 use Rattle.flattener.specs.Flat.{flatNumbers, Flattenable, Flattened}
 use Rattle.flattener.specs.FlatNumbers.{bytes-of-flat-numbers, flat-numbers-small}
-use Rattle.flattening.specs.Flattens.{Flattens}
+use Rattle.writer.specs.Settled.{Settles}
 use Rattle.flattening.specs.Found.{fitting, Placeable}
 
 module _ {image starts nets : List ℕ} {k number given : ℕ} where
@@ -61,9 +61,9 @@ module _ {image starts nets : List ℕ} {k number given : ℕ} where
     -- What is answered with these numbers is answered with the bytes of the flattened file.
     pub laid-flattens :
         {scratch out scratch′ out′ : List ℕ} {result : Writing}
-        → Flattens (fitting (each numberBytes (take count flat′)) given (length out)) scratch out scratch′ out′ result
-        → Flattens (fitting (flatFile (p .here .ms) number (p .here .m)) given (length out)) scratch out scratch′ out′ result
+        → Settles (fitting (each numberBytes (take count flat′)) given (length out)) scratch out scratch′ out′ result
+        → Settles (fitting (flatFile (p .here .ms) number (p .here .m)) given (length out)) scratch out scratch′ out′ result
     laid-flattens {scratch} {out} {scratch′} {out′} {result} answered =
-        subst (λ (bytes : List ℕ). Flattens (fitting bytes given (length out)) scratch out scratch′ out′ result)
+        subst (λ (bytes : List ℕ). Settles (fitting bytes given (length out)) scratch out scratch′ out′ result)
         (ap (each numberBytes) laid ∙ sym (bytes-of-flat-numbers (p .here .ms) number (p .here .m)))
         answered

@@ -1,3 +1,2 @@
 -- What flattening promises, and how it goes on once the module is found.
-pub mod Flattens
 pub mod Found

@@ -5,7 +5,7 @@ ghost use lib.ListN.{length};
 ghost use Rattle.meaning.specs.Lists.{All};
 ghost use Rattle.meaning.specs.Ceilings.{Small};
 ghost use Rattle.meaning.specs.Layout.{each, numberBytes};
-ghost use Rattle.flattening.specs.Flattens.{Flattens};
+ghost use Rattle.writer.specs.Settled.{Settles};
 ghost use Rattle.flattening.specs.Found.{fitting};
 
 // Clears the room and writes the bytes of the numbers, or gives 22 where the buffer is shorter.
@@ -13,7 +13,7 @@ pub(crate) fn answer(numbers: &[u16], room: usize, scratch: &mut [u32], out: &mu
     requires { ⌜ All Small (now numbers) ⌝ }
     requires { ⌜ room ≤ length (now scratch) ⌝ }
     ensures { λ r.
-        ⌜ Flattens (fitting (each numberBytes (now (numbers .entry))) room (length (now (out .entry))))
+        ⌜ Settles (fitting (each numberBytes (now (numbers .entry))) room (length (now (out .entry))))
         (now (scratch .entry)) (now (out .entry)) (now (scratch .exit)) (now (out .exit)) r ⌝ }
 {
     if out.len() < encoder::needed(numbers) {

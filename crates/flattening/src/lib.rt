@@ -5,7 +5,7 @@ ghost use Prim.Native.Nat.{_≤_};
 ghost use lib.ListN.{length};
 ghost use Rattle.meaning.specs.Calls.{flattening};
 ghost use Rattle.desk.specs.Prepared.{Space};
-ghost use Rattle.flattening.specs.Flattens.{Flattens};
+ghost use Rattle.writer.specs.Settled.{Settles};
 ghost use Rattle.flattening.specs.Found.{Found, asked};
 
 mod answering;
@@ -25,7 +25,7 @@ fn flatten_at(
     requires { ⌜ Found (now image) (now starts) (now nets) k number room ⌝ }
     ensures { λ r.
         ⌜ ((f : Found (now (image .entry)) (now (starts .entry)) (now (nets .entry)) k number room)
-        → Flattens (asked number (length (now (scratch .entry))) (length (now (out .entry))) (f .ms) (f .m))
+        → Settles (asked number (length (now (scratch .entry))) (length (now (out .entry))) (f .ms) (f .m))
         (now (scratch .entry)) (now (out .entry)) (now (scratch .exit)) (now (out .exit)) r) ⌝ }
 {
     let header = runner::places::module_at(image, starts[k]);
@@ -66,7 +66,7 @@ fn flatten_in(
 ) -> Writing
     requires { ⌜ Space (now file) (now numbers) (now starts) (now image) (now nets) (now sizes) (now rooms) ⌝ }
     ensures { λ r.
-        ⌜ Flattens (flattening (now (file .entry)) number (length (now (scratch .entry))) (length (now (out .entry))))
+        ⌜ Settles (flattening (now (file .entry)) number (length (now (scratch .entry))) (length (now (out .entry))))
         (now (scratch .entry)) (now (out .entry)) (now (scratch .exit)) (now (out .exit)) r ⌝ }
 {
     match desk::seeking::seek(file, number, numbers, starts, image, nets, sizes, rooms) {
@@ -82,7 +82,7 @@ fn flatten_in(
 fn flatten_short(file: &[u8], number: u16, scratch: &mut [u32], out: &mut [u8]) -> Writing
     requires { ⌜ length (now file) ≤ 1024 ⌝ }
     ensures { λ r.
-        ⌜ Flattens (flattening (now (file .entry)) number (length (now (scratch .entry))) (length (now (out .entry))))
+        ⌜ Settles (flattening (now (file .entry)) number (length (now (scratch .entry))) (length (now (out .entry))))
         (now (scratch .entry)) (now (out .entry)) (now (scratch .exit)) (now (out .exit)) r ⌝ }
 {
     let mut numbers = [0u16; 1024];
@@ -108,7 +108,7 @@ fn flatten_short(file: &[u8], number: u16, scratch: &mut [u32], out: &mut [u8]) 
 // A file of any length.
 fn flatten_large(file: &[u8], number: u16, scratch: &mut [u32], out: &mut [u8]) -> Writing
     ensures { λ r.
-        ⌜ Flattens (flattening (now (file .entry)) number (length (now (scratch .entry))) (length (now (out .entry))))
+        ⌜ Settles (flattening (now (file .entry)) number (length (now (scratch .entry))) (length (now (out .entry))))
         (now (scratch .entry)) (now (out .entry)) (now (scratch .exit)) (now (out .exit)) r ⌝ }
 {
     let mut numbers = [0u16; 65536];
@@ -131,11 +131,11 @@ fn flatten_large(file: &[u8], number: u16, scratch: &mut [u32], out: &mut [u8]) 
     )
 }
 
-// Flattens the module of a number into `out`, with at least as many entries of scratch as its room: refusals 1 to 18, 24, 21 and 22 in
+// Settles the module of a number into `out`, with at least as many entries of scratch as its room: refusals 1 to 18, 24, 21 and 22 in
 // this order. A refusal changes nothing that was lent; an answer leaves 0 in the first room entries of scratch.
 pub fn flatten(file: &[u8], number: u16, scratch: &mut [u32], out: &mut [u8]) -> Writing
     ensures { λ r.
-        ⌜ Flattens (flattening (now (file .entry)) number (length (now (scratch .entry))) (length (now (out .entry))))
+        ⌜ Settles (flattening (now (file .entry)) number (length (now (scratch .entry))) (length (now (out .entry))))
         (now (scratch .entry)) (now (out .entry)) (now (scratch .exit)) (now (out .exit)) r ⌝ }
 {
     if file.len() <= 1024 {

@@ -5,7 +5,7 @@ use writer::Writing;
 ghost use Prim.Native.Nat.{_≤_};
 ghost use lib.ListN.{length};
 ghost use Rattle.meaning.specs.Calls.{flatFile};
-ghost use Rattle.flattening.specs.Flattens.{Flattens};
+ghost use Rattle.writer.specs.Settled.{Settles};
 ghost use Rattle.flattening.specs.Found.{fitting, Placeable};
 
 // The walk in given entries, then the answer.
@@ -26,7 +26,7 @@ fn place_in(
     ensures { λ r.
         ⌜ ((p : Placeable (now (image .entry)) (now (starts .entry)) (now (nets .entry)) k number room
         (length (now (entries .entry))) (length (now (flat .entry))))
-        → Flattens (fitting (flatFile (p .here .ms) number (p .here .m)) room (length (now (out .entry))))
+        → Settles (fitting (flatFile (p .here .ms) number (p .here .m)) room (length (now (out .entry))))
         (now (scratch .entry)) (now (out .entry)) (now (scratch .exit)) (now (out .exit)) r) ⌝ }
 {
     let count = flattener::flatten(image, starts, nets, k, number, room, entries, flat);
@@ -49,7 +49,7 @@ pub(crate) fn place_small(
     requires { ⌜ room ≤ length (now scratch) ⌝ }
     ensures { λ r.
         ⌜ ((p : Placeable (now (image .entry)) (now (starts .entry)) (now (nets .entry)) k number room 1024 8389)
-        → Flattens (fitting (flatFile (p .here .ms) number (p .here .m)) room (length (now (out .entry))))
+        → Settles (fitting (flatFile (p .here .ms) number (p .here .m)) room (length (now (out .entry))))
         (now (scratch .entry)) (now (out .entry)) (now (scratch .exit)) (now (out .exit)) r) ⌝ }
 {
     let mut entries = [0u32; 1024];
@@ -83,7 +83,7 @@ pub(crate) fn place_large(
     requires { ⌜ room ≤ length (now scratch) ⌝ }
     ensures { λ r.
         ⌜ ((p : Placeable (now (image .entry)) (now (starts .entry)) (now (nets .entry)) k number room 65535 32965)
-        → Flattens (fitting (flatFile (p .here .ms) number (p .here .m)) room (length (now (out .entry))))
+        → Settles (fitting (flatFile (p .here .ms) number (p .here .m)) room (length (now (out .entry))))
         (now (scratch .entry)) (now (out .entry)) (now (scratch .exit)) (now (out .exit)) r) ⌝ }
 {
     let mut entries = [0u32; 65535];

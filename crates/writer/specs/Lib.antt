@@ -4,3 +4,4 @@ pub mod Heads
 pub mod Orders
 pub mod Rooms
 pub mod Shapes
+pub mod Settled

@@ -1,5 +1,6 @@
 -- The file is made ready, and the number is read off.
-use Rattle.counting.proofs.Opening.{opened, refused, searchable, opens}
+use Rattle.desk.specs.Holding.{opened-searchable}
+use Rattle.counting.proofs.Opening.{opened, refused, opens}
 use borrow.Author.Needs.{needs}
 use Rattle.counting.proofs.contents.look_in.Statement.{statement}
 use Rattle.counting.proofs.contents.look_in.Tie as tie
@@ -7,7 +8,7 @@ use Rattle.counting.proofs.contents.look_in.Tie as tie
 number-here-requires : tie.Need-number-here-requires
 number-here-requires c κs =
     let prepared = c .before .before .before .before .before .before .before .before .before .before .before .before .before .before .before .before .before .prepare in
-    searchable (opened _ _ _ _ _ _ _ (prepared .result) (prepared .ensures) _ _ (c .before .before .before .modules .given .1))
+    opened-searchable (opened _ _ _ _ _ _ _ (prepared .result) (prepared .ensures) _ _ (c .before .before .before .modules .given .1))
 
 returns : tie.Need-returns
 returns c =
