@@ -1,6 +1,6 @@
 -- What a writer answers, and what it leaves in the buffer that was lent to it.
 use Prim.Native.Nat.{ℕ}
-use mathlib.Core.Path.{_≡_}
+use mathlib.Core.Path.{_≡_, sym, _∙_}
 use mathlib.Core.List.{List}
 use lib.Dec.{leb}
 use lib.ListN.{length}
@@ -21,3 +21,11 @@ fitting bytes out = demand 22 0 (leb (length bytes) out) (answer (record { bytes
 pub record Answers (decision : Decision Written) (before after : List ℕ) (result : Writing) : Type 0 where
   pub is : result ≡ writingOf decision
   pub out : after ≡ outAfter decision before
+
+-- Any two outcomes that it permits coincide.
+pub one-answer :
+    {decision : Decision Written} {before after after′ : List ℕ} {result result′ : Writing}
+    → Answers decision before after result
+    → Answers decision before after′ result′
+    → (result ≡ result′) × (after ≡ after′)
+one-answer one other = (one .is ∙ sym (other .is), one .out ∙ sym (other .out))
