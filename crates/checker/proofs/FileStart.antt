@@ -42,7 +42,7 @@ module _ {numbers starts : List ℕ} {modules : ℕ} {first slots marks image ne
   knows-nothing =
       record {
         inside = λ x e. absurd (true≢false (sym e));
-        outside = λ x e. omega (arith, ready .clearSlots x);
+        outside = λ x e. omega (arith, ready .lowSlots .below x);
       }
 
   pub each-ready : {first′ : List ℕ} {repeated : ℕ} → Indexed first′ repeated (ready .ms) → length first′ ≡ length first → EachReady numbers starts modules first′ repeated slots marks image nets
@@ -65,7 +65,7 @@ module _ {numbers starts : List ℕ} {modules : ℕ} {first slots marks image ne
               netsLong = ready .roomy .netsLong;
             };
         knows = knows-nothing;
-        marked = record { below = λ i. omega (arith, ready .clearMarks i) };
+        marked = ready .lowMarks;
       }
 
   module _ (r : Found) (image′ nets′ : List ℕ) (ms : List Module) (l : Laidout numbers starts modules ms) (found : EachFound r ms image image′ nets′) where

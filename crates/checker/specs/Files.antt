@@ -54,14 +54,14 @@ EachFound Fine ms image image′ nets′ =
     (modulesVerdict 0 ms ≡ good) × (image′ ≡ laid image 1 (each moduleNumbers (resolve ms))) × Counted ms nets′
 EachFound (Broken rule place) ms image image′ nets′ = modulesVerdict 0 ms ≡ refused rule place
 
--- The whole: tables all 0 at first.
+-- The whole: no module is entered in the table of numbers yet, and the entries of the others are below every base and every stamp.
 pub record FileReady (numbers starts : List ℕ) (modules : ℕ) (first slots marks image nets : List ℕ) : Type 0 where
   pub ms : List Module
   pub laidout : Laidout numbers starts modules ms
   pub roomy : Roomy numbers modules first slots marks image nets
   pub clearFirst : (x : ℕ) → getD first x 0 ≡ 0
-  pub clearSlots : (x : ℕ) → getD slots x 0 ≡ 0
-  pub clearMarks : (x : ℕ) → getD marks x 0 ≡ 0
+  pub lowSlots : Below 2 slots
+  pub lowMarks : Below 2 marks
 
 abbrev pub FileFound : Found → (ms : List Module) → (image image′ nets′ : List ℕ) → Type 0
 FileFound Fine ms image image′ nets′ =

@@ -65,12 +65,12 @@ fn look_in(
 
 // The look into a short file.
 fn look_short(file: &[u8], position: usize) -> Looked
-    requires { ⌜ length (now file) ≤ 1024 ⌝ }
+    requires { ⌜ length (now file) ≤ 1020 ⌝ }
     ensures { λ r. ⌜ Looks r (now (file .entry)) position ⌝ }
 {
-    let mut numbers = [0u16; 1024];
+    let mut numbers = [1u16; 1020];
     let mut starts = [0usize; 128];
-    let mut image = [0u16; 1024];
+    let mut image = [1u16; 1020];
     let mut nets = [0usize; 128];
     let mut sizes = [0u32; 128];
     let mut rooms = [0u32; 128];
@@ -115,8 +115,8 @@ fn look_long(
 fn look_large(file: &[u8], position: usize) -> Looked
     ensures { λ r. ⌜ Looks r (now (file .entry)) position ⌝ }
 {
-    let mut numbers = [0u16; 65536];
-    let mut image = [0u16; 65536];
+    let mut numbers = [1u16; 65536];
+    let mut image = [1u16; 65536];
     look_long(file, position, &mut numbers, &mut image)
 }
 
@@ -124,7 +124,7 @@ fn look_large(file: &[u8], position: usize) -> Looked
 fn look(file: &[u8], position: usize) -> Looked
     ensures { λ r. ⌜ Looks r (now (file .entry)) position ⌝ }
 {
-    if file.len() <= 1024 {
+    if file.len() <= 1020 {
         look_short(file, position)
     } else {
         look_large(file, position)

@@ -13,7 +13,7 @@ ghost use Rattle.counting.specs.Answers.{Counts};
 pub fn count(file: &[u8], number: u16, scratch: &mut [u32]) -> Counted
     ensures { λ r. ⌜ Counts (counting (now (file .entry)) number (length (now (scratch .entry)))) (now (scratch .entry)) (now (scratch .exit)) r ⌝ }
 {
-    if file.len() <= 1024 {
+    if file.len() <= 1020 {
         crate::working::count_short(file, number, scratch)
     } else {
         crate::working::count_large(file, number, scratch)

@@ -76,12 +76,12 @@ fn count_in(
 
 // The count of a short file.
 pub(crate) fn count_short(file: &[u8], number: u16, scratch: &mut [u32]) -> Counted
-    requires { ⌜ length (now file) ≤ 1024 ⌝ }
+    requires { ⌜ length (now file) ≤ 1020 ⌝ }
     ensures { λ r. ⌜ Counts (counting (now (file .entry)) number (length (now (scratch .entry)))) (now (scratch .entry)) (now (scratch .exit)) r ⌝ }
 {
-    let mut numbers = [0u16; 1024];
+    let mut numbers = [1u16; 1020];
     let mut starts = [0usize; 128];
-    let mut image = [0u16; 1024];
+    let mut image = [1u16; 1020];
     let mut nets = [0usize; 128];
     let mut sizes = [0u32; 128];
     let mut rooms = [0u32; 128];
@@ -129,7 +129,7 @@ fn count_long(
 pub(crate) fn count_large(file: &[u8], number: u16, scratch: &mut [u32]) -> Counted
     ensures { λ r. ⌜ Counts (counting (now (file .entry)) number (length (now (scratch .entry)))) (now (scratch .entry)) (now (scratch .exit)) r ⌝ }
 {
-    let mut numbers = [0u16; 65536];
-    let mut image = [0u16; 65536];
+    let mut numbers = [1u16; 65536];
+    let mut image = [1u16; 65536];
     count_long(file, number, &mut numbers, &mut image, scratch)
 }

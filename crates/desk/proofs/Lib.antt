@@ -3,5 +3,5 @@ pub mod ModuleSearch
 pub mod ModuleSought
 pub mod StageAnswers
 pub mod Tabling
-pub mod Zeros
+pub mod Fresh
 pub mod ReadyFile

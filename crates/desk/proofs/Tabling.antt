@@ -1,4 +1,4 @@
--- Tables that are all 0 and as long as the bound of a file's numbers are what the check asks.
+-- Tables as long as the bound of a file's numbers, with nothing entered in them, are what the check asks.
 use Prim.Native.Nat.{ℕ, _≤_}
 use mathlib.Core.List.{List}
 use native.Mathlib.Omega.{arith}
@@ -10,7 +10,7 @@ pub tabled :
     {bound : ℕ} {numbers starts : List ℕ} {modules : ℕ} {first slots marks image nets sizes rooms : List ℕ}
     → NumbersStage bound numbers starts modules image nets sizes rooms
     → (bound ≤ length first) × (bound ≤ length slots) × (bound ≤ length marks)
-    → Clear first × Clear slots × Clear marks
+    → Clear first × Below 2 slots × Below 2 marks
     → CheckedStage numbers starts modules first slots marks image nets sizes rooms
 tabled {bound} {numbers} {first = first} {slots} {marks} s long clear =
     record {
@@ -31,8 +31,8 @@ tabled {bound} {numbers} {first = first} {slots} {marks} s long clear =
                   netsLong = s .netsLong;
                 };
             clearFirst = clear .0 .zero;
-            clearSlots = clear .1 .zero;
-            clearMarks = clear .2 .zero;
+            lowSlots = clear .1;
+            lowMarks = clear .2;
           };
       exact = s .exact;
       sizesLong = s .sizesLong;

@@ -1,5 +1,6 @@
 // The numbers of a file checked and its image measured: rules 6 to 17. The check works with tables that are indexed by number. A file
-// whose numbers are all small gets small tables, so that a short file does not pay for clearing long ones.
+// whose numbers are all small gets small tables, so that a short file does not pay for clearing long ones. Where any low entry will do,
+// tables begin with 1: the compiler then fills them itself, and does not call the C library for a block of zeros.
 use crate::preparing::Prepared;
 use checker::files::Found;
 use sizes::Sized;
@@ -8,7 +9,7 @@ ghost use mathlib.Core.Bool.{true};
 ghost use Rattle.nets.specs.Slots.{Below};
 ghost use Rattle.desk.specs.Stages.{CheckedStage, NumbersStage, Clear, Checks};
 
-// The check with tables that are all 0.
+// The check with tables in which nothing is entered.
 fn check_in(
     numbers: &[u16],
     starts: &[usize],
@@ -48,7 +49,7 @@ fn check_in(
     }
 }
 
-// The check of a file whose numbers are below 1,024.
+// The check of a file whose numbers are below 510.
 fn check_small(
     numbers: &[u16],
     starts: &[usize],
@@ -58,12 +59,12 @@ fn check_small(
     sizes: &mut [u32],
     rooms: &mut [u32],
 ) -> Prepared
-    requires { ⌜ NumbersStage 1024 (now numbers) (now starts) modules (now image) (now nets) (now sizes) (now rooms) ⌝ }
+    requires { ⌜ NumbersStage 510 (now numbers) (now starts) modules (now image) (now nets) (now sizes) (now rooms) ⌝ }
     ensures { λ r. ⌜ Checks r (now (numbers .entry)) (now (starts .entry)) modules (now (image .exit)) (now (nets .exit)) (now (sizes .exit)) (now (rooms .exit)) ⌝ }
 {
-    let mut first = [0u16; 1024];
-    let mut slots = [0u32; 1024];
-    let mut marks = [0u32; 1024];
+    let mut first = [0u16; 510];
+    let mut slots = [1u32; 510];
+    let mut marks = [1u32; 510];
     check_in(
         numbers,
         starts,
@@ -93,8 +94,8 @@ fn check_long(
 ) -> Prepared
     requires { ⌜ NumbersStage 16384 (now numbers) (now starts) modules (now image) (now nets) (now sizes) (now rooms) ⌝ }
     requires { ⌜ Clear (now first) ⌝ }
-    requires { ⌜ Clear (now slots) ⌝ }
-    requires { ⌜ Clear (now marks) ⌝ }
+    requires { ⌜ Below 2 (now slots) ⌝ }
+    requires { ⌜ Below 2 (now marks) ⌝ }
     ensures { λ r. ⌜ Checks r (now (numbers .entry)) (now (starts .entry)) modules (now (image .exit)) (now (nets .exit)) (now (sizes .exit)) (now (rooms .exit)) ⌝ }
 {
     check_in(
@@ -125,8 +126,8 @@ fn check_large(
     ensures { λ r. ⌜ Checks r (now (numbers .entry)) (now (starts .entry)) modules (now (image .exit)) (now (nets .exit)) (now (sizes .exit)) (now (rooms .exit)) ⌝ }
 {
     let mut first = [0u16; 16384];
-    let mut slots = [0u32; 16384];
-    let mut marks = [0u32; 16384];
+    let mut slots = [1u32; 16384];
+    let mut marks = [1u32; 16384];
     check_long(
         numbers,
         starts,
@@ -141,13 +142,13 @@ fn check_large(
     )
 }
 
-// Whether each number is below 1,024.
+// Whether each number is below 510.
 fn all_small(numbers: &[u16]) -> bool
-    ensures { λ r. ⌜ (r ≡ true → Below 1024 (now (numbers .entry))) ⌝ }
+    ensures { λ r. ⌜ (r ≡ true → Below 510 (now (numbers .entry))) ⌝ }
 {
     let mut i = 0;
     while i < numbers.len() {
-        if 1024 <= numbers[i] {
+        if 510 <= numbers[i] {
             return false;
         }
         i += 1;

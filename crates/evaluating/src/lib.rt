@@ -83,7 +83,7 @@ fn evaluate_in(
     }
 }
 
-// The call on a file of at most 1,024 bytes, which should not pay for clearing long lists.
+// The call on a file of at most 1,020 bytes, which should not pay for clearing long lists.
 fn evaluate_short(
     file: &[u8],
     number: u16,
@@ -91,12 +91,12 @@ fn evaluate_short(
     scratch: &mut [u32],
     out: &mut [u8],
 ) -> Writing
-    requires { ⌜ length (now file) ≤ 1024 ⌝ }
+    requires { ⌜ length (now file) ≤ 1020 ⌝ }
     ensures { λ r. ⌜ Evaluates (now (file .entry)) number (now (values .entry)) (now (scratch .entry)) (now (out .entry)) (now (scratch .exit)) (now (out .exit)) r ⌝ }
 {
-    let mut numbers = [0u16; 1024];
+    let mut numbers = [1u16; 1020];
     let mut starts = [0usize; 128];
-    let mut image = [0u16; 1024];
+    let mut image = [1u16; 1020];
     let mut nets = [0usize; 128];
     let mut sizes = [0u32; 128];
     let mut rooms = [0u32; 128];
@@ -156,9 +156,9 @@ fn evaluate_large(
 ) -> Writing
     ensures { λ r. ⌜ Evaluates (now (file .entry)) number (now (values .entry)) (now (scratch .entry)) (now (out .entry)) (now (scratch .exit)) (now (out .exit)) r ⌝ }
 {
-    let mut numbers = [0u16; 65536];
+    let mut numbers = [1u16; 65536];
     let mut starts = [0usize; 128];
-    let mut image = [0u16; 65536];
+    let mut image = [1u16; 65536];
     let mut nets = [0usize; 128];
     let mut sizes = [0u32; 128];
     let mut rooms = [0u32; 128];
@@ -188,7 +188,7 @@ pub fn evaluate(
 ) -> Writing
     ensures { λ r. ⌜ Evaluates (now (file .entry)) number (now (values .entry)) (now (scratch .entry)) (now (out .entry)) (now (scratch .exit)) (now (out .exit)) r ⌝ }
 {
-    if file.len() <= 1024 {
+    if file.len() <= 1020 {
         evaluate_short(file, number, values, scratch, out)
     } else {
         evaluate_large(file, number, values, scratch, out)

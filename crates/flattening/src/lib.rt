@@ -78,16 +78,16 @@ fn flatten_in(
     }
 }
 
-// A file of at most 1,024 bytes.
+// A file of at most 1,020 bytes.
 fn flatten_short(file: &[u8], number: u16, scratch: &mut [u32], out: &mut [u8]) -> Writing
-    requires { ⌜ length (now file) ≤ 1024 ⌝ }
+    requires { ⌜ length (now file) ≤ 1020 ⌝ }
     ensures { λ r.
         ⌜ Settles (flattening (now (file .entry)) number (length (now (scratch .entry))) (length (now (out .entry))))
         (now (scratch .entry)) (now (out .entry)) (now (scratch .exit)) (now (out .exit)) r ⌝ }
 {
-    let mut numbers = [0u16; 1024];
+    let mut numbers = [1u16; 1020];
     let mut starts = [0usize; 128];
-    let mut image = [0u16; 1024];
+    let mut image = [1u16; 1020];
     let mut nets = [0usize; 128];
     let mut sizes = [0u32; 128];
     let mut rooms = [0u32; 128];
@@ -111,9 +111,9 @@ fn flatten_large(file: &[u8], number: u16, scratch: &mut [u32], out: &mut [u8]) 
         ⌜ Settles (flattening (now (file .entry)) number (length (now (scratch .entry))) (length (now (out .entry))))
         (now (scratch .entry)) (now (out .entry)) (now (scratch .exit)) (now (out .exit)) r ⌝ }
 {
-    let mut numbers = [0u16; 65536];
+    let mut numbers = [1u16; 65536];
     let mut starts = [0usize; 128];
-    let mut image = [0u16; 65536];
+    let mut image = [1u16; 65536];
     let mut nets = [0usize; 128];
     let mut sizes = [0u32; 128];
     let mut rooms = [0u32; 128];
@@ -138,7 +138,7 @@ pub fn flatten(file: &[u8], number: u16, scratch: &mut [u32], out: &mut [u8]) ->
         ⌜ Settles (flattening (now (file .entry)) number (length (now (scratch .entry))) (length (now (out .entry))))
         (now (scratch .entry)) (now (out .entry)) (now (scratch .exit)) (now (out .exit)) r ⌝ }
 {
-    if file.len() <= 1024 {
+    if file.len() <= 1020 {
         flatten_short(file, number, scratch, out)
     } else {
         flatten_large(file, number, scratch, out)

@@ -52,8 +52,8 @@ pub(crate) fn place_small(
         → Settles (fitting (flatFile (p .here .ms) number (p .here .m)) room (length (now (out .entry))))
         (now (scratch .entry)) (now (out .entry)) (now (scratch .exit)) (now (out .exit)) r) ⌝ }
 {
-    let mut entries = [0u32; 1024];
-    let mut flat = [0u16; 8389];
+    let mut entries = [1u32; 1024];
+    let mut flat = [1u16; 8389];
     place_in(
         image,
         starts,
@@ -86,8 +86,8 @@ pub(crate) fn place_large(
         → Settles (fitting (flatFile (p .here .ms) number (p .here .m)) room (length (now (out .entry))))
         (now (scratch .entry)) (now (out .entry)) (now (scratch .exit)) (now (out .exit)) r) ⌝ }
 {
-    let mut entries = [0u32; 65535];
-    let mut flat = [0u16; 32965];
+    let mut entries = [1u32; 65535];
+    let mut flat = [1u16; 32965];
     place_in(
         image,
         starts,

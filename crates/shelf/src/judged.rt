@@ -35,13 +35,13 @@ fn check_in(
     }
 }
 
-// A file of up to 1,024 bytes.
+// A file of up to 1,020 bytes.
 fn check_short(file: &[u8]) -> Checked
-    requires { ⌜ length (now file) ≤ 1024 ⌝ }
+    requires { ⌜ length (now file) ≤ 1020 ⌝ }
     ensures { λ r. ⌜ r ≡ checkOf (verdict (now (file .entry))) ⌝ }
 {
-    let mut numbers = [0u16; 1024];
-    let mut image = [0u16; 1024];
+    let mut numbers = [1u16; 1020];
+    let mut image = [1u16; 1020];
     let mut starts = [0usize; 128];
     let mut nets = [0usize; 128];
     let mut sizes = [0u32; 128];
@@ -75,11 +75,11 @@ fn check_long(
 pub fn check(file: &[u8]) -> Checked
     ensures { λ r. ⌜ r ≡ checkOf (verdict (now (file .entry))) ⌝ }
 {
-    if file.len() <= 1024 {
+    if file.len() <= 1020 {
         return check_short(file);
     }
-    let mut numbers = [0u16; 65535];
-    let mut image = [0u16; 65535];
+    let mut numbers = [1u16; 65535];
+    let mut image = [1u16; 65535];
     let mut starts = [0usize; 128];
     let mut nets = [0usize; 128];
     let mut sizes = [0u32; 128];

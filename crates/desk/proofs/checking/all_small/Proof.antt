@@ -13,22 +13,22 @@ use Rattle.desk.proofs.checking.all_small.Statement.{statement}
 use Rattle.desk.proofs.checking.all_small.Tie as tie
 
 abbrev Inv-loop : tie.InvT-loop
-Inv-loop numbers i₀ i = (i ≤ length numbers) × (Below 1024 (drop i numbers) → Below 1024 numbers)
+Inv-loop numbers i₀ i = (i ≤ length numbers) × (Below 510 (drop i numbers) → Below 510 numbers)
 
 abbrev μ-loop : tie.MeasureT-loop
 μ-loop numbers i₀ i = length numbers - i
 
 one-more :
-    (numbers : List ℕ) (i : ℕ) → i < length numbers → getD numbers i 0 < 1024
-    → Below 1024 (drop (i + 1) numbers)
-    → Below 1024 (drop i numbers)
+    (numbers : List ℕ) (i : ℕ) → i < length numbers → getD numbers i 0 < 510
+    → Below 510 (drop (i + 1) numbers)
+    → Below 510 (drop i numbers)
 one-more numbers i inside here rest = record { below = λ j. rw (drop-cons numbers i 0 inside) (at j) }
   where
-    at : (j : ℕ) → getD (getD numbers i 0 ∷ drop (suc i) numbers) j 0 < 1024
+    at : (j : ℕ) → getD (getD numbers i 0 ∷ drop (suc i) numbers) j 0 < 510
     at zero = here
     at (suc j) = rw (← add-one i) (rest .below j)
 
-none-left : (numbers : List ℕ) (i : ℕ) → length numbers ≤ i → Below 1024 (drop i numbers)
+none-left : (numbers : List ℕ) (i : ℕ) → length numbers ≤ i → Below 510 (drop i numbers)
 none-left numbers i h = record { below = λ j. rw (drop-of-length-le numbers h) (omega arith) }
 
 false-not-true : false ≡ true → ⊥

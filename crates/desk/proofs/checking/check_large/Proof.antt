@@ -1,5 +1,5 @@
 -- Fresh arrays are clear tables.
-use Rattle.desk.proofs.Zeros.{zeros}
+use Rattle.desk.proofs.Fresh.{zeros, ones}
 use borrow.Author.Needs.{needs}
 use Rattle.desk.proofs.checking.check_large.Statement.{statement}
 use Rattle.desk.proofs.checking.check_large.Tie as tie
@@ -9,7 +9,7 @@ use Rattle.desk.proofs.checking.check_long.Reads as check-long-reads
 
 -- src/checking.rt:130:5
 check-long-requires : tie.Need-check-long-requires
-check-long-requires c κs = (c .before .before .before .before .before .before .before .before .before .before .before .before .before .pre, (zeros 16384, (zeros 16384, zeros 16384)))
+check-long-requires c κs = (c .before .before .before .before .before .before .before .before .before .before .before .before .before .pre, (zeros 16384, (ones 16384, ones 16384)))
 
 -- src/checking.rt:115:1
 same-length : tie.Need-same-length

@@ -1,5 +1,5 @@
 -- Fresh arrays are clear tables, as long as the numbers ask.
-use Rattle.desk.proofs.Zeros.{zeros}
+use Rattle.desk.proofs.Fresh.{zeros, ones}
 use Rattle.desk.proofs.Tabling.{tabled}
 use borrow.Author.Needs.{needs}
 use Rattle.desk.proofs.checking.check_small.Statement.{statement}
@@ -22,7 +22,7 @@ slice-aggregate-check-in-3 c = search needs
 
 -- src/checking.rt:67:5
 check-in-requires : tie.Need-check-in-requires
-check-in-requires c κs = tabled (c .before .before .before .before .before .before .before .before .before .before .before .before .before .pre) (search needs, search needs, search needs) (zeros 1024, zeros 1024, zeros 1024)
+check-in-requires c κs = tabled (c .before .before .before .before .before .before .before .before .before .before .before .before .before .pre) (search needs, search needs, search needs) (zeros 510, ones 510, ones 510)
 
 -- src/checking.rt:52:1
 same-length : tie.Need-same-length
