@@ -6,9 +6,8 @@ A case is a label and a file. In the input each stands as: count of the label's 
 the file's bytes, the file; a count has two bytes, low first. The expected line is `label: good` or
 `label: refused NUMBER PLACE`, by tests/reference.py.
 """
-import os
-
 from reference import adder, encode, verdict
+from stored import store
 
 NOT, AND = 1, 10
 INVERTER = (30, [0], [1], [([1], NOT, [0])])
@@ -120,9 +119,6 @@ def exact(size):
 
 
 def main():
-    here = os.path.dirname(os.path.abspath(__file__))
-    crate = os.path.join(here, '..', 'crates', 'check_cases')
-    os.makedirs(crate, exist_ok=True)
     # the program makes the first case itself
     data, lines = bytearray(), ['1 65536 bytes: refused 1 0\n']
     for label, file in cases():
@@ -130,10 +126,7 @@ def main():
         name = label.encode()
         data += bytes([len(name), 0]) + name + bytes([len(file) % 256, len(file) // 256]) + file
         lines.append('%s: %s\n' % (label, 'refused %d %d' % (number, place) if number else 'good'))
-    with open(os.path.join(crate, 'stdin'), 'wb') as f:
-        f.write(data)
-    with open(os.path.join(crate, 'stdout'), 'w') as f:
-        f.writelines(lines)
+    store('check_cases', data, lines)
 
 
 if __name__ == '__main__':

@@ -8,10 +8,9 @@ has two bytes, low first. The expected line has how many entries of scratch and 
 are FF at first) are changed, then `wrote COUNT` and on the next line the first 256 bytes of the answer, or
 `refused NUMBER PLACE`, by tests/reference.py.
 """
-import os
-
 from check_cases import AND, INVERTER, NOT, PLAIN, chain, twice_the_next
 from reference import Refused, adder, check, encode, find, flatten, room
+from stored import store
 
 OR, XOR = 5, 9
 NUMBERED = 16383, [900, 7, 16383], [8], [([8], XOR, [900, 16383])]
@@ -98,9 +97,6 @@ def cases():
 
 
 def main():
-    here = os.path.dirname(os.path.abspath(__file__))
-    crate = os.path.join(here, '..', 'crates', 'flat_cases')
-    os.makedirs(crate, exist_ok=True)
     data, lines = bytearray(), []
 
     def number(n):
@@ -122,10 +118,7 @@ def main():
                 ''.join(' %02X' % b for b in answer[:256])))
         except Refused as r:
             lines.append('%s: cleared 0 filled 0 refused %d %d\n' % (label, r.number, r.place))
-    with open(os.path.join(crate, 'stdin'), 'wb') as f:
-        f.write(data)
-    with open(os.path.join(crate, 'stdout'), 'w') as f:
-        f.writelines(lines)
+    store('flat_cases', data, lines)
 
 
 if __name__ == '__main__':

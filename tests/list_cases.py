@@ -6,11 +6,11 @@ A case is a label and a file, written as in tests/check_cases.py. The expected t
 the listing, by tests/reference.py.
 """
 import functools
-import os
 
 import reference
 from check_cases import INVERTER, NOT, PLAIN, chain, exact, twice_the_next
 from reference import Refused, adder, count, encode
+from stored import store
 
 SCRATCH = 16384
 
@@ -120,18 +120,13 @@ def cases():
 
 
 def main():
-    here = os.path.dirname(os.path.abspath(__file__))
-    crate = os.path.join(here, '..', 'crates', 'list_cases')
     # the program makes the first case itself
     data, text = bytearray(), ['1 65536 bytes:\nrefused 1 0\n']
     for label, file in cases():
         name = label.encode()
         data += bytes([len(name), 0]) + name + bytes([len(file) % 256, len(file) // 256]) + file
         text.append('%s:\n%s' % (label, listing(file)))
-    with open(os.path.join(crate, 'stdin'), 'wb') as f:
-        f.write(data)
-    with open(os.path.join(crate, 'stdout'), 'w') as f:
-        f.writelines(text)
+    store('list_cases', data, text)
 
 
 if __name__ == '__main__':

@@ -9,11 +9,11 @@ writes itself. The expected line is `label: WORD` with the outputs' values, or `
 What the modules of a file give comes from tests/reference.py's evaluation, what written ones give on known bits
 from its plain arithmetic.
 """
-import os
 from itertools import product
 
 from check_cases import AND, INVERTER, NOT, PLAIN, chain, twice_the_next
 from reference import ARITY, Refused, adder, adder_sum, bits, encode, evaluate, leading_zeros
+from stored import store
 
 DOCUMENT = bytes.fromhex(
     '03 12 03 00 01 02 02 03 04 01 02 03 04 11 03 01 02 00 11 03 00 01 02 02 03 04 03 02 05 06 10 02 00 01'
@@ -147,8 +147,6 @@ def cases():
 
 
 def main():
-    here = os.path.dirname(os.path.abspath(__file__))
-    crate = os.path.join(here, '..', 'crates', 'run_cases')
     data, lines = bytearray(), []
 
     def number(n):
@@ -170,10 +168,7 @@ def main():
             lines.append('%s: refused %d %d\n' % (label, answer.number, answer.place))
         else:
             lines.append(('%s: %s' % (label, word(answer))).rstrip() + '\n')
-    with open(os.path.join(crate, 'stdin'), 'wb') as f:
-        f.write(data)
-    with open(os.path.join(crate, 'stdout'), 'w') as f:
-        f.writelines(lines)
+    store('run_cases', data, lines)
 
 
 if __name__ == '__main__':
