@@ -1,14 +1,10 @@
 -- Readers that go the same way, whatever they hand back. So an occurrence is nets, a number and nets, and the code takes these
 -- one after the other.
 use Prim.Native.Nat.{ℕ, suc}
-use mathlib.Core.Path.{_≡_, refl, ap}
+use mathlib.Core.Path.{_≡_, refl}
 use mathlib.Core.List.{List, _∷_}
-use lib.ListN.{drop}
 use Rattle.meaning.specs.Reading.{Step, got, refused, Reader, onward, bind, give, readNumber, readCount, readMany, readNets, readOccurrence, readModule, mostOccurrences}
-use Rattle.reader.specs.Sound.{Kept, on, ended, Sound}
-use Rattle.reader.specs.Steps.{readBody, wayOf, go, Begins, here, over}
-use Rattle.reader.specs.declared.way.Way.{Way}
-use Rattle.reader.specs.declared.way.Way.the-variants.{On, Refused}
+use Rattle.reader.specs.Steps.{readBody, wayOf}
 
 pub record Alike {A B : Type 0} (r : Reader A) (s : Reader B) : Type 0 where
   pub same : (bytes : List ℕ) (p : ℕ) (rest : List ℕ) → wayOf bytes (r p rest) ≡ wayOf bytes (s p rest)
@@ -48,26 +44,3 @@ alike-module =
     alike-bind readNets (λ outputs.
     alike-bind (readCount mostOccurrences) (λ n.
     alike-give (readMany readOccurrence n) _))))
-
-pub go-alike : {A B : Type 0} {r : Reader A} {s : Reader B} (bytes : List ℕ) (way : Way) → Alike r s
-    → go bytes r way ≡ go bytes s way
-go-alike bytes (On p n) alike = alike .same bytes p (drop p bytes)
-go-alike bytes (Refused number place) alike = refl
-
--- A sound reader leaves the way where a number may begin, and what follows goes on from there.
-module _ {A : Type 0} {f : A → List ℕ} {r : Reader A} {bytes : List ℕ} (sound : Sound f r) where
-  pub begins-go : {way : Way} → Begins bytes way → Begins bytes (go bytes r way)
-  begins-go (here {place} front count) = step (sound .keeps bytes place front)
-    where
-      step : {s : Step A} → Kept f bytes place s → Begins bytes (wayOf bytes s)
-      step (on w) = here (w .front) refl
-      step ended = over
-  begins-go over = over
-
-  pub go-skip : {B : Type 0} (s : Reader B) {way : Way} → Begins bytes way → go bytes (skip r s) way ≡ go bytes s (go bytes r way)
-  go-skip s (here {place} front count) = step (sound .keeps bytes place front)
-    where
-      step : {t : Step A} → Kept f bytes place t → wayOf bytes (onward (λ _. s) t) ≡ go bytes s (wayOf bytes t)
-      step (on {a} {q} {rest} w) = ap (λ (l : List ℕ). wayOf bytes (s q l)) (w .left)
-      step ended = refl
-  go-skip s over = refl

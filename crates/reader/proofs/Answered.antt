@@ -1,48 +1,26 @@
 -- The answer to a whole file, from the way that reading its modules has gone.
 use Prim.Native.Nat.{ℕ, _≤_, _<_}
-use mathlib.Core.Path.{_≡_, refl, ap, sym, _∙_}
+use mathlib.Core.Path.{_≡_, ap, _∙_}
 use mathlib.Core.List.{List}
 use native.Mathlib.Omega.{arith}
 use borrow.Author.Tests.{le-leb, lt-leb}
-use lib.ListN.{length, drop, getD, drop-of-length-le}
+use lib.ListN.{length, getD, drop-of-length-le}
 use lib.Seq.{drop-cons}
-use Rattle.meaning.specs.Syntax.{Module}
 use Rattle.meaning.specs.Layout.{fileNumbers}
-use Rattle.meaning.specs.Reading.{Step, got, refused, holds, fails, atEnd, read, readModules, mostBytes}
+use Rattle.meaning.specs.Reading.{holds, fails, atEnd, read, readModules, mostBytes}
 use Rattle.reader.specs.Numbers.{atMost, numbersIn, before, laid}
-use Rattle.reader.specs.Places.{at-start, before-length}
-use Rattle.reader.specs.Sound.{Kept, on, sound-modules}
-use Rattle.reader.specs.Steps.{wayOf, placeOf}
-use Rattle.reader.specs.Noted.{Through}
-use Rattle.reader.proofs.Ways.{on-not-refused}
-use Rattle.reader.proofs.Taken.{took-length}
+use Rattle.reader.specs.Places.{before-length}
+use Rattle.reader.specs.Sound.{sound-modules}
+use Rattle.reader.specs.Steps.{placeOf}
+use Rattle.reader.specs.Noted.{first, Through}
 use Rattle.reader.specs.Answer.{readingOf, endOf, numbersOf, offsetsOf, startsOf, Decoded}
+use Rattle.reader.proofs.Reached.{Reached, reached, refused-step}
+use Rattle.reader.proofs.Through.{stands-first}
+use Rattle.reader.specs.declared.way.Spot.{Spot}
 use Rattle.reader.specs.declared.way.Way.{Way}
 use Rattle.reader.specs.declared.way.Way.the-variants.{On, Refused}
 use Rattle.reader.specs.declared.Reading.{Reading}
 use Rattle.reader.specs.declared.Reading.the-variants.{Read, Refused as Failed}
-
--- The modules of a file, read up to place q.
-record Whole (bytes : List ℕ) (q : ℕ) : Type 0 where
-  ms : List Module
-  step : readModules 0 bytes ≡ got ms q (drop q bytes)
-  within : q ≤ length bytes
-  numbers : before bytes q ≡ fileNumbers ms
-
-whole : (bytes : List ℕ) (q m : ℕ) → On q m ≡ wayOf bytes (readModules 0 bytes) → Whole bytes q
-unfolding before numbersIn atMost
-whole bytes q m e = at (readModules 0 bytes) refl (sound-modules .keeps bytes 0 (at-start bytes)) e
-  where
-    at : (s : Step (List Module)) → readModules 0 bytes ≡ s → Kept fileNumbers bytes 0 s → On q m ≡ wayOf bytes s → Whole bytes q
-    at (got ms o rest) is (on w) e =
-        let there : o ≡ q = cc in
-        record {
-          ms = ms;
-          step = is ∙ rw (← there, w .left);
-          within = rw there at (w .front .within);
-          numbers = rw there at (w .numbers);
-        }
-    at (refused k o) is w e = absurd (on-not-refused e)
 
 -- Too long a file is refused, and nothing is done.
 pub decoded-long : {bytes numbers starts offsets : List ℕ} → mostBytes < length bytes
@@ -56,62 +34,65 @@ read-short : (bytes : List ℕ) → length bytes ≤ mostBytes → read bytes �
 unfolding read
 read-short bytes short = rw (le-leb (length bytes) mostBytes short)
 
-module _ {bytes numbers numbers′ starts starts′ offsets offsets′ : List ℕ} (short : length bytes ≤ mostBytes) where
+-- No number stands in front of the first.
+from-first : {bytes old new : List ℕ} {spot : Spot} (w : Reached fileNumbers readModules bytes first old spot new)
+    → before bytes (spot .place) ≡ fileNumbers (w .thing)
+unfolding before numbersIn atMost
+from-first w = w .numbers
+
+module _ {bytes numbers numbers′ starts starts′ offsets offsets′ : List ℕ} {way : Way}
+    (short : length bytes ≤ mostBytes) (t : Through bytes numbers numbers′ starts starts′ offsets offsets′ way) where
   -- Where reading ends is where the way has led.
-  decoded : {way : Way} {reading : Reading} → Through bytes numbers numbers′ starts starts′ offsets offsets′ way
-      → reading ≡ readingOf (read bytes) → placeOf way ≡ endOf bytes (read bytes)
+  decoded : {reading : Reading} → reading ≡ readingOf (read bytes) → placeOf way ≡ endOf bytes (read bytes)
       → Decoded bytes numbers numbers′ starts starts′ offsets offsets′ reading
   unfolding numbersOf offsetsOf startsOf
-  decoded t answers ends =
+  decoded answers ends =
       let e = le-leb (length bytes) mostBytes short in
       record {
         answers = answers;
-        numbersLaid = t .took .lays ∙ ap (λ (p : ℕ). laid (before bytes p) numbers) ends;
+        numbersLaid = t .took .lays .all ∙ ap (λ (p : ℕ). laid (before bytes p) numbers) ends;
         startsLaid = rw e (t .noted .inNumbers);
         offsetsLaid = rw e (t .noted .inBytes);
       }
 
-  pub decoded-refused : {number place : ℕ} → Through bytes numbers numbers′ starts starts′ offsets offsets′ (Refused number place)
+  pub decoded-refused : {number place : ℕ} → way ≡ Refused number place
       → Decoded bytes numbers numbers′ starts starts′ offsets offsets′ (Failed number place)
-  decoded-refused {number} {place} t = decoded t (rw file) (rw file)
-    where
-      at : (s : Step (List Module)) → Refused number place ≡ wayOf bytes s → atEnd s ≡ fails number place
-      at (got ms q rest) e = absurd (on-not-refused (sym e))
-      at (refused k q) e = cc
+  decoded-refused {number} {place} e =
+      let file : read bytes ≡ fails number place = read-short bytes short ∙ rw (refused-step e (t .took)) in
+      decoded (rw file) (rw file (ap placeOf e))
 
-      file : read bytes ≡ fails number place
-      file = read-short bytes short ∙ at (readModules 0 bytes) (t .took .answers)
+  -- The modules are read, and reading stands at `spot`.
+  module _ (room : length bytes ≤ length numbers) {spot : Spot} (e : way ≡ On spot) where
+    modules : Reached fileNumbers readModules bytes first numbers spot numbers′
+    modules = reached sound-modules (stands-first room) e (t .took)
 
-  -- Bytes follow the last module.
-  pub decoded-more : {q m : ℕ} → Through bytes numbers numbers′ starts starts′ offsets offsets′ (On q m) → q < length bytes
-      → Decoded bytes numbers numbers′ starts starts′ offsets offsets′ (Failed 5 q)
-  decoded-more {q} {m} t h =
-      let w = whole bytes q m (t .took .answers) in
-      let file : read bytes ≡ fails 5 q = read-short bytes short ∙ rw (w .step, drop-cons bytes q 0 h) in
-      decoded t (rw file) (rw file)
+    -- Bytes follow the last module.
+    pub decoded-more : spot .place < length bytes
+        → Decoded bytes numbers numbers′ starts starts′ offsets offsets′ (Failed 5 (spot .place))
+    decoded-more h =
+        let file : read bytes ≡ fails 5 (spot .place) =
+        read-short bytes short ∙ rw (modules .step, drop-cons bytes (spot .place) 0 h)
+        in
+        decoded (rw file) (rw file (ap placeOf e))
 
-  -- None do.
-  pub decoded-all : {q m : ℕ} → Through bytes numbers numbers′ starts starts′ offsets offsets′ (On q m) → length bytes ≤ q
-      → Decoded bytes numbers numbers′ starts starts′ offsets offsets′ (Read (getD numbers′ 0 0) m)
-  unfolding fileNumbers
-  decoded-all {q} {m} t h = at (whole bytes q m (t .took .answers))
-    where
-      at : Whole bytes q → Decoded bytes numbers numbers′ starts starts′ offsets offsets′ (Read (getD numbers′ 0 0) m)
-      at w =
-          let file : read bytes ≡ holds (w .ms) = read-short bytes short ∙ rw (w .step, drop-of-length-le bytes h) in
-          let first : getD numbers′ 0 0 ≡ length (w .ms) = rw (t .took .lays, w .numbers) in
-          let way : On q m ≡ On q (length (before bytes q)) = rw (w .step) at (t .took .answers) in
-          let count : m ≡ length (before bytes q) = cc in
-          let end : q ≡ length bytes = omega (arith, w .within) in
-          decoded t (rw (file, first, count, w .numbers)) (rw file end)
+    -- None do.
+    pub decoded-all : length bytes ≤ spot .place
+        → Decoded bytes numbers numbers′ starts starts′ offsets offsets′ (Read (getD numbers′ 0 0) (spot .filled))
+    unfolding fileNumbers
+    decoded-all h = at modules
+      where
+        at : Reached fileNumbers readModules bytes first numbers spot numbers′
+            → Decoded bytes numbers numbers′ starts starts′ offsets offsets′ (Read (getD numbers′ 0 0) (spot .filled))
+        at w =
+            let file : read bytes ≡ holds (w .thing) = read-short bytes short ∙ rw (w .step, drop-of-length-le bytes h) in
+            let count : getD numbers′ 0 0 ≡ length (w .thing) = rw (w .lays .all, from-first w) in
+            let end : spot .place ≡ length bytes = omega (arith, w .stands .front .within) in
+            decoded (rw (file, count, w .stands .count, from-first w)) (rw file (ap placeOf e ∙ end))
 
--- A file that reads has a number, and room for it.
-pub through-some : {bytes numbers numbers′ starts starts′ offsets offsets′ : List ℕ} {q m : ℕ}
-    → Through bytes numbers numbers′ starts starts′ offsets offsets′ (On q m) → length bytes ≤ length numbers → 0 < length numbers′
-unfolding fileNumbers
-through-some {bytes} {q} {m} t room =
-    let w = whole bytes q m (t .took .answers) in
-    let some = ap length (w .numbers) in
-    let few = before-length bytes q in
-    let same = took-length room (t .took) in
-    omega arith
+    -- There is a number, and room for it.
+    pub some-number : 0 < length numbers′
+    unfolding fileNumbers
+    some-number =
+        let some = ap length (from-first modules) in
+        let few = before-length bytes (spot .place) in
+        omega (arith, modules .stands .room)

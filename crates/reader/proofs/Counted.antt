@@ -1,8 +1,8 @@
 -- A count that has been laid out is read back, and as many things are due as it says.
 use Prim.Native.Nat.{ℕ, _-_, _≤_, _<_}
-use mathlib.Core.Path.{_≡_, refl, ap, _∙_}
+use mathlib.Core.Path.{_≡_, refl, ap, sym}
 use mathlib.Core.Bool.{Bool, true, false, cond}
-use mathlib.Core.List.{List, [], _∷_, _++_}
+use mathlib.Core.List.{List}
 use native.Mathlib.Omega.{arith}
 use borrow.Author.Tests.{leb-true}
 use lib.Dec.{leb}
@@ -10,26 +10,27 @@ use lib.ListN.{length, drop, getD, length-append}
 use Rattle.meaning.specs.Reading.{Step, got, refused, Reader, onward, bind, readNumber, readCount, readMany}
 use Rattle.laws.specs.Reading.{refused-not-got}
 use Rattle.reader.specs.Numbers.{before}
-use Rattle.reader.proofs.Laid.{laid-last}
 use Rattle.reader.specs.Places.{before-length}
-use Rattle.reader.specs.Single.{Single, single-count}
-use Rattle.reader.specs.Steps.{wayOf, go, Begins, here, over, Stands, Takes}
-use Rattle.reader.proofs.Ways.{on-not-refused}
-use Rattle.reader.proofs.Taken.{took-length}
+use Rattle.reader.specs.Sound.{one, sound-count}
+use Rattle.reader.specs.Steps.{Stands, Takes}
+use Rattle.reader.proofs.Laid.{laid-last}
+use Rattle.reader.proofs.Reached.{Reached, reached}
+use Rattle.reader.proofs.Taken.{takes-then}
+use Rattle.reader.specs.declared.way.Spot.{Spot}
 use Rattle.reader.specs.declared.way.Way.{Way}
-use Rattle.reader.specs.declared.way.Way.the-variants.{On, Refused}
+use Rattle.reader.specs.declared.way.Way.the-variants.{On}
 
--- The step of a reader from where reading stands.
-abbrev pub stepFrom : {A : Type 0} → List ℕ → Reader A → Way → Step A
-stepFrom bytes r (On place filled) = r place (drop place bytes)
-stepFrom bytes r (Refused number place) = refused number place
+-- The last of the numbers that are laid out.
+abbrev pub lastOf : Spot → List ℕ → ℕ
+lastOf spot numbers = getD numbers (spot .filled - 1) 0
 
--- A count was read, and it is the last of m numbers that are laid out by then.
-pub record Counted (ceiling : ℕ) (bytes : List ℕ) (way : Way) (mid : List ℕ) (q m : ℕ) : Type 0 where
-  pub some : 0 < m
-  pub within : m - 1 < length mid
-  pub small : getD mid (m - 1) 0 ≤ ceiling
-  pub step : stepFrom bytes (readCount ceiling) way ≡ got (getD mid (m - 1) 0) q (drop q bytes)
+-- A count was read, and it is the last of the numbers that are laid out by then.
+pub record Counted (ceiling : ℕ) (bytes : List ℕ) (spot : Spot) (old : List ℕ) (next : Spot) (mid : List ℕ) : Type 0 where
+  pub there : Reached one (readCount ceiling) bytes spot old next mid
+  pub some : 0 < next .filled
+  pub within : next .filled - 1 < length mid
+  pub value : there .thing ≡ lastOf next mid
+  pub small : lastOf next mid ≤ ceiling
 
 count-small : (ceiling p : ℕ) (bytes : List ℕ) (v q : ℕ) (rest : List ℕ) → readCount ceiling p bytes ≡ got v q rest → v ≤ ceiling
 unfolding readCount
@@ -43,37 +44,28 @@ count-small ceiling p bytes v q rest = at (readNumber p bytes)
     at (got n o left) e = kept n o left (leb n ceiling) refl e
     at (refused number place) e = absurd (refused-not-got e)
 
-pub counted : (ceiling : ℕ) {bytes old mid : List ℕ} {way : Way} {q m : ℕ} → Stands bytes way old
-    → Takes (readCount ceiling) bytes way old mid (On q m) → Counted ceiling bytes way mid q m
-counted ceiling {bytes} {old} {mid} {way} {q} {m} stands t = at way (stands .begins) (t .answers)
+pub counted : (ceiling : ℕ) {bytes old mid : List ℕ} {spot next : Spot} {way : Way} → Stands bytes spot old → way ≡ On next
+    → Takes (readCount ceiling) bytes spot old mid way → Counted ceiling bytes spot old next mid
+counted ceiling {bytes} {old} {mid} {spot} {next} stands e t = at (reached (sound-count ceiling) stands e t)
   where
-    kept : (p : ℕ) (s : Step ℕ) → readCount ceiling p (drop p bytes) ≡ s → Single bytes p s → On q m ≡ wayOf bytes s
-        → Counted ceiling bytes (On p (m - 1)) mid q m
-    kept p (got v o rest) is w e =
-        let there : o ≡ q = cc in
-        let all : m ≡ length (before bytes o) = cc in
-        let numbers : before bytes q ≡ before bytes p ++ (v ∷ []) = rw there at (w .numbers) in
+    at : Reached one (readCount ceiling) bytes spot old next mid → Counted ceiling bytes spot old next mid
+    at w =
         let more = simp length-append at (ap length (w .numbers)) in
-        let last : m - 1 ≡ length (before bytes p) = omega arith in
-        let value : getD mid (m - 1) 0 ≡ v = rw (t .lays, numbers, laid-last (before bytes p) old (m - 1) v last) in
-        let few = before-length bytes o in
-        let long = took-length (stands .room) t in
+        let last : next .filled - 1 ≡ length (before bytes (spot .place)) = omega (arith, w .stands .count) in
+        let value : lastOf next mid ≡ w .thing =
+        rw (w .lays .all, w .numbers, laid-last (before bytes (spot .place)) old (next .filled - 1) (w .thing) last)
+        in
+        let few = before-length bytes (next .place) in
         record {
-          some = omega arith;
-          within = omega (arith, stands .room);
-          small = rw value (count-small ceiling p (drop p bytes) v o rest is);
-          step = is ∙ rw (value, ← there, w .left);
+          there = w;
+          some = omega (arith, w .stands .count);
+          within = omega (arith, w .stands .count, w .stands .room);
+          value = sym value;
+          small = rw value (count-small ceiling (spot .place) (drop (spot .place) bytes) (w .thing) (next .place) _ (w .step));
         }
-    kept p (refused k o) is w e = absurd (on-not-refused e)
-
-    at : (way : Way) → Begins bytes way → On q m ≡ go bytes (readCount ceiling) way → Counted ceiling bytes way mid q m
-    at (On p n) (here front count) e =
-        let c = kept p (readCount ceiling p (drop p bytes)) refl (single-count bytes p front ceiling) e in
-        record { some = c .some; within = c .within; small = c .small; step = c .step }
-    at (Refused k o) over e = absurd (on-not-refused e)
 
 -- As many things are due as the count says.
-pub counted-due : {A : Type 0} (r : Reader A) {ceiling : ℕ} {bytes mid : List ℕ} (way : Way) {q m : ℕ} → Counted ceiling bytes way mid q m
-    → go bytes (bind (readCount ceiling) (readMany r)) way ≡ go bytes (readMany r (getD mid (m - 1) 0)) (On q m)
-counted-due r (On p n) c = rw (c .step)
-counted-due r (Refused number place) c = absurd (refused-not-got (c .step))
+pub takes-list : {A : Type 0} (r : Reader A) {ceiling : ℕ} {bytes old mid new : List ℕ} {spot next : Spot} {way : Way}
+    → Counted ceiling bytes spot old next mid → Takes (readMany r (lastOf next mid)) bytes next mid new way
+    → Takes (bind (readCount ceiling) (readMany r)) bytes spot old new way
+takes-list r c u = takes-then (readMany r) (c .there) (rw (c .value) u)

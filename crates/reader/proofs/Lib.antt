@@ -5,6 +5,7 @@ pub mod Bytes
 pub mod Stored
 pub mod Largest
 pub mod Alike
+pub mod Reached
 pub mod Taken
 pub mod Counted
 pub mod Turns

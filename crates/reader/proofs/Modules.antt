@@ -1,68 +1,74 @@
 -- The loop over the modules of a file: it reads each and notes where it begins.
 use Prim.Native.Nat.{ℕ, _+_, _-_, _≤_, _<_}
-use mathlib.Core.Path.{_≡_, refl}
+use mathlib.Core.Path.{_≡_}
 use mathlib.Core.List.{List}
 use native.Mathlib.Omega.{arith}
 use lib.ListN.{length, set}
+use Rattle.meaning.specs.Layout.{moduleNumbers}
 use Rattle.meaning.specs.Reading.{readModule}
-use Rattle.reader.specs.Sound.{sound-module}
 use Rattle.reader.specs.Steps.{Stands, Takes}
 use Rattle.reader.specs.Noted.{Fit, placesFrom, Passed}
+use Rattle.reader.proofs.Reached.{Reached, refused-step}
 use Rattle.reader.proofs.Turns.{Turning, turn-first, turn-next, turn-refused, turn-last}
 use Rattle.reader.proofs.Noting.{Noting, noting-first, noting-next, noting-refused, noting-last, noting-starts, noting-offsets}
+use Rattle.reader.specs.declared.way.Spot.{Spot}
 use Rattle.reader.specs.declared.way.Way.{Way}
 use Rattle.reader.specs.declared.way.Way.the-variants.{On, Refused}
 
 -- Of so many, i are.
 pub record Passing
-    (bytes : List ℕ) (start : Way) (count i : ℕ) (numbers numbers′ starts starts′ offsets offsets′ : List ℕ) (way : Way)
+    (bytes : List ℕ) (start : Spot) (count i : ℕ) (numbers numbers′ starts starts′ offsets offsets′ : List ℕ) (spot : Spot)
     : Type 0 where
   pub left : ℕ
   pub sum : i + left ≡ count
-  pub turning : Turning readModule bytes start count numbers left way numbers′
-  pub noting : Noting bytes (placesFrom bytes count start) left way i starts starts′ offsets offsets′
+  pub turning : Turning readModule bytes start count numbers left spot numbers′
+  pub noting : Noting bytes (placesFrom bytes count start) left spot i starts starts′ offsets offsets′
 
--- Where reading stands is known by an equation.
-pub passing-at : {bytes numbers numbers′ starts starts′ offsets offsets′ : List ℕ} {start way way′ : Way} {count i : ℕ} → way ≡ way′
-    → Passing bytes start count i numbers numbers′ starts starts′ offsets offsets′ way
-    → Passing bytes start count i numbers numbers′ starts starts′ offsets offsets′ way′
-passing-at e t = rw e at t
-
-pub passing-first : {bytes numbers starts offsets : List ℕ} {count : ℕ} {way : Way} → Stands bytes way numbers
-    → Passing bytes way count 0 numbers numbers starts starts offsets offsets way
+pub passing-first : {bytes numbers starts offsets : List ℕ} {count : ℕ} {spot : Spot} → Stands bytes spot numbers
+    → Passing bytes spot count 0 numbers numbers starts starts offsets offsets spot
 passing-first {count} stands = record { left = count; sum = omega arith; turning = turn-first stands; noting = noting-first }
 
-module _ {bytes numbers numbers′ starts starts′ offsets offsets′ : List ℕ} {start way : Way} {count i : ℕ}
-    (t : Passing bytes start count i numbers numbers′ starts starts′ offsets offsets′ way) where
-  pub passing-last : count ≤ i → Passed bytes start count numbers numbers′ starts starts′ offsets offsets′ way
+module _ {bytes numbers numbers′ starts starts′ offsets offsets′ : List ℕ} {start spot : Spot} {count i : ℕ}
+    (t : Passing bytes start count i numbers numbers′ starts starts′ offsets offsets′ spot) where
+  pub passing-last : count ≤ i → Passed bytes start count numbers numbers′ starts starts′ offsets offsets′ (On spot)
   passing-last h =
       let none : t .left ≤ 0 = omega (arith, t .sum) in
       record { took = turn-last (t .turning) none; noted = noting-last (t .noting) none }
 
-  pub passing-starts : count ≤ length starts → length starts′ ≡ length starts
-  passing-starts h = noting-starts (t .noting) (omega (arith, t .sum))
+  -- The lists stay as long as they are, and the next place has room in them.
+  module _ (fit : Fit count starts offsets) where
+    pub passing-starts : length starts′ ≡ length starts
+    passing-starts = noting-starts (t .noting) (omega (arith, t .sum, fit .inNumbers))
 
-  pub passing-offsets : count ≤ length offsets → length offsets′ ≡ length offsets
-  passing-offsets h = noting-offsets (t .noting) (omega (arith, t .sum))
+    pub passing-offsets : length offsets′ ≡ length offsets
+    passing-offsets = noting-offsets (t .noting) (omega (arith, t .sum, fit .inBytes))
 
-module _ {bytes numbers numbers′ starts starts′ offsets offsets′ : List ℕ} {start : Way} {count i : ℕ} where
-  pub passing-refused : {number place : ℕ}
-      → Passing bytes start count i numbers numbers′ starts starts′ offsets offsets′ (Refused number place)
-      → Passed bytes start count numbers numbers′ starts starts′ offsets offsets′ (Refused number place)
-  passing-refused t = record { took = turn-refused (t .turning) refl; noted = noting-refused (t .noting) }
+    module _ (h : i < count) where
+      more : 0 < t .left
+      more = omega (arith, t .sum)
 
-  pub passing-next : {p n : ℕ} {new : List ℕ} {next : Way}
-      → Passing bytes start count i numbers numbers′ starts starts′ offsets offsets′ (On p n) → Fit count starts offsets → i < count
-      → Takes readModule bytes (On p n) numbers′ new next
-      → Passing bytes start count (i + 1) numbers new starts (set starts′ i n) offsets (set offsets′ i p) next
-  passing-next t fit h u =
-      let more : 0 < t .left = omega (arith, t .sum) in
-      let a = passing-starts t (fit .inNumbers) in
-      let b = passing-offsets t (fit .inBytes) in
-      record {
-        left = t .left - 1;
-        sum = omega (arith, t .sum);
-        turning = turn-next (t .turning) sound-module more u;
-        noting = rw (u .answers)
-            (noting-next (t .noting) (t .turning .stands .begins) more (omega (arith, fit .inNumbers)) (omega (arith, fit .inBytes)));
-      }
+      pub fits-starts : i < length starts′
+      fits-starts = let l = passing-starts in omega (arith, fit .inNumbers)
+
+      pub fits-offsets : i < length offsets′
+      fits-offsets = let l = passing-offsets in omega (arith, fit .inBytes)
+
+      pub passing-refused : {new : List ℕ} {way : Way} {number place : ℕ} → way ≡ Refused number place
+          → Takes readModule bytes spot numbers′ new way
+          → Passed bytes start count numbers new starts (set starts′ i (spot .filled)) offsets (set offsets′ i (spot .place)) way
+      passing-refused e u =
+          record {
+            took = turn-refused (t .turning) more e u;
+            noted = noting-refused (t .noting) (t .turning .stands .count) more fits-starts fits-offsets (refused-step e u);
+          }
+
+      pub passing-next : {new : List ℕ} {next : Spot} → Reached moduleNumbers readModule bytes spot numbers′ next new
+          → Passing bytes start count (i + 1) numbers new starts (set starts′ i (spot .filled)) offsets (set offsets′ i (spot .place))
+          next
+      passing-next w =
+          record {
+            left = t .left - 1;
+            sum = omega (arith, t .sum);
+            turning = turn-next (t .turning) more w;
+            noting = noting-next (t .noting) (t .turning .stands .count) more fits-starts fits-offsets w;
+          }

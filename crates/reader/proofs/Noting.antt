@@ -4,17 +4,15 @@ use mathlib.Core.Path.{_≡_, refl, ap, _∙_}
 use mathlib.Core.List.{List, [], _∷_, _++_, map, append-assoc, append-nil}
 use native.Mathlib.Omega.{arith}
 use lib.ListN.{length, set, length-append, length-map}
-use Rattle.meaning.specs.Syntax.{Module}
 use Rattle.meaning.specs.Layout.{moduleNumbers}
-use Rattle.meaning.specs.Reading.{Step, readModule}
+use Rattle.meaning.specs.Reading.{refused, readModule}
 use Rattle.reader.specs.Numbers.{laid}
-use Rattle.reader.proofs.Laid.{laid-more, laid-over, length-laid}
-use Rattle.reader.specs.Sound.{Kept, on, ended, sound-module}
-use Rattle.reader.specs.Steps.{wayOf, go, Begins, here}
 use Rattle.reader.specs.Starts.{behind, begun, numbersTo}
+use Rattle.reader.specs.Steps.{stepFrom}
 use Rattle.reader.specs.Noted.{placesFrom, Noted}
-use Rattle.reader.specs.declared.way.Way.{Way}
-use Rattle.reader.specs.declared.way.Way.the-variants.{On, Refused}
+use Rattle.reader.proofs.Laid.{laid-more, laid-over, length-laid}
+use Rattle.reader.proofs.Reached.{Reached}
+use Rattle.reader.specs.declared.way.Spot.{Spot}
 
 -- One entry more is noted.
 laid-next : (xs old now : List ℕ) (i v : ℕ) → now ≡ laid xs old → i ≡ length xs → i < length now
@@ -30,75 +28,79 @@ map-more : (f : ℕ → ℕ) (xs : List ℕ) (v : ℕ) → map f (xs ++ (v ∷ [
 map-more f [] v = refl
 map-more f (x ∷ xs) v = ap (λ (t : List ℕ). f x ∷ t) (map-more f xs v)
 
--- The first place, and those of the modules behind it.
-places-next : (bytes : List ℕ) (k p n : ℕ) → Begins bytes (On p n)
-    → placesFrom bytes (suc k) (On p n) ≡ p ∷ placesFrom bytes k (go bytes readModule (On p n))
+-- The place of a module that is read, and those of the modules behind it.
+places-next : {bytes old new : List ℕ} {spot next : Spot} (k : ℕ) → Reached moduleNumbers readModule bytes spot old next new
+    → placesFrom bytes (suc k) spot ≡ spot .place ∷ placesFrom bytes k next
 unfolding begun behind
-places-next bytes k p n (here front count) =
-    ap (λ (t : List ℕ). p ∷ t) (step (sound-module .keeps bytes p front))
-  where
-    step : {s : Step Module} → Kept moduleNumbers bytes p s → behind (λ _. begun k) s ≡ placesFrom bytes k (wayOf bytes s)
-    step (on {a} {q} {rest} w) = ap (λ (l : List ℕ). begun k q l) (w .left)
-    step ended = refl
+places-next k w = rw (w .step)
 
-places-none : (bytes : List ℕ) (way : Way) → placesFrom bytes 0 way ≡ []
-unfolding begun
-places-none bytes (On p n) = refl
-places-none bytes (Refused number place) = refl
+-- The place of a module that is refused is the last.
+places-ended : (bytes : List ℕ) (spot : Spot) {number place : ℕ} (k : ℕ) → stepFrom readModule bytes spot ≡ refused number place
+    → placesFrom bytes (suc k) spot ≡ spot .place ∷ []
+unfolding begun behind
+places-ended bytes spot k e = rw e
 
-pub record Noting (bytes all : List ℕ) (left : ℕ) (way : Way) (i : ℕ) (starts₀ starts offsets₀ offsets : List ℕ) : Type 0 where
+pub record Noting (bytes all : List ℕ) (left : ℕ) (spot : Spot) (i : ℕ) (starts₀ starts offsets₀ offsets : List ℕ) : Type 0 where
   pub done : List ℕ
   pub count : i ≡ length done
-  pub splits : all ≡ done ++ placesFrom bytes left way
+  pub splits : all ≡ done ++ placesFrom bytes left spot
   pub noted : Noted bytes done starts₀ starts offsets₀ offsets
 
-pub noting-first : {bytes starts offsets : List ℕ} {count : ℕ} {way : Way}
-    → Noting bytes (placesFrom bytes count way) count way 0 starts starts offsets offsets
+pub noting-first : {bytes starts offsets : List ℕ} {count : ℕ} {spot : Spot}
+    → Noting bytes (placesFrom bytes count spot) count spot 0 starts starts offsets offsets
 noting-first = record { done = []; count = refl; splits = refl; noted = record { inNumbers = refl; inBytes = refl } }
 
-module _ {bytes all starts₀ starts offsets₀ offsets : List ℕ} {left i : ℕ} where
+module _ {bytes all starts₀ starts offsets₀ offsets : List ℕ} {left i : ℕ} {spot : Spot}
+    (t : Noting bytes all left spot i starts₀ starts offsets₀ offsets) where
   -- Nothing is left to note.
-  module _ {way : Way} (t : Noting bytes all left way i starts₀ starts offsets₀ offsets) where
-    noting-over : placesFrom bytes left way ≡ [] → Noted bytes all starts₀ starts offsets₀ offsets
-    noting-over none =
-        let same : all ≡ t .done = t .splits ∙ ap (λ (l : List ℕ). t .done ++ l) none ∙ append-nil (t .done) in
-        rw same (t .noted)
+  pub noting-last : left ≤ 0 → Noted bytes all starts₀ starts offsets₀ offsets
+  unfolding begun
+  noting-last h =
+      let e : left ≡ 0 = omega arith in
+      let same : all ≡ t .done = t .splits ∙ rw (e, append-nil) in
+      rw same (t .noted)
 
-    pub noting-last : left ≤ 0 → Noted bytes all starts₀ starts offsets₀ offsets
-    noting-last h =
-        let e : left ≡ 0 = omega arith in
-        noting-over (ap (λ (n : ℕ). placesFrom bytes n way) e ∙ places-none bytes way)
+  -- The lists stay as long as they are.
+  pub noting-starts : i ≤ length starts₀ → length starts ≡ length starts₀
+  noting-starts h =
+      let l = length-map (t .done) (numbersTo bytes) in
+      ap length (t .noted .inNumbers) ∙ length-laid (map (numbersTo bytes) (t .done)) starts₀ (omega (arith, t .count))
 
-    -- The lists stay as long as they are.
-    pub noting-starts : i ≤ length starts₀ → length starts ≡ length starts₀
-    noting-starts h =
+  pub noting-offsets : i ≤ length offsets₀ → length offsets ≡ length offsets₀
+  noting-offsets h = ap length (t .noted .inBytes) ∙ length-laid (t .done) offsets₀ (omega (arith, t .count))
+
+  -- The place where reading stands is noted.
+  module _ (count : spot .filled ≡ numbersTo bytes (spot .place)) (more : 0 < left)
+      (fits : i < length starts) (fits′ : i < length offsets) where
+    to-come : all ≡ t .done ++ placesFrom bytes (suc (left - 1)) spot
+    to-come =
+        let k : left ≡ suc (left - 1) = omega arith in
+        t .splits ∙ ap (λ (n : ℕ). t .done ++ placesFrom bytes n spot) k
+
+    noted-here : Noted bytes (t .done ++ (spot .place ∷ []))
+        starts₀ (set starts i (spot .filled)) offsets₀ (set offsets i (spot .place))
+    noted-here =
         let l = length-map (t .done) (numbersTo bytes) in
-        ap length (t .noted .inNumbers) ∙ length-laid (map (numbersTo bytes) (t .done)) starts₀ (omega (arith, t .count))
-
-    pub noting-offsets : i ≤ length offsets₀ → length offsets ≡ length offsets₀
-    noting-offsets h = ap length (t .noted .inBytes) ∙ length-laid (t .done) offsets₀ (omega (arith, t .count))
-
-  pub noting-refused : {number place : ℕ} → Noting bytes all left (Refused number place) i starts₀ starts offsets₀ offsets
-      → Noted bytes all starts₀ starts offsets₀ offsets
-  noting-refused t = noting-over t refl
-
-  pub noting-next : {p n : ℕ} → Noting bytes all left (On p n) i starts₀ starts offsets₀ offsets → Begins bytes (On p n)
-      → 0 < left → i < length starts → i < length offsets
-      → Noting bytes all (left - 1) (go bytes readModule (On p n)) (i + 1) starts₀ (set starts i n) offsets₀ (set offsets i p)
-  noting-next {p} {n} t (here front count) h fits fits′ =
-      let e : left ≡ suc (left - 1) = omega arith in
-      let l = length-append (t .done) (p ∷ []) in
-      let m = length-map (t .done) (numbersTo bytes) in
-      let first : placesFrom bytes left (On p n) ≡ p ∷ placesFrom bytes (left - 1) (go bytes readModule (On p n)) =
-      ap (λ (k : ℕ). placesFrom bytes k (On p n)) e ∙ places-next bytes (left - 1) p n (here front count)
-      in
-      record {
-        done = t .done ++ (p ∷ []);
-        count = omega (arith, t .count);
-        splits = rw (t .splits, first, append-assoc);
-        noted = record {
+        record {
           inNumbers = rw (map-more, ← count)
-              (laid-next (map (numbersTo bytes) (t .done)) starts₀ starts i n (t .noted .inNumbers) (omega (arith, t .count)) fits);
-          inBytes = laid-next (t .done) offsets₀ offsets i p (t .noted .inBytes) (t .count) fits′;
-        };
-      }
+              (laid-next (map (numbersTo bytes) (t .done)) starts₀ starts i (spot .filled) (t .noted .inNumbers)
+              (omega (arith, t .count)) fits);
+          inBytes = laid-next (t .done) offsets₀ offsets i (spot .place) (t .noted .inBytes) (t .count) fits′;
+        }
+
+    pub noting-refused : {number place : ℕ} → stepFrom readModule bytes spot ≡ refused number place
+        → Noted bytes all starts₀ (set starts i (spot .filled)) offsets₀ (set offsets i (spot .place))
+    noting-refused e =
+        let same : all ≡ t .done ++ (spot .place ∷ []) = to-come ∙ rw (places-ended bytes spot (left - 1) e) in
+        rw same noted-here
+
+    pub noting-next : {old new : List ℕ} {next : Spot} → Reached moduleNumbers readModule bytes spot old next new
+        → Noting bytes all (left - 1) next (i + 1) starts₀ (set starts i (spot .filled)) offsets₀ (set offsets i (spot .place))
+    noting-next w =
+        let l = length-append (t .done) (spot .place ∷ []) in
+        record {
+          done = t .done ++ (spot .place ∷ []);
+          count = omega (arith, t .count);
+          splits = to-come ∙ rw (places-next (left - 1) w, append-assoc);
+          noted = noted-here;
+        }

@@ -1,62 +1,59 @@
 -- A loop that reads as many things as a count says: the way of what is left is the way of all of it.
 use Prim.Native.Nat.{ℕ, suc, _-_, _≤_, _<_}
 use mathlib.Core.Path.{_≡_, refl, ap, sym, _∙_}
-use mathlib.Core.Bool.{true}
 use mathlib.Core.List.{List}
 use native.Mathlib.Omega.{arith}
+use lib.ListN.{length, drop}
 use Rattle.meaning.specs.Reading.{Reader, readMany}
-use Rattle.reader.specs.Sound.{Sound}
-use Rattle.reader.specs.Steps.{go, isRefused, Begins, here, over, Stands, Took, Takes}
-use Rattle.reader.proofs.Alike.{alike-many, go-alike, go-skip}
-use Rattle.reader.proofs.Taken.{unmoved, took-then, took-due, stands-next}
+use Rattle.reader.specs.Numbers.{before}
+use Rattle.reader.specs.Steps.{stepFrom, wayOf, Stands, Lays, Takes}
+use Rattle.reader.proofs.Laid.{lays-none, lays-then}
+use Rattle.reader.proofs.Reached.{Reached}
+use Rattle.reader.proofs.Alike.{skip, alike-many}
+use Rattle.reader.proofs.Taken.{takes-ended}
+use Rattle.reader.specs.declared.way.Spot.{Spot}
 use Rattle.reader.specs.declared.way.Way.{Way}
 use Rattle.reader.specs.declared.way.Way.the-variants.{On, Refused}
 
--- Of `count` things from the way `start` on, so many are left, and reading stands at `way`.
-pub record Turning {A : Type 0} (r : Reader A) (bytes : List ℕ) (start : Way) (count : ℕ) (old : List ℕ)
-    (left : ℕ) (way : Way) (now : List ℕ)
+-- Of `count` things from `start` on, so many are left, and reading stands at `spot`.
+pub record Turning {A : Type 0} (r : Reader A) (bytes : List ℕ) (start : Spot) (count : ℕ) (old : List ℕ)
+    (left : ℕ) (spot : Spot) (now : List ℕ)
     : Type 0 where
-  pub stands : Stands bytes way now
-  pub due : go bytes (readMany r left) way ≡ go bytes (readMany r count) start
-  pub took : Took bytes start way old now way
+  pub stands : Stands bytes spot now
+  pub due : wayOf bytes (stepFrom (readMany r left) bytes spot) ≡ wayOf bytes (stepFrom (readMany r count) bytes start)
+  pub lays : Lays bytes (start .place) (spot .place) old now
 
-pub turn-first : {A : Type 0} {r : Reader A} {bytes old : List ℕ} {count : ℕ} {way : Way} → Stands bytes way old
-    → Turning r bytes way count old count way old
-turn-first stands = record { stands = stands; due = refl; took = unmoved stands refl }
+pub turn-first : {A : Type 0} {r : Reader A} {bytes old : List ℕ} {count : ℕ} {spot : Spot} → Stands bytes spot old
+    → Turning r bytes spot count old count spot old
+turn-first stands = record { stands = stands; due = refl; lays = lays-none stands }
 
--- No things are left, or reading has ended: that is all.
-none-left : {A : Type 0} (r : Reader A) (bytes : List ℕ) (way : Way) → Begins bytes way → go bytes (readMany r 0) way ≡ way
-unfolding readMany
-none-left r bytes (On p n) (here front count) = ap (λ (m : ℕ). On p m) (sym count)
-none-left r bytes (Refused number place) over = refl
-
-go-refused : {A : Type 0} (r : Reader A) (bytes : List ℕ) (way : Way) → isRefused way ≡ true → go bytes r way ≡ way
-go-refused r bytes (On p n) e = let z : _≡_ {A = ℕ} 0 1 = cc in absurd (omega arith)
-go-refused r bytes (Refused number place) e = refl
-
-module _ {A : Type 0} {r : Reader A} {bytes old now : List ℕ} {start way : Way} {count left : ℕ}
-    (t : Turning r bytes start count old left way now) where
-  pub turn-last : left ≤ 0 → Takes (readMany r count) bytes start old now way
+module _ {A : Type 0} {r : Reader A} {bytes old now : List ℕ} {start spot : Spot} {count left : ℕ}
+    (t : Turning r bytes start count old left spot now) where
+  -- Nothing is left.
+  pub turn-last : left ≤ 0 → Takes (readMany r count) bytes start old now (On spot)
+  unfolding readMany
   turn-last h =
-      let e : left ≡ 0 = omega arith in
-      let same : go bytes (readMany r left) way ≡ way = rw e (none-left r bytes way (t .stands .begins)) in
-      took-due (sym same ∙ t .due) (t .took)
-
-  pub turn-refused : isRefused way ≡ true → Takes (readMany r count) bytes start old now way
-  turn-refused e = took-due (sym (go-refused (readMany r left) bytes way e) ∙ t .due) (t .took)
-
-  pub turn-next : {f : A → List ℕ} {new : List ℕ} {next : Way} → Sound f r → 0 < left → Takes r bytes way now new next
-      → Turning r bytes start count old (left - 1) next new
-  turn-next {next} sound h u =
-      let k : ℕ = left - 1 in
-      let e : left ≡ suc k = omega arith in
-      let onward : go bytes (readMany r left) way ≡ go bytes (readMany r k) (go bytes r way) =
-      ap (λ (n : ℕ). go bytes (readMany r n) way) e
-      ∙ go-alike bytes way (alike-many r k)
-      ∙ go-skip sound (readMany r k) (t .stands .begins)
+      let none : left ≡ 0 = omega arith in
+      let here : On spot ≡ On (record { place = spot .place; filled = length (before bytes (spot .place)) }) =
+      ap (λ (m : ℕ). On (record { place = spot .place; filled = m })) (t .stands .count)
       in
+      record { answers = here ∙ rw none at (t .due); lays = t .lays }
+
+  -- One thing is due, and then the rest.
+  due-next : 0 < left
+      → wayOf bytes (stepFrom (skip r (readMany r (left - 1))) bytes spot) ≡ wayOf bytes (stepFrom (readMany r count) bytes start)
+  due-next h =
+      let e : left ≡ suc (left - 1) = omega arith in
+      sym (alike-many r (left - 1) .same bytes (spot .place) (drop (spot .place) bytes)) ∙ rw (← e) (t .due)
+
+  pub turn-refused : {new : List ℕ} {way : Way} {number place : ℕ} → 0 < left → way ≡ Refused number place
+      → Takes r bytes spot now new way → Takes (readMany r count) bytes start old new way
+  turn-refused h e u =
       record {
-        stands = stands-next sound (t .stands) u;
-        due = ap (λ (w : Way). go bytes (readMany r k) w) (u .answers) ∙ sym onward ∙ t .due;
-        took = took-then (t .took) (took-due (sym (u .answers)) u);
+        answers = takes-ended (λ _. readMany r (left - 1)) e u .answers ∙ due-next h;
+        lays = lays-then (t .lays) (u .lays);
       }
+
+  pub turn-next : {f : A → List ℕ} {new : List ℕ} {next : Spot} → 0 < left → Reached f r bytes spot now next new
+      → Turning r bytes start count old (left - 1) next new
+  turn-next h w = record { stands = w .stands; due = rw (w .step) at (due-next h); lays = lays-then (t .lays) (w .lays) }

@@ -3,9 +3,10 @@ use Prim.Native.Nat.{ℕ}
 use mathlib.Core.Path.{_≡_}
 use native.Mathlib.Omega.{arith}
 use Rattle.reader.specs.declared.number.Number.the-variants.{Is, Refused as NoNumber}
+use Rattle.reader.specs.declared.way.Spot.{Spot}
 use Rattle.reader.specs.declared.way.Way.the-variants.{On, Refused}
 
-pub on-not-refused : {place filled number other : ℕ} → On place filled ≡ Refused number other → ⊥
+pub on-not-refused : {spot : Spot} {number place : ℕ} → On spot ≡ Refused number place → ⊥
 on-not-refused e = let z : _≡_ {A = ℕ} 0 1 = cc in omega arith
 
 pub is-not-refused : {value next number place : ℕ} → Is value next ≡ NoNumber number place → ⊥

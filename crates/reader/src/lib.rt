@@ -11,6 +11,7 @@ ghost use Rattle.reader.specs.Answer.{Room, Decoded};
 ghost use Rattle.reader.specs.Noted.{Fit, Passed, Through};
 ghost use Rattle.reader.specs.Steps.{Stands};
 use parts::keep_module;
+use way::Spot;
 use way::Way;
 use way::keep_count;
 
@@ -22,33 +23,30 @@ pub enum Reading {
 
 // So many modules. Where each begins is noted, in numbers and in bytes.
 fn keep_modules(
-    way: Way,
+    spot: Spot,
     count: usize,
     bytes: &[u8],
     numbers: &mut [u16],
     starts: &mut [usize],
     offsets: &mut [usize],
 ) -> Way
-    requires { ⌜ Stands (now bytes) way (now numbers) ⌝ }
+    requires { ⌜ Stands (now bytes) spot (now numbers) ⌝ }
     requires { ⌜ Fit count (now starts) (now offsets) ⌝ }
-    ensures { λ r. ⌜ Passed (now (bytes .entry)) way count (now (numbers .entry)) (now (numbers .exit)) (now (starts .entry)) (now (starts .exit)) (now (offsets .entry)) (now (offsets .exit)) r ⌝ }
+    ensures { λ r. ⌜ Passed (now (bytes .entry)) spot count (now (numbers .entry)) (now (numbers .exit)) (now (starts .entry)) (now (starts .exit)) (now (offsets .entry)) (now (offsets .exit)) r ⌝ }
 {
-    let mut way = way;
+    let mut spot = spot;
     let mut i: usize = 0;
     while i < count {
-        match way {
-            Way::Refused { number, place } => {
-                return Way::Refused { number, place };
-            }
-            Way::On { next, filled } => {
-                starts[i] = filled;
-                offsets[i] = next;
-                way = keep_module(Way::On { next, filled }, bytes, numbers);
-            }
-        }
+        starts[i] = spot.filled;
+        offsets[i] = spot.place;
+        let way = keep_module(spot, bytes, numbers);
+        let Way::On(next) = way else {
+            return way;
+        };
+        spot = next;
         i += 1;
     }
-    way
+    Way::On(spot)
 }
 
 // The count of modules, and as many modules.
@@ -57,21 +55,16 @@ fn keep_file(bytes: &[u8], numbers: &mut [u16], starts: &mut [usize], offsets: &
     requires { ⌜ Fit mostModules (now starts) (now offsets) ⌝ }
     ensures { λ r. ⌜ Through (now (bytes .entry)) (now (numbers .entry)) (now (numbers .exit)) (now (starts .entry)) (now (starts .exit)) (now (offsets .entry)) (now (offsets .exit)) r ⌝ }
 {
-    let way = keep_count(Way::On { next: 0, filled: 0 }, 128, bytes, numbers);
-    match way {
-        Way::Refused { number, place } => Way::Refused { number, place },
-        Way::On { next, filled } => {
-            let count = numbers[filled - 1] as usize;
-            keep_modules(
-                Way::On { next, filled },
-                count,
-                bytes,
-                numbers,
-                starts,
-                offsets,
-            )
-        }
-    }
+    let first = Spot {
+        place: 0,
+        filled: 0,
+    };
+    let way = keep_count(first, 128, bytes, numbers);
+    let Way::On(spot) = way else {
+        return way;
+    };
+    let count = numbers[spot.filled - 1] as usize;
+    keep_modules(spot, count, bytes, numbers, starts, offsets)
 }
 
 // Reads a file.
@@ -92,16 +85,16 @@ pub fn read(
     }
     match keep_file(bytes, numbers, starts, offsets) {
         Way::Refused { number, place } => Reading::Refused { number, place },
-        Way::On { next, filled } => {
-            if next < bytes.len() {
+        Way::On(spot) => {
+            if spot.place < bytes.len() {
                 return Reading::Refused {
                     number: 5,
-                    place: next,
+                    place: spot.place,
                 };
             }
             Reading::Read {
                 modules: numbers[0] as usize,
-                numbers: filled,
+                numbers: spot.filled,
             }
         }
     }

@@ -1,35 +1,24 @@
 -- `keep_body` takes the step of a list of occurrences: the count is read back, and as many occurrences are due.
-use mathlib.Core.Path.{sym}
 use native.Mathlib.Omega.{arith}
-use Rattle.meaning.specs.Reading.{readOccurrence, readCount, readMany, mostOccurrences}
-use Rattle.reader.specs.Sound.{sound-count}
-use Rattle.reader.specs.Steps.{Takes}
-use Rattle.reader.proofs.Taken.{took-then, took-due, took-ended, took-at, stands-next}
-use Rattle.reader.proofs.Counted.{Counted, counted, counted-due}
-use Rattle.reader.specs.declared.way.Way.the-variants.{On}
+use Rattle.meaning.specs.Reading.{readOccurrence, readMany, mostOccurrences}
+use Rattle.reader.proofs.Taken.{takes-ended}
+use Rattle.reader.proofs.Counted.{Counted, counted, takes-list}
 use borrow.Author.Needs.{needs}
 use Rattle.reader.proofs.parts.keep_body.Statement.{statement}
 use Rattle.reader.proofs.parts.keep_body.Tie as tie
 
--- The function's start, and the call that reads the count.
-abbrev entry : tie.After-known-told2 → tie.Start
-entry c = c .before .before .before .before .before .before .before .before .before
+-- The call that reads the count, and the function's start.
+abbrev counting : tie.After-way → tie.After-keep-count
+counting c = c .before .before .before .before
 
-abbrev counting : tie.After-known-told2 → tie.After-keep-count
-counting c = c .before .before .before .before .before
+abbrev entry : tie.After-way → tie.Start
+entry c = counting c .before .before .before .before
 
 -- The count is laid out, and reading stands behind it.
-count : (c : tie.After-known-told2)
-    → Takes (readCount mostOccurrences) (entry c .args .bytes .now) (entry c .args .way) (entry c .args .numbers .now)
-    (counting c .keep-count .last .1 .1 .1 .0)
-    (On (c .before .way2 .given .0 .0) (c .before .way2 .given .0 .1 .0))
-count c = took-at (c .before .way2 .given .1) (counting c .keep-count .ensures)
-
-there : (c : tie.After-known-told2)
-    → Counted mostOccurrences (entry c .args .bytes .now) (entry c .args .way) (counting c .keep-count .last .1 .1 .1 .0)
-    (c .before .way2 .given .0 .0)
-    (c .before .way2 .given .0 .1 .0)
-there c = counted mostOccurrences (entry c .pre) (count c)
+there : (c : tie.After-way)
+    → Counted mostOccurrences (entry c .args .bytes .now) (entry c .args .spot) (entry c .args .numbers .now)
+    (c .way .given .0 .0) (counting c .keep-count .last .1 .1 .1 .0)
+there c = counted mostOccurrences (entry c .pre) (c .way .given .1) (counting c .keep-count .ensures)
 
 keep-count-requires : tie.Need-keep-count-requires
 keep-count-requires c κs = search needs
@@ -37,39 +26,38 @@ keep-count-requires c κs = search needs
 enum-known-way : tie.Need-enum-known-way
 enum-known-way c = search needs
 
-enum-known-way-2 : tie.Need-enum-known-way-2
-enum-known-way-2 c = search needs
-
-sub-count : tie.Need-sub-count
-sub-count c = there c .some
-
-mul-count : tie.Need-mul-count
-mul-count c =
-    let h = there c .within in
-    let l = counting c .keep-count .kept .1 .1 .1 .0 in
-    omega (arith, entry c .good)
-
-slice-read-count : tie.Need-slice-read-count
-slice-read-count c = there (c .before) .within
-
-keep-occurrences-requires : tie.Need-keep-occurrences-requires
-keep-occurrences-requires c κs = stands-next (sound-count mostOccurrences) (entry (c .before .before) .pre) (count (c .before .before))
+enum-told : tie.Need-enum-told
+enum-told c = search needs
 
 same-length : tie.Need-same-length
 same-length c = search needs
 
 returns : tie.Need-returns
 returns c =
-    took-ended (readCount mostOccurrences) (readMany readOccurrence)
-    (took-at (c .before .way .given .1) (c .before .before .before .before .before .keep-count .ensures))
+    takes-ended (readMany readOccurrence) (c .enum-told .given .1) (c .before .before .before .before .keep-count .ensures)
+
+sub-count : tie.Need-sub-count
+sub-count c = there (c .before .before) .some
+
+mul-count : tie.Need-mul-count
+mul-count c =
+    let h = there (c .before .before) .within in
+    let l = counting (c .before .before) .keep-count .kept .1 .1 .1 .0 in
+    omega (arith, entry (c .before .before) .good)
+
+slice-read-count : tie.Need-slice-read-count
+slice-read-count c = there (c .before .before .before) .within
+
+keep-occurrences-requires : tie.Need-keep-occurrences-requires
+keep-occurrences-requires c κs = there (c .before .before .before .before) .there .stands
 
 same-length-2 : tie.Need-same-length-2
 same-length-2 c = search needs
 
 returns-2 : tie.Need-returns-2
 returns-2 c =
-    let p : tie.After-known-told2 = c .before .before .before .before .before in
-    took-due (sym (counted-due readOccurrence (entry p .args .way) (there p))) (took-then (count p) (c .before .before .keep-occurrences .ensures))
+    let p : tie.After-way = c .before .before .before .before .before .before .before in
+    takes-list readOccurrence (there p) (c .before .before .keep-occurrences .ensures)
 
 pub keep-body-spec : {M : Type 1} → statement M
 keep-body-spec =
@@ -77,12 +65,12 @@ keep-body-spec =
     (tie.spec
     keep-count-requires
     enum-known-way
-    enum-known-way-2
+    enum-told
+    same-length
+    returns
     sub-count
     mul-count
     slice-read-count
     keep-occurrences-requires
-    same-length
-    returns
     same-length-2
     returns-2)

@@ -1,60 +1,143 @@
 -- `keep_module` takes the steps of a number, nets, nets and a list of occurrences, which go the way of a module.
-use Rattle.meaning.specs.Reading.{readNets}
-use Rattle.reader.specs.Sound.{sound-number, sound-nets}
-use Rattle.reader.proofs.Alike.{skip, alike-module}
+use Rattle.meaning.specs.Layout.{listNumbers}
+use Rattle.meaning.specs.Reading.{readNumber, readNets}
+use Rattle.reader.specs.Sound.{one, sound-number, sound-nets}
 use Rattle.reader.specs.Steps.{readBody}
-use Rattle.reader.proofs.Taken.{stands-next, took-skip, took-alike}
+use Rattle.reader.proofs.Alike.{skip, alike-module}
+use Rattle.reader.proofs.Reached.{Reached, reached}
+use Rattle.reader.proofs.Taken.{takes-skip, takes-ended, takes-alike}
 use borrow.Author.Needs.{needs}
 use Rattle.reader.proofs.parts.keep_module.Statement.{statement}
 use Rattle.reader.proofs.parts.keep_module.Tie as tie
 
+-- The number is read: the call that reads it, and the function's start.
+abbrev number : tie.After-named → tie.After-keep-number
+number c = c .before .before .before .before
+
+abbrev entry : tie.After-named → tie.Start
+entry c = number c .before .before .before .before
+
+named : (c : tie.After-named)
+    → Reached one readNumber (entry c .args .bytes .now) (entry c .args .spot) (entry c .args .numbers .now)
+    (c .named .given .0 .0) (number c .keep-number .last .1 .1 .0)
+named c = reached sound-number (entry c .pre) (c .named .given .1) (number c .keep-number .ensures)
+
+-- The inputs are read: the call that reads them, and where reading stood.
+abbrev ins : tie.After-inputs → tie.After-keep-nets
+ins c = c .before .before .before .before
+
+abbrev behind-number : tie.After-inputs → tie.After-named
+behind-number c = ins c .before .before .before
+
+inputs : (c : tie.After-inputs)
+    → Reached listNumbers readNets (entry (behind-number c) .args .bytes .now)
+    (behind-number c .named .given .0 .0) (number (behind-number c) .keep-number .last .1 .1 .0)
+    (c .inputs .given .0 .0) (ins c .keep-nets .last .1 .1 .0)
+inputs c = reached sound-nets (named (behind-number c) .stands) (c .inputs .given .1) (ins c .keep-nets .ensures)
+
+-- The outputs are read, likewise.
+abbrev outs : tie.After-outputs → tie.After-keep-nets2
+outs c = c .before .before .before .before
+
+abbrev behind-inputs : tie.After-outputs → tie.After-inputs
+behind-inputs c = outs c .before .before .before
+
+outputs : (c : tie.After-outputs)
+    → Reached listNumbers readNets (entry (behind-number (behind-inputs c)) .args .bytes .now)
+    (behind-inputs c .inputs .given .0 .0) (ins (behind-inputs c) .keep-nets .last .1 .1 .0)
+    (c .outputs .given .0 .0) (outs c .keep-nets2 .last .1 .1 .0)
+outputs c = reached sound-nets (inputs (behind-inputs c) .stands) (c .outputs .given .1) (outs c .keep-nets2 .ensures)
+
 keep-number-requires : tie.Need-keep-number-requires
 keep-number-requires c κs = search needs
 
-keep-nets-requires : tie.Need-keep-nets-requires
-keep-nets-requires c κs =
-    let number : tie.After-keep-number = c .before .before .before in
-    stands-next sound-number (number .before .before .before .before .pre) (number .keep-number .ensures)
+enum-known-named : tie.Need-enum-known-named
+enum-known-named c = search needs
 
-keep-nets-requires-2 : tie.Need-keep-nets-requires-2
-keep-nets-requires-2 c κs =
-    let inputs : tie.After-keep-nets = c .before .before .before in
-    let number : tie.After-keep-number = inputs .before .before .before .before in
-    let named = stands-next sound-number (number .before .before .before .before .pre) (number .keep-number .ensures) in
-    stands-next sound-nets named (inputs .keep-nets .ensures)
-
-keep-body-requires : tie.Need-keep-body-requires
-keep-body-requires c κs =
-    let outputs : tie.After-keep-nets2 = c .before .before .before in
-    let inputs : tie.After-keep-nets = outputs .before .before .before .before in
-    let number : tie.After-keep-number = inputs .before .before .before .before in
-    let named = stands-next sound-number (number .before .before .before .before .pre) (number .keep-number .ensures) in
-    stands-next sound-nets (stands-next sound-nets named (inputs .keep-nets .ensures)) (outputs .keep-nets2 .ensures)
+enum-told : tie.Need-enum-told
+enum-told c = search needs
 
 same-length : tie.Need-same-length
 same-length c = search needs
 
 returns : tie.Need-returns
 returns c =
-    let body : tie.After-keep-body = c .before .before in
-    let outputs : tie.After-keep-nets2 = body .before .before .before .before in
-    let inputs : tie.After-keep-nets = outputs .before .before .before .before in
-    let number : tie.After-keep-number = inputs .before .before .before .before in
-    let stands = number .before .before .before .before .pre in
-    let named = stands-next sound-number stands (number .keep-number .ensures) in
-    let behind = stands-next sound-nets named (inputs .keep-nets .ensures) in
-    took-alike alike-module
-    (took-skip (skip readNets (skip readNets readBody)) sound-number stands (number .keep-number .ensures)
-    (took-skip (skip readNets readBody) sound-nets named (inputs .keep-nets .ensures)
-    (took-skip readBody sound-nets behind (outputs .keep-nets2 .ensures) (body .keep-body .ensures))))
+    takes-alike alike-module
+    (takes-ended (λ _. skip readNets (skip readNets readBody)) (c .enum-told .given .1)
+    (c .before .before .before .before .keep-number .ensures))
+
+keep-nets-requires : tie.Need-keep-nets-requires
+keep-nets-requires c κs = named (c .before .before) .stands
+
+enum-known-inputs : tie.Need-enum-known-inputs
+enum-known-inputs c = search needs
+
+enum-told-2 : tie.Need-enum-told-2
+enum-told-2 c = search needs
+
+same-length-2 : tie.Need-same-length-2
+same-length-2 c = search needs
+
+returns-2 : tie.Need-returns-2
+returns-2 c =
+    let p : tie.After-keep-nets = c .before .before .before .before in
+    takes-alike alike-module
+    (takes-skip (named (p .before .before .before))
+    (takes-ended (λ _. skip readNets readBody) (c .enum-told2 .given .1) (p .keep-nets .ensures)))
+
+keep-nets-requires-2 : tie.Need-keep-nets-requires-2
+keep-nets-requires-2 c κs = inputs (c .before .before) .stands
+
+enum-known-outputs : tie.Need-enum-known-outputs
+enum-known-outputs c = search needs
+
+enum-told-3 : tie.Need-enum-told-3
+enum-told-3 c = search needs
+
+same-length-3 : tie.Need-same-length-3
+same-length-3 c = search needs
+
+returns-3 : tie.Need-returns-3
+returns-3 c =
+    let p : tie.After-keep-nets2 = c .before .before .before .before in
+    let q : tie.After-inputs = p .before .before .before in
+    takes-alike alike-module
+    (takes-skip (named (behind-number q))
+    (takes-skip (inputs q) (takes-ended (λ _. readBody) (c .enum-told3 .given .1) (p .keep-nets2 .ensures))))
+
+keep-body-requires : tie.Need-keep-body-requires
+keep-body-requires c κs = outputs (c .before .before) .stands
+
+same-length-4 : tie.Need-same-length-4
+same-length-4 c = search needs
+
+returns-4 : tie.Need-returns-4
+returns-4 c =
+    let p : tie.After-outputs = c .before .before .before .before .before in
+    let q : tie.After-inputs = behind-inputs p in
+    takes-alike alike-module
+    (takes-skip (named (behind-number q))
+    (takes-skip (inputs q) (takes-skip (outputs p) (c .before .before .keep-body .ensures))))
 
 pub keep-module-spec : {M : Type 1} → statement M
 keep-module-spec =
     tie.close
     (tie.spec
     keep-number-requires
-    keep-nets-requires
-    keep-nets-requires-2
-    keep-body-requires
+    enum-known-named
+    enum-told
     same-length
-    returns)
+    returns
+    keep-nets-requires
+    enum-known-inputs
+    enum-told-2
+    same-length-2
+    returns-2
+    keep-nets-requires-2
+    enum-known-outputs
+    enum-told-3
+    same-length-3
+    returns-3
+    keep-body-requires
+    same-length-4
+    returns-4)

@@ -1,42 +1,101 @@
 -- `keep_occurrence` takes the steps of nets, a number and nets, which go the way of an occurrence.
+use Rattle.meaning.specs.Layout.{listNumbers}
 use Rattle.meaning.specs.Reading.{readNumber, readNets}
-use Rattle.reader.specs.Sound.{sound-number, sound-nets}
+use Rattle.reader.specs.Sound.{one, sound-number, sound-nets}
 use Rattle.reader.proofs.Alike.{skip, alike-occurrence}
-use Rattle.reader.proofs.Taken.{stands-next, took-skip, took-alike}
+use Rattle.reader.proofs.Reached.{Reached, reached}
+use Rattle.reader.proofs.Taken.{takes-skip, takes-ended, takes-alike}
 use borrow.Author.Needs.{needs}
 use Rattle.reader.proofs.parts.keep_occurrence.Statement.{statement}
 use Rattle.reader.proofs.parts.keep_occurrence.Tie as tie
 
+-- The driven nets are read: the call that reads them, and the function's start.
+abbrev nets : tie.After-driven → tie.After-keep-nets
+nets c = c .before .before .before .before
+
+abbrev entry : tie.After-driven → tie.Start
+entry c = nets c .before .before .before .before
+
+driven : (c : tie.After-driven)
+    → Reached listNumbers readNets (entry c .args .bytes .now) (entry c .args .spot) (entry c .args .numbers .now)
+    (c .driven .given .0 .0) (nets c .keep-nets .last .1 .1 .0)
+driven c = reached sound-nets (entry c .pre) (c .driven .given .1) (nets c .keep-nets .ensures)
+
+-- The number is read: the call that reads it, and where reading stood.
+abbrev number : tie.After-refers → tie.After-keep-number
+number c = c .before .before .before .before
+
+abbrev behind : tie.After-refers → tie.After-driven
+behind c = number c .before .before .before
+
+refers : (c : tie.After-refers)
+    → Reached one readNumber (entry (behind c) .args .bytes .now)
+    (behind c .driven .given .0 .0) (nets (behind c) .keep-nets .last .1 .1 .0)
+    (c .refers .given .0 .0) (number c .keep-number .last .1 .1 .0)
+refers c = reached sound-number (driven (behind c) .stands) (c .refers .given .1) (number c .keep-number .ensures)
+
 keep-nets-requires : tie.Need-keep-nets-requires
 keep-nets-requires c κs = search needs
 
-keep-number-requires : tie.Need-keep-number-requires
-keep-number-requires c κs =
-    let driven : tie.After-keep-nets = c .before .before .before in
-    stands-next sound-nets (driven .before .before .before .before .pre) (driven .keep-nets .ensures)
+enum-known-driven : tie.Need-enum-known-driven
+enum-known-driven c = search needs
 
-keep-nets-requires-2 : tie.Need-keep-nets-requires-2
-keep-nets-requires-2 c κs =
-    let refers : tie.After-keep-number = c .before .before .before in
-    let driven : tie.After-keep-nets = refers .before .before .before .before in
-    let behind = stands-next sound-nets (driven .before .before .before .before .pre) (driven .keep-nets .ensures) in
-    stands-next sound-number behind (refers .keep-number .ensures)
+enum-told : tie.Need-enum-told
+enum-told c = search needs
 
 same-length : tie.Need-same-length
 same-length c = search needs
 
 returns : tie.Need-returns
 returns c =
-    let takes : tie.After-keep-nets2 = c .before .before in
-    let refers : tie.After-keep-number = takes .before .before .before .before in
-    let driven : tie.After-keep-nets = refers .before .before .before .before in
-    let stands = driven .before .before .before .before .pre in
-    let behind = stands-next sound-nets stands (driven .keep-nets .ensures) in
-    took-alike alike-occurrence
-    (took-skip (skip readNumber readNets) sound-nets stands (driven .keep-nets .ensures)
-    (took-skip readNets sound-number behind (refers .keep-number .ensures) (takes .keep-nets2 .ensures)))
+    takes-alike alike-occurrence
+    (takes-ended (λ _. skip readNumber readNets) (c .enum-told .given .1) (c .before .before .before .before .keep-nets .ensures))
+
+keep-number-requires : tie.Need-keep-number-requires
+keep-number-requires c κs = driven (c .before .before) .stands
+
+enum-known-refers : tie.Need-enum-known-refers
+enum-known-refers c = search needs
+
+enum-told-2 : tie.Need-enum-told-2
+enum-told-2 c = search needs
+
+same-length-2 : tie.Need-same-length-2
+same-length-2 c = search needs
+
+returns-2 : tie.Need-returns-2
+returns-2 c =
+    let p : tie.After-keep-number = c .before .before .before .before in
+    takes-alike alike-occurrence
+    (takes-skip (driven (p .before .before .before))
+    (takes-ended (λ _. readNets) (c .enum-told2 .given .1) (p .keep-number .ensures)))
+
+keep-nets-requires-2 : tie.Need-keep-nets-requires-2
+keep-nets-requires-2 c κs = refers (c .before .before) .stands
+
+same-length-3 : tie.Need-same-length-3
+same-length-3 c = search needs
+
+returns-3 : tie.Need-returns-3
+returns-3 c =
+    let p : tie.After-refers = c .before .before .before .before .before in
+    takes-alike alike-occurrence
+    (takes-skip (driven (behind p)) (takes-skip (refers p) (c .before .before .keep-nets2 .ensures)))
 
 pub keep-occurrence-spec : {M : Type 1} → statement M
 keep-occurrence-spec =
     tie.close
-    (tie.spec keep-nets-requires keep-number-requires keep-nets-requires-2 same-length returns)
+    (tie.spec
+    keep-nets-requires
+    enum-known-driven
+    enum-told
+    same-length
+    returns
+    keep-number-requires
+    enum-known-refers
+    enum-told-2
+    same-length-2
+    returns-2
+    keep-nets-requires-2
+    same-length-3
+    returns-3)

@@ -1,36 +1,42 @@
 -- `keep_occurrences` takes the step of so many occurrences. The loop's invariant is `Turning`.
-use mathlib.Core.Path.{sym, _∙_}
 use native.Mathlib.Omega.{arith}
 use borrow.Author.Needs.{needs}
 use Rattle.meaning.specs.Reading.{readOccurrence}
 use Rattle.reader.specs.Sound.{sound-occurrence}
-use Rattle.reader.proofs.Taken.{took-length}
+use Rattle.reader.proofs.Laid.{lays-length}
+use Rattle.reader.proofs.Reached.{reached}
 use Rattle.reader.proofs.Turns.{Turning, turn-first, turn-refused, turn-next, turn-last}
 use Rattle.reader.proofs.parts.keep_occurrences.Statement.{statement}
 use Rattle.reader.proofs.parts.keep_occurrences.Tie as tie
 
 abbrev Inv-loop : tie.InvT-loop
-Inv-loop count bytes numbers₀ way₀ left₀ numbers way left = Turning readOccurrence bytes way₀ count numbers₀ left way numbers
+Inv-loop count bytes numbers₀ spot₀ left₀ numbers spot left = Turning readOccurrence bytes spot₀ count numbers₀ left spot numbers
 
 abbrev μ-loop : tie.MeasureT-loop
-μ-loop count bytes numbers₀ way₀ left₀ numbers way left = left
+μ-loop count bytes numbers₀ spot₀ left₀ numbers spot left = left
 
 loop-holds : tie.Need-loop-holds Inv-loop μ-loop
 loop-holds c = turn-first (c .before .before .pre)
 
-refused-requires : tie.Need-refused-requires Inv-loop μ-loop
-refused-requires c κs = search needs
+keep-occurrence-requires : tie.Need-keep-occurrence-requires Inv-loop μ-loop
+keep-occurrence-requires c κs = c .before .before .loop .inv .stands
+
+enum-known-way : tie.Need-enum-known-way Inv-loop μ-loop
+enum-known-way c = search needs
+
+enum-told : tie.Need-enum-told Inv-loop μ-loop
+enum-told c = search needs
+
+returns : tie.Need-returns Inv-loop μ-loop
+returns c =
+    let turn : tie.In-loop Inv-loop μ-loop = c .before .before .before .before .before .before in
+    turn-refused (turn .before .loop .inv) (turn .loop-test .taken) (c .enum-told .given .1)
+    (c .before .before .before .before .keep-occurrence .ensures)
 
 same-length : tie.Need-same-length Inv-loop μ-loop
 same-length c =
-    let head : tie.At-loop Inv-loop μ-loop = c .before .before .before in
-    took-length (head .before .before .before .pre .room) (head .loop .inv .took)
-
-returns : tie.Need-returns Inv-loop μ-loop
-returns c = turn-refused (c .before .before .before .loop .inv) (sym (c .before .refused .ensures) ∙ c .if1 .taken)
-
-keep-occurrence-requires : tie.Need-keep-occurrence-requires Inv-loop μ-loop
-keep-occurrence-requires c κs = c .before .before .before .before .loop .inv .stands
+    let start : tie.Start Inv-loop μ-loop = c .before .before .before .before .before .before .before .before .before .before in
+    lays-length (start .pre .room) (returns c .lays)
 
 sub-left : tie.Need-sub-left Inv-loop μ-loop
 sub-left c = omega arith
@@ -40,11 +46,13 @@ loop-less c = omega arith
 
 loop-again : tie.Need-loop-again Inv-loop μ-loop
 loop-again c =
-    let turn : tie.In-loop Inv-loop μ-loop = c .before .before .before .before .before .before in
-    turn-next (turn .before .loop .inv) sound-occurrence (turn .loop-test .taken) (c .before .before .keep-occurrence .ensures)
+    let turn : tie.In-loop Inv-loop μ-loop = c .before .before .before .before .before .before .before in
+    turn-next (turn .before .loop .inv) (turn .loop-test .taken)
+    (reached sound-occurrence (turn .before .loop .inv .stands) (c .before .way .given .1)
+    (c .before .before .before .before .before .keep-occurrence .ensures))
 
 same-length-2 : tie.Need-same-length-2 Inv-loop μ-loop
-same-length-2 c = took-length (c .before .before .before .before .pre .room) (c .before .loop .inv .took)
+same-length-2 c = lays-length (c .before .before .before .before .pre .room) (c .before .loop .inv .lays)
 
 returns-2 : tie.Need-returns-2 Inv-loop μ-loop
 returns-2 c = turn-last (c .before .loop .inv) (c .loop-test .left)
@@ -56,10 +64,11 @@ keep-occurrences-spec =
     Inv-loop
     μ-loop
     loop-holds
-    refused-requires
+    keep-occurrence-requires
+    enum-known-way
+    enum-told
     same-length
     returns
-    keep-occurrence-requires
     sub-left
     loop-less
     loop-again

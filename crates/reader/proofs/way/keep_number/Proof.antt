@@ -1,7 +1,6 @@
 -- `keep_number` takes the step of a number, which is that of a count at most 16,383.
 use Rattle.reader.specs.Exact.{bytes-all}
-use Rattle.reader.proofs.Largest.{go-largest}
-use Rattle.reader.proofs.Taken.{took-due}
+use Rattle.reader.proofs.Largest.{count-largest}
 use borrow.Author.Needs.{needs}
 use Rattle.reader.proofs.way.keep_number.Statement.{statement}
 use Rattle.reader.proofs.way.keep_number.Tie as tie
@@ -14,10 +13,11 @@ same-length c = search needs
 
 returns : tie.Need-returns
 returns c =
-    let start = c .before .before .before .before .before .before in
+    let start : tie.Start = c .before .before .before .before .before .before in
     let known = c .before .before .before .before .before .shared-slice-known in
     let bytes = bytes-all (start .args .bytes .now) (λ i. known .given i .fits) in
-    took-due (go-largest bytes (start .args .way)) (c .before .before .keep-count .ensures)
+    let kept = c .before .before .keep-count .ensures in
+    record { answers = rw (count-largest bytes (start .args .spot .place)) at (kept .answers); lays = kept .lays }
 
 pub keep-number-spec : {M : Type 1} → statement M
 keep-number-spec = tie.close (tie.spec keep-count-requires same-length returns)
