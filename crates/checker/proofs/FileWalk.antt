@@ -5,45 +5,44 @@ use mathlib.Core.List.{List}
 use native.Mathlib.Omega.{arith}
 use lib.ListN.{length, getD, set, length-set}
 use Rattle.meaning.specs.Syntax.{Module}
-use Rattle.meaning.specs.Layout.{fileNumbers}
 use Rattle.meaning.specs.Verdict.{moduleVerdict, modulesVerdict, refused}
 use Rattle.nets.specs.Slots.{Below}
-use Rattle.image.specs.ResolvedLayout.{startOf}
-use Rattle.checker.specs.Scene.{Tables}
-use Rattle.checker.specs.Modules.{ModuleReady, ModuleChecked, Checks, Settled, Turn}
+use Rattle.checker.specs.Modules.{ModuleReady, ModuleChecked, Checks, Settled}
 use Rattle.checker.specs.Files.{Laidout, Indexed, EachReady, EachFound}
 use Rattle.checker.specs.declared.modules.Checked.{Checked}
 use Rattle.checker.specs.declared.modules.Checked.the-variants.{Fine, Broken}
-use Rattle.checker.specs.declared.files.Found.{Found}
-use Rattle.checker.specs.declared.files.Found.the-variants.{Fine as AllFine, Broken as SomeBroken}
+use Rattle.checker.specs.declared.files.Found.the-variants.{Fine as AllFine}
 use Rattle.checker.proofs.Numbers.{Positioned, positioned}
 use Rattle.checker.proofs.Going.{Going, begin, turn-of, stop, advance, finish}
 
 pub record FileWalk
-    (numbers starts : List ℕ) (modules : ℕ) (first : List ℕ) (repeated : ℕ) (slots₀ marks₀ image₀ nets₀ slots marks image nets : List ℕ) (k : ℕ) : Type 0 where
+    (numbers starts : List ℕ) (modules : ℕ) (first : List ℕ) (repeated : ℕ)
+    (slots₀ image₀ nets₀ references₀ slots image nets references : List ℕ) (k : ℕ) : Type 0 where
   pub inside : k ≤ modules
   pub slotsKept : length slots ≡ length slots₀
-  pub marksKept : length marks ≡ length marks₀
   pub imageKept : length image ≡ length image₀
   pub netsKept : length nets ≡ length nets₀
-  pub going : (ms : List Module) → Laidout numbers starts modules ms → Indexed first repeated ms → Going ms k repeated image₀ image nets slots marks
+  pub referencesKept : length references ≡ length references₀
+  pub going : (ms : List Module) → Laidout numbers starts modules ms → Indexed first repeated ms → Going ms k repeated image₀ image nets slots references
 
-module _ {numbers starts : List ℕ} {modules : ℕ} {first : List ℕ} {repeated : ℕ} {slots₀ marks₀ image₀ nets₀ : List ℕ}
-    (ready : EachReady numbers starts modules first repeated slots₀ marks₀ image₀ nets₀)
+module _ {numbers starts : List ℕ} {modules : ℕ} {first : List ℕ} {repeated : ℕ} {slots₀ image₀ nets₀ references₀ : List ℕ}
+    (ready : EachReady numbers starts modules first repeated slots₀ image₀ nets₀ references₀)
   where
-    pub walk-begins : FileWalk numbers starts modules first repeated slots₀ marks₀ image₀ nets₀ slots₀ marks₀ image₀ nets₀ 0
+    pub walk-begins : FileWalk numbers starts modules first repeated slots₀ image₀ nets₀ references₀ slots₀ image₀ nets₀ references₀ 0
     walk-begins =
         record {
           inside = omega arith;
           slotsKept = refl;
-          marksKept = refl;
           imageKept = refl;
           netsKept = refl;
-          going = λ ms l x. begin ms repeated image₀ nets₀ slots₀ marks₀ (ready .knows) (ready .marked);
+          referencesKept = refl;
+          going = λ ms l x. begin ms repeated image₀ nets₀ slots₀ references₀ (ready .earlier);
         }
 
-    module _ {slots marks image nets : List ℕ} {k : ℕ} (w : FileWalk numbers starts modules first repeated slots₀ marks₀ image₀ nets₀ slots marks image nets k) where
-      pub module-ready : k < modules → ModuleReady numbers starts first k repeated slots marks image
+    module _
+        {slots image nets references : List ℕ} {k : ℕ}
+        (w : FileWalk numbers starts modules first repeated slots₀ image₀ nets₀ references₀ slots image nets references k) where
+      pub module-ready : k < modules → ModuleReady numbers starts first k repeated slots image references
       module-ready h =
           let l = ready .laidout in
           let x = ready .indexed in
@@ -56,18 +55,19 @@ module _ {numbers starts : List ℕ} {modules : ℕ} {first : List ℕ} {repeate
                 record {
                   indexFirst = t .indexFirst;
                   indexSlots = subst (λ (n : ℕ). Below n numbers) (sym (w .slotsKept)) (t .indexSlots);
-                  indexMarks = subst (λ (n : ℕ). Below n numbers) (sym (w .marksKept)) (t .indexMarks);
                   short = t .short;
                 };
-            knows = g .knows;
-            marked = subst (λ (n : ℕ). Below (n + 1) marks) (sym (l .startsAre k here)) (g .marked);
+            earlier = g .earlier;
             room = omega (arith, ready .roomy .room, w .imageKept);
+            noting = omega (arith, ready .roomy .noting, w .referencesKept);
           }
 
-      module _ (h : k < modules) {slots′ marks′ image′ : List ℕ} {r : Checked} (c : ModuleChecked numbers starts first k repeated image slots′ marks′ image′ r) where
+      module _
+          (h : k < modules) {slots′ image′ references′ : List ℕ} {r : Checked}
+          (c : ModuleChecked numbers starts first k repeated image slots′ image′ references references′ r) where
         -- What the check of the module says in each file.
         said : (ms : List Module) (l : Laidout numbers starts modules ms) (x : Indexed first repeated ms) (p : Positioned ms k)
-            → Checks r (moduleVerdict k (p .m) (p .later)) ms (p .m) k (getD starts k 0) image slots′ marks′ image′
+            → Checks r (moduleVerdict k (p .m) (p .later)) ms (p .m) k (getD starts k 0) image slots′ image′ references references′
         said ms l x p = c .checks (turn-of l x (w .going ms l x) p)
 
         pub walk-stops : (rule : ℕ) → r ≡ Broken rule → (ms : List Module) → Laidout numbers starts modules ms → Indexed first repeated ms
@@ -75,28 +75,29 @@ module _ {numbers starts : List ℕ} {modules : ℕ} {first : List ℕ} {repeate
         walk-stops rule e ms l x =
             let p = positioned ms k (omega (arith, l .all)) in
             stop (w .going ms l x) p rule
-            (subst (λ (r′ : Checked). Checks r′ (moduleVerdict k (p .m) (p .later)) ms (p .m) k (getD starts k 0) image slots′ marks′ image′) e (said ms l x p))
+            (subst (λ (r′ : Checked). Checks r′ (moduleVerdict k (p .m) (p .later)) ms (p .m) k (getD starts k 0) image slots′ image′ references references′) e (said ms l x p))
 
         pub walk-goes-on :
-            (count : ℕ) → r ≡ Fine count → length slots′ ≡ length slots → length marks′ ≡ length marks → length image′ ≡ length image
-            → FileWalk numbers starts modules first repeated slots₀ marks₀ image₀ nets₀ slots′ marks′ image′ (set nets k count) (k + 1)
-        walk-goes-on count e slotsLong marksLong imageLong =
+            (count : ℕ) → r ≡ Fine count → length slots′ ≡ length slots → length image′ ≡ length image → length references′ ≡ length references
+            → FileWalk numbers starts modules first repeated slots₀ image₀ nets₀ references₀ slots′ image′ (set nets k count) references′ (k + 1)
+        walk-goes-on count e slotsLong imageLong referencesLong =
             record {
               inside = omega arith;
               slotsKept = slotsLong ∙ w .slotsKept;
-              marksKept = marksLong ∙ w .marksKept;
               imageKept = imageLong ∙ w .imageKept;
               netsKept = length-set nets k count ∙ w .netsKept;
+              referencesKept = referencesLong ∙ w .referencesKept;
               going = λ ms l x.
                   let here : k < length ms = omega (arith, l .all) in
                   let p = positioned ms k here in
-                  let b = subst (λ (r′ : Checked). Checks r′ (moduleVerdict k (p .m) (p .later)) ms (p .m) k (getD starts k 0) image slots′ marks′ image′) e (said ms l x p) in
+                  let b = subst (λ (r′ : Checked). Checks r′ (moduleVerdict k (p .m) (p .later)) ms (p .m) k (getD starts k 0) image slots′ image′ references references′) e (said ms l x p) in
                   advance (w .going ms l x) p (x .repeats)
                   (omega (arith, ready .roomy .netsLong, w .netsKept))
                   (omega (arith, ready .roomy .room, ap length (l .numbersAre)))
+                  (omega (arith, ready .roomy .noting, w .referencesKept, ap length (l .numbersAre)))
                   (b .0)
-                  (subst (λ (s : ℕ). Settled ms (p .m) k s count image slots′ marks′ image′) (l .startsAre k here) (b .1));
+                  (subst (λ (s : ℕ). Settled ms (p .m) k s count image slots′ image′ references references′) (l .startsAre k here) (b .1));
             }
 
-      pub walk-ends : modules ≤ k → (ms : List Module) → Laidout numbers starts modules ms → Indexed first repeated ms → EachFound AllFine ms image₀ image nets
-      walk-ends h ms l x = finish (w .going ms l x) (omega (arith, l .all))
+      pub walk-ends : modules ≤ k → (ms : List Module) → Laidout numbers starts modules ms → Indexed first repeated ms → EachFound AllFine ms starts image₀ image nets references
+      walk-ends h ms l x = finish (w .going ms l x) (l .startsAre) (omega (arith, l .all))

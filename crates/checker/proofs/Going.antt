@@ -1,6 +1,6 @@
--- How far the check of a file's modules has come: those that are done are fine and stand in the image, and the verdict on those that are
--- left is the verdict on all.
-use Prim.Native.Nat.{ℕ, zero, suc, _+_, _≤_, _<_}
+-- How far the check of a file's modules has come: those that are done are fine and stand in the image, their references are noted, and
+-- the verdict on those that are left is the verdict on all.
+use Prim.Native.Nat.{ℕ, zero, suc, _+_, _-_, _*_, _≤_, _<_}
 use mathlib.Core.Path.{_≡_, refl, sym, ap, ap₂, subst, _∙_}
 use mathlib.Core.List.{List, [], _∷_, _++_, append-nil}
 use native.Mathlib.Omega.{arith}
@@ -13,17 +13,19 @@ use Rattle.meaning.specs.Layout.{each, moduleNumbers, fileNumbers}
 use Rattle.meaning.specs.Limits.{netCount}
 use Rattle.meaning.specs.Verdict.{Verdict, good, refused, andThen, moduleVerdict, modulesVerdict}
 use Rattle.laws.specs.Lists.{each-append}
-use Rattle.nets.specs.Slots.{Knows, Below}
-use Rattle.nets.specs.Bounds.{below-more}
+use Rattle.nets.specs.Slots.{Below}
 use Rattle.image.specs.Stands.{Stands}
 use Rattle.image.specs.Laid.{laid, laid-after, laid-before, laid-nothing, set-laid, length-laid}
+use Rattle.image.specs.Pieces.{moved}
 use Rattle.image.specs.Resolved.{resolve, resolveFrom, referTo, resolveModule}
 use Rattle.image.specs.ResolvedLayout.{startOf, stands-at-start, start-of-resolved, resolved-at, length-of-resolve, length-of-image}
 use Rattle.checker.specs.Filed.{Filed, At}
 use Rattle.checker.specs.Numbering.{firstRepeat}
+use Rattle.checker.specs.Notes.{notesFrom, Noted}
 use Rattle.checker.specs.Modules.{baseOf, Turn, Settled}
 use Rattle.checker.specs.Files.{Laidout, Indexed, Counted}
-use Rattle.checker.proofs.Numbers.{Positioned, positioned}
+use Rattle.checker.proofs.Numbers.{Positioned}
+use Rattle.checker.proofs.Noting.{NotedBelow, note-module}
 
 at-inside : (ms : List Module) (k : ℕ) (m : Module) (later : List Module) → At ms k m later → k < length ms
 at-inside ms k m later e = omega (arith, length-drop k ms, ap length e)
@@ -44,31 +46,33 @@ take-snoc [] (suc k) e = let z : _≡_ {A = ℕ} 0 1 = cc in absurd (omega (arit
 take-snoc (x ∷ rs) zero {r} e = let same : x ≡ r = cc in ap (λ (m : Module). m ∷ []) same
 take-snoc (x ∷ rs) (suc k) e = ap (λ (l : List Module). x ∷ l) (take-snoc rs k e)
 
-pub record Going (ms : List Module) (k repeated : ℕ) (image₀ image nets slots marks : List ℕ) : Type 0 where
+pub record Going (ms : List Module) (k repeated : ℕ) (image₀ image nets slots references : List ℕ) : Type 0 where
   pub inside : k ≤ length ms
   pub reached : k ≤ repeated
   pub verdict : modulesVerdict 0 ms ≡ modulesVerdict k (drop k ms)
   pub written : image ≡ laid image₀ 1 (each moduleNumbers (take k (resolve ms)))
   pub counted : (j : ℕ) (m : Module) (later : List Module) → j < k → At ms j m later → getD nets j 0 ≡ netCount m
-  pub knows : Knows slots (baseOf k) []
-  pub marked : Below (startOf ms k + 1) marks
+  pub noted : NotedBelow ms k references
+  pub earlier : Below (baseOf k - 2) slots
 
-pub begin : (ms : List Module) (repeated : ℕ) (image nets slots marks : List ℕ) → Knows slots (baseOf 0) [] → Below 2 marks → Going ms 0 repeated image image nets slots marks
+pub begin :
+    (ms : List Module) (repeated : ℕ) (image nets slots references : List ℕ) → Below (baseOf 0 - 2) slots
+    → Going ms 0 repeated image image nets slots references
 unfolding each startOf
-begin ms repeated image nets slots marks knows marked =
+begin ms repeated image nets slots references earlier =
     record {
       inside = omega arith;
       reached = omega arith;
       verdict = refl;
       written = sym (laid-nothing image 1);
       counted = λ j m later h e. absurd (omega (arith, h));
-      knows = knows;
-      marked = marked;
+      noted = record { noted = λ j m later h e. absurd (omega (arith, h)) };
+      earlier = earlier;
     }
 
 -- The module whose turn it is.
-abbrev pub turn-of : {numbers starts first : List ℕ} {modules k repeated : ℕ} {ms : List Module} {image₀ image nets slots marks : List ℕ} → Laidout numbers starts modules ms → Indexed first repeated ms
-    → Going ms k repeated image₀ image nets slots marks → (p : Positioned ms k) → Turn numbers starts first k repeated
+abbrev pub turn-of : {numbers starts first : List ℕ} {modules k repeated : ℕ} {ms : List Module} {image₀ image nets slots references : List ℕ} → Laidout numbers starts modules ms → Indexed first repeated ms
+    → Going ms k repeated image₀ image nets slots references → (p : Positioned ms k) → Turn numbers starts first k repeated
 turn-of {ms = ms} l i g p =
     record {
       ms = ms;
@@ -81,7 +85,7 @@ turn-of {ms = ms} l i g p =
       reached = g .reached;
     }
 
-module _ {ms : List Module} {k repeated : ℕ} {image₀ image nets slots marks : List ℕ} (g : Going ms k repeated image₀ image nets slots marks) (p : Positioned ms k) where
+module _ {ms : List Module} {k repeated : ℕ} {image₀ image nets slots references : List ℕ} (g : Going ms k repeated image₀ image nets slots references) (p : Positioned ms k) where
   -- A broken rule is the verdict on all.
   pub stop : (rule : ℕ) → moduleVerdict k (p .m) (p .later) ≡ refused rule k → modulesVerdict 0 ms ≡ refused rule k
   unfolding modulesVerdict
@@ -92,10 +96,12 @@ module _ {ms : List Module} {k repeated : ℕ} {image₀ image nets slots marks 
 
   -- One module more.
   pub advance :
-      {count : ℕ} {slots′ marks′ image′ : List ℕ} → repeated ≡ firstRepeat ms → k < length nets → length (fileNumbers ms) ≤ length image₀ → moduleVerdict k (p .m) (p .later) ≡ good
-      → Settled ms (p .m) k (startOf ms k) count image slots′ marks′ image′ → Going ms (k + 1) repeated image₀ image′ (set nets k count) slots′ marks′
+      {count : ℕ} {slots′ image′ references′ : List ℕ} → repeated ≡ firstRepeat ms → k < length nets → length (fileNumbers ms) ≤ length image₀
+      → length (fileNumbers ms) ≤ 3 * length references → moduleVerdict k (p .m) (p .later) ≡ good
+      → Settled ms (p .m) k (startOf ms k) count image slots′ image′ references references′
+      → Going ms (k + 1) repeated image₀ image′ (set nets k count) slots′ references′
   unfolding modulesVerdict startOf fileNumbers each
-  advance {count} {slots′} {marks′} {image′} repeats inside long fine s =
+  advance {count} {slots′} {image′} {references′} repeats inside long noting fine s =
       record {
         inside = omega (arith, at-inside ms k (p .m) (p .later) (p .here));
         reached = omega (arith, s .unrepeated, repeats);
@@ -106,8 +112,8 @@ module _ {ms : List Module} {k repeated : ℕ} {image₀ image nets slots marks 
             ∙ ap₂ modulesVerdict (sym (add-one k)) (sym (p .after));
         written = written;
         counted = counted;
-        knows = s .knows;
-        marked = below-more (startOf ms (k + 1) + 1) (omega (arith, start-more)) (s .marked);
+        noted = note-module (p .here) noting (g .noted) (s .noted);
+        earlier = s .earlier;
       }
     where
       resolved : Module
@@ -118,13 +124,6 @@ module _ {ms : List Module} {k repeated : ℕ} {image₀ image nets slots marks 
 
       piece : List ℕ
       piece = moduleNumbers resolved
-
-      start-more : startOf ms (k + 1) ≡ startOf ms k + length (moduleNumbers (p .m))
-      start-more =
-          ap (λ (n : ℕ). startOf ms n) (add-one k)
-          ∙ ap (λ (l : List Module). suc (length (each moduleNumbers l))) (take-snoc ms k (p .here))
-          ∙ ap (λ (l : List ℕ). suc (length l)) (each-append moduleNumbers (take k ms) (p .m ∷ []))
-          ∙ omega (arith, length-append (each moduleNumbers (take k ms)) (moduleNumbers (p .m) ++ []), ap length (append-nil (moduleNumbers (p .m))))
 
       start : startOf ms k ≡ 1 + length before
       start = sym (start-of-resolved ms k) ∙ omega arith
@@ -165,14 +164,21 @@ module _ {ms : List Module} {k repeated : ℕ} {image₀ image nets slots marks 
               ∙ ap netCount own
           pick (no differ) = getD-set-other nets k j count 0 differ ∙ g .counted j m later (omega (arith, h, differ)) e
 
-module _ {ms : List Module} {k repeated : ℕ} {image₀ image nets slots marks : List ℕ} (g : Going ms k repeated image₀ image nets slots marks) where
+module _ {ms : List Module} {k repeated : ℕ} {image₀ image nets slots references : List ℕ} (g : Going ms k repeated image₀ image nets slots references) where
   -- Behind the last module.
-  pub finish : length ms ≤ k → (modulesVerdict 0 ms ≡ good) × (image ≡ laid image₀ 1 (each moduleNumbers (resolve ms))) × Counted ms nets
+  pub finish :
+      {starts : List ℕ} → ((j : ℕ) → j < length ms → getD starts j 0 ≡ startOf ms j) → length ms ≤ k
+      → (modulesVerdict 0 ms ≡ good) × (image ≡ laid image₀ 1 (each moduleNumbers (resolve ms))) × Counted ms nets × Noted ms starts references
   unfolding modulesVerdict
-  finish h = (
+  finish {starts} startsAre h = (
     g .verdict ∙ ap (modulesVerdict k) (drop-of-length-le ms h),
     g .written ∙ ap (λ (l : List Module). laid image₀ 1 (each moduleNumbers l)) (take-all k (resolve ms) (omega (arith, length-of-resolve ms))),
     record { count = λ j m later e. g .counted j m later (omega (arith, at-inside ms j m later e)) e },
+    record {
+      noted = λ j m later e.
+          let inside = at-inside ms j m later e in
+          moved (notesFrom (startOf ms j)) (ap notesFrom (startsAre j inside)) (g .noted .noted j m later (omega arith) e);
+    },
   )
 
 -- The count of modules in front makes the file's numbers.

@@ -1,18 +1,17 @@
 -- The numbers of a module in front of its occurrences: where they stand, and what setting them down leaves in the image.
 use Prim.Native.Nat.{ℕ, suc, _+_, _≤_, _<_}
-use mathlib.Core.Path.{_≡_, refl, sym, ap, ap₂, _∙_}
-use mathlib.Core.Bool.{true}
-use mathlib.Core.List.{List, [], _∷_, _++_, map, append-assoc}
+use mathlib.Core.Path.{_≡_, refl, sym, ap, _∙_}
+use mathlib.Core.Bool.{Bool}
+use mathlib.Core.List.{List, [], _∷_, _++_, map, append-assoc, append-nil}
 use native.Mathlib.Omega.{arith}
 use lib.ListN.{length, getD, set, length-append, length-map}
 use Rattle.meaning.specs.Syntax.{Module}
 use Rattle.meaning.specs.Layout.{each, listNumbers, occurrenceNumbers, moduleNumbers}
-use Rattle.meaning.specs.Boxlist.{subset}
-use Rattle.nets.specs.Slots.{slotOf}
-use Rattle.image.specs.Stands.{Stands, stands-head, stands-tail, stands-front, stands-skip}
+use Rattle.nets.specs.Slots.{Knows, slotOf}
+use Rattle.image.specs.Stands.{Stands, stands-tail, stands-front, stands-skip}
 use Rattle.image.specs.Pieces.{moved, module-at}
 use Rattle.image.specs.Laid.{laid, set-laid}
-use Rattle.checker.specs.Lists.{ListReady, ListWritten}
+use Rattle.checker.specs.Lists.{Listed, ListReady, ListWritten}
 use Rattle.checker.specs.Heads.{headNumbers, HeadWritable, HeadWritten}
 use Rattle.checker.proofs.Parts.{part, part-stands}
 use Rattle.checker.proofs.Laying.{Lies, lay-list, lay-one}
@@ -87,46 +86,55 @@ lay-head {im₁} {im₂} im s number xs ys n o e first second at-o at-e fits =
     let four = lay-one three e n (omega (arith, length-append (number ∷ listNumbers xs) (listNumbers ys))) (omega arith) in
     four .is ∙ ap (laid im s) (append-assoc (number ∷ listNumbers xs) (listNumbers ys) (n ∷ []))
 
-module _ {numbers slots : List ℕ} {base k s : ℕ} {image : List ℕ} where
-  module _ (w : HeadWritable numbers slots base k s image) where
-    -- A list of nets of the module can be set down.
-    ready :
-        {image₁ : List ℕ} {at : ℕ} → length image₁ ≡ length image → (list : List ℕ) → Stands numbers at (listNumbers list)
-        → subset list (w .nets) ≡ true → ListReady numbers slots base at image₁
-    ready sized list stands known =
-        record {
-          listed = record { list = list; stands = stands };
-          nets = w .nets;
-          knows = w .knows;
-          known = known;
-          few = w .few;
-          indexSlots = w .indexSlots;
-          room = omega (arith, w .room);
-        }
-
-    pub ready-inputs : {image₁ : List ℕ} → length image₁ ≡ length image → ListReady numbers slots base (s + 1) image₁
-    ready-inputs sized = ready sized (w .m .inputs) (inputs-stand (w .m) (w .stands)) (w .inputsKnown)
-
-    pub ready-outputs : {image₁ : List ℕ} {n : ℕ} → length image₁ ≡ length image → Behind numbers (s + 1) n → ListReady numbers slots base n image₁
-    ready-outputs {n = n} sized behind =
-        ready sized (w .m .outputs)
-        (outputs-stand (w .m) (w .stands) n (behind (w .m .inputs) (inputs-stand (w .m) (w .stands)) ∙ omega arith)) (w .outputsKnown)
+module _ {numbers slots : List ℕ} {base k s nets : ℕ} {image : List ℕ} where
+  -- A list of nets of the module can be set down.
+  pub list-ready :
+      {image₁ : List ℕ} {at : ℕ} → HeadWritable numbers slots base k s nets image → length image₁ ≡ length image
+      → Listed numbers at → ListReady numbers slots base at nets image₁
+  list-ready w sized listed =
+      record {
+        listed = listed;
+        few = w .few;
+        high = w .high;
+        short = w .short;
+        indexSlots = w .indexSlots;
+        room = omega (arith, w .room);
+      }
 
   pub head-written :
-      {image₁ image₂ : List ℕ} {n e : ℕ} → ListWritten numbers slots base (s + 1) (set image s (16 + k)) image₁ n
-      → ListWritten numbers slots base n image₁ image₂ e → length numbers ≤ length image
-      → HeadWritten numbers slots base k s image (set image₂ e (getD numbers e 0))
-  head-written {n = n} {e = e} first second room =
+      {image₁ image₂ : List ℕ} {n e : ℕ} {inputs outputs : Bool} → Behind numbers (s + 1) n → Behind numbers n e
+      → ListWritten numbers slots base (s + 1) nets (set image s (16 + k)) image₁ inputs
+      → ListWritten numbers slots base n nets image₁ image₂ outputs
+      → length numbers ≤ length image
+      → HeadWritten numbers slots base k s nets image (set image₂ e (getD numbers e 0)) outputs
+  head-written {image₁} {image₂} {n} {e} {inputs} {outputs} first second ins outs room =
       record {
-        written = λ m nets stands knows inputs outputs.
-            let q = places (first .behind) (second .behind) m stands in
-            let xs = map (λ (x : ℕ). slotOf x nets) (m .inputs) in
-            let ys = map (λ (x : ℕ). slotOf x nets) (m .outputs) in
-            let longer : length xs ≡ length (m .inputs) = length-map (m .inputs) (λ (x : ℕ). slotOf x nets) in
-            let longest : length ys ≡ length (m .outputs) = length-map (m .outputs) (λ (x : ℕ). slotOf x nets) in
-            lay-head image s (16 + k) xs ys (getD numbers e 0) n e
-            (first .written (m .inputs) nets (inputs-stand m stands) knows inputs)
-            (second .written (m .outputs) nets (outputs-stand m stands n (q .behindInputs)) knows outputs)
-            (q .behindInputs ∙ omega arith) (q .behindOutputs ∙ omega arith) (omega (arith, q .inside))
-            ∙ ap (λ (c : ℕ). laid image s (headNumbers (16 + k) xs ys c)) (q .occurrenceCount);
+        written = λ m known stands knows count inputsKnown.
+            let q = places first second m stands in
+            let some = all known knows in
+            let i = ins .written (m .inputs) known [] (inputs-stand m stands) some count in
+            let o = outs .written (m .outputs) known [] (outputs-stand m stands n (q .behindInputs)) some count in
+            let xs = map (λ (x : ℕ). slotOf x known) (m .inputs) in
+            let ys = map (λ (x : ℕ). slotOf x known) (m .outputs) in
+            let longer : length xs ≡ length (m .inputs) = length-map (m .inputs) (λ (x : ℕ). slotOf x known) in
+            let longest : length ys ≡ length (m .outputs) = length-map (m .outputs) (λ (x : ℕ). slotOf x known) in (
+              o .0,
+              λ t.
+                  lay-head image s (16 + k) xs ys (getD numbers e 0) n e
+                  (i .1 (i .0 ∙ inputsKnown) ∙ none (set image s (16 + k)) (s + 1) known (m .inputs))
+                  (o .1 t ∙ none image₁ n known (m .outputs))
+                  (q .behindInputs ∙ omega arith)
+                  (q .behindOutputs ∙ omega arith)
+                  (omega (arith, q .inside))
+                  ∙ ap (λ (c : ℕ). laid image s (headNumbers (16 + k) xs ys c)) (q .occurrenceCount),
+            );
       }
+    where
+      -- Nothing is known behind the nets.
+      all : (known : List ℕ) → Knows slots base known → Knows slots base (known ++ [])
+      all known knows = rw append-nil knows
+
+      none :
+          (im : List ℕ) (at : ℕ) (known list : List ℕ)
+          → laid im at (listNumbers (map (λ (x : ℕ). slotOf x (known ++ [])) list)) ≡ laid im at (listNumbers (map (λ (x : ℕ). slotOf x known) list))
+      none im at known list = ap (λ (l : List ℕ). laid im at (listNumbers (map (λ (x : ℕ). slotOf x l) list))) (append-nil known)

@@ -2,13 +2,13 @@
 -- module of a number is the first of all that have it, where that lies behind k; else there is none.
 use Prim.Native.Nat.{ℕ, zero, suc, _+_, _≤_, _<_}
 use mathlib.Core.Path.{_≡_, refl, sym, ap, _∙_}
-use mathlib.Core.Bool.{Bool, true, false, cond, true≢false, false≢true}
+use mathlib.Core.Bool.{Bool, true, false, cond, true≢false}
 use mathlib.Core.List.{List, [], _∷_}
 use native.Mathlib.Omega.{arith}
 use native.Mathlib.Numerals.{add-one}
 use lib.Dec.{eqb}
-use lib.ListN.{length, drop}
-use borrow.Author.Tests.{eqb-true, eqb-false}
+use lib.ListN.{drop}
+use borrow.Author.Tests.{eqb-true}
 use Rattle.meaning.specs.Syntax.{Module}
 use Rattle.meaning.specs.Boxlist.{assoc, isBox, box, F, Found}
 use Rattle.image.specs.Resolved.{positionOf}

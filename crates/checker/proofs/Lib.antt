@@ -3,13 +3,11 @@ pub mod Numbers
 pub mod Later
 pub mod Targets
 pub mod Parts
-pub mod Judgement
 pub mod Laying
-pub mod Resolving
 pub mod Listing
-pub mod Setting
-pub mod Fine
+pub mod Judgement
 pub mod Growing
+pub mod Noting
 pub mod Progress
 pub mod Stepping
 pub mod Walking

@@ -1,20 +1,19 @@
 -- A count with its list of nets: where the nets stand, and what setting it down leaves in the image.
 use Prim.Native.Nat.{ℕ, _+_, _≤_}
-use mathlib.Core.Path.{_≡_, sym, ap, ap₂, subst, _∙_}
-use mathlib.Core.Bool.{true}
-use mathlib.Core.List.{List, [], _∷_, map}
+use mathlib.Core.Path.{_≡_, sym, ap, subst, _∙_}
+use mathlib.Core.Bool.{Bool}
+use mathlib.Core.List.{List, [], _∷_, _++_, map}
 use native.Mathlib.Omega.{arith}
 use lib.ListN.{length, getD, set, length-map}
 use Rattle.meaning.specs.Layout.{listNumbers}
-use Rattle.meaning.specs.Boxlist.{subset}
 use Rattle.nets.specs.Slots.{Knows, slotOf}
-use Rattle.nets.specs.Tables.{Resolvable}
+use Rattle.nets.specs.Writing.{holding}
+use Rattle.nets.specs.Tables.{Learnable, Learnt, Resolvable, Resolved}
 use Rattle.image.specs.Stands.{Stands, stands-head, stands-tail}
 use Rattle.image.specs.Laid.{laid, set-laid}
-use Rattle.checker.specs.Lists.{ListReady, ListWritten}
+use Rattle.checker.specs.Lists.{ListReady, ListLearnt, ListWritten}
 use Rattle.checker.proofs.Parts.{part, below-part, part-stands}
 use Rattle.checker.proofs.Laying.{Lies, lay-list}
-use Rattle.checker.proofs.Resolving.{Resolves}
 
 -- A place is behind the list whose count stands at another.
 abbrev pub Behind : (numbers : List ℕ) → (at e : ℕ) → Type 0
@@ -31,45 +30,65 @@ list-at {e = e} list s behind =
     let b = behind list s in
     record { behind = b; is = part-stands e b (stands-tail s); end = omega (arith, s .within) }
 
--- A list resolved is its slots laid over the image.
-pub resolved :
-    {slots : List ℕ} {base : ℕ} {image′ list ds : List ℕ} (image : List ℕ) (at : ℕ) (nets : List ℕ) → list ≡ ds
-    → Resolves list slots base image at image′ → Knows slots base nets → subset ds nets ≡ true
-    → image′ ≡ laid image at (map (λ (x : ℕ). slotOf x nets) ds)
+-- The count was stored as it stands, and slots behind it.
+listed :
+    {numbers image′ : List ℕ} {at e : ℕ} {list : List ℕ} (slot : ℕ → ℕ) (image : List ℕ) → Stands numbers at (listNumbers list)
+    → ListAt numbers at e list → length numbers ≤ length image
+    → image′ ≡ holding (set image at (getD numbers at 0)) (at + 1) (map slot list)
+    → image′ ≡ laid image at (listNumbers (map slot list))
 unfolding laid
-resolved {slots} {base} {image′} {list} {ds} image at nets e r k s =
-    rw (length-map ds (λ (x : ℕ). slotOf x nets)) (subst (λ (l : List ℕ). Resolves l slots base image at image′) e r nets k s)
+listed {numbers} {at = at} {list = list} slot image s l room held =
+    let n = getD numbers at 0 in
+    let long = length-map list slot in
+    let first : Lies image at (n ∷ []) (set image at n) = record { is = set-laid image at n (omega (arith, l .end)) } in
+    held
+    ∙ lay-list first (at + 1) (map slot list) (omega arith) (omega (arith, l .end, l .behind)) .is
+    ∙ ap (λ (m : ℕ). laid image at (m ∷ map slot list)) (stands-head s ∙ sym long)
 
-module _ {numbers slots : List ℕ} {base at : ℕ} {image : List ℕ} {e : ℕ} where
-  pub resolvable :
-      (w : ListReady numbers slots base at image) → ListAt numbers at e (w .listed .list) → {image′ : List ℕ} → length image′ ≡ length image
-      → Resolvable (part (at + 1) e numbers) slots base image′ (at + 1)
-  resolvable w l sized =
-      record {
-        nets = w .nets;
-        knows = w .knows;
-        listed = rw (l .is) (w .known);
-        few = w .few;
-        inTable = below-part (at + 1) e (w .indexSlots);
-        room = omega (arith, ap length (l .is));
-      }
+module _ {numbers slots : List ℕ} {base at limit : ℕ} {image : List ℕ} {e : ℕ} where
+  module _
+      (w : ListReady numbers slots base at limit image) (l : ListAt numbers at e (w .listed .list)) {image′ : List ℕ}
+      (sized : length image′ ≡ length image) where
+    pub learnable : limit ≤ at → Learnable (part (at + 1) e numbers) slots base limit image′ (at + 1)
+    learnable low =
+        record {
+          inTable = below-part (at + 1) e (w .indexSlots);
+          few = omega (arith, ap length (l .is));
+          high = w .high;
+          room = omega (arith, ap length (l .is));
+        }
 
-  -- The count was stored as it stands, and the nets were resolved behind it.
-  pub list-written :
-      {image′ : List ℕ} → Behind numbers at e → length numbers ≤ length image
-      → Resolves (part (at + 1) e numbers) slots base (set image at (getD numbers at 0)) (at + 1) image′
-      → ListWritten numbers slots base at image image′ e
-  list-written {image′} behind room r = record { behind = behind; written = written }
-    where
-      written :
-          (list nets : List ℕ) → Stands numbers at (listNumbers list) → Knows slots base nets → subset list nets ≡ true
-          → image′ ≡ laid image at (listNumbers (map (λ (x : ℕ). slotOf x nets) list))
-      written list nets s k known =
-          let l = list-at list s behind in
-          let xs = map (λ (x : ℕ). slotOf x nets) list in
-          let long : length xs ≡ length list = length-map list (λ (x : ℕ). slotOf x nets) in
-          let n = getD numbers at 0 in
-          let first : Lies image at (n ∷ []) (set image at n) = record { is = set-laid image at n (omega (arith, l .end)) } in
-          resolved (set image at n) (at + 1) nets (l .is) r k known
-          ∙ lay-list first (at + 1) xs (omega arith) (omega (arith, l .end, l .behind)) .is
-          ∙ ap (λ (m : ℕ). laid image at (m ∷ xs)) (stands-head s ∙ sym long)
+    pub resolvable : Resolvable (part (at + 1) e numbers) slots base limit image′ (at + 1)
+    resolvable =
+        record {
+          inTable = below-part (at + 1) e (w .indexSlots);
+          few = w .few;
+          high = w .high;
+          room = omega (arith, ap length (l .is));
+        }
+
+  module _ {image′ : List ℕ} {r : Bool} (behind : Behind numbers at e) (room : length numbers ≤ length image) where
+    pub list-learnt :
+        {slots′ : List ℕ}
+        → ((nets : List ℕ) → Knows slots base nets → limit ≡ length nets
+        → Learnt nets (part (at + 1) e numbers) base (set image at (getD numbers at 0)) (at + 1) slots′ image′ r)
+        → ListLearnt numbers slots base at limit image slots′ image′ r
+    list-learnt {slots′} learnt =
+        record {
+          learnt = λ list nets s k count.
+              let l = list-at list s behind in
+              let a = subst (λ (xs : List ℕ). Learnt nets xs base (set image at (getD numbers at 0)) (at + 1) slots′ image′ r) (l .is) (learnt nets k count) in
+              (a .answer, a .knows, λ t. listed (λ (x : ℕ). slotOf x (nets ++ list)) image s l room (a .written t));
+        }
+
+    pub list-written :
+        ((nets more : List ℕ) → Knows slots base (nets ++ more) → limit ≡ length nets
+        → Resolved nets more (part (at + 1) e numbers) (set image at (getD numbers at 0)) (at + 1) image′ r)
+        → ListWritten numbers slots base at limit image image′ r
+    list-written resolved =
+        record {
+          written = λ list nets more s k count.
+              let l = list-at list s behind in
+              let a = subst (λ (xs : List ℕ). Resolved nets more xs (set image at (getD numbers at 0)) (at + 1) image′ r) (l .is) (resolved nets more k count) in
+              (a .answer, λ t. listed (λ (x : ℕ). slotOf x (nets ++ more)) image s l room (a .written t));
+        }

@@ -1,36 +1,39 @@
 -- How far the walk over a module's occurrences has come: those that are done and those that are left make up the whole, the table knows
--- the nets of the former, the image holds them, and the verdict on the latter is the verdict on all.
+-- the nets of the former, the image holds them, their references are noted, and the verdict on the latter is the verdict on all.
 use Prim.Native.Nat.{ℕ, _+_, _≤_, _<_}
 use mathlib.Core.Path.{_≡_, refl, sym, ap, ap₂, subst, _∙_}
-use mathlib.Core.Bool.{Bool, true, _||_, or-comm}
+use mathlib.Core.Bool.{Bool, _||_, or-comm}
 use mathlib.Core.List.{List, [], _∷_, _++_, append-nil, append-assoc}
 use native.Mathlib.Omega.{arith}
 use lib.ListN.{length, length-append}
 use Rattle.meaning.specs.Syntax.{Occurrence, Module}
 use Rattle.meaning.specs.Layout.{each, occurrenceNumbers}
 use Rattle.meaning.specs.Limits.{driven}
-use Rattle.meaning.specs.Boxlist.{member, subset}
+use Rattle.meaning.specs.Boxlist.{member}
 use Rattle.meaning.specs.Verdict.{Verdict, good, refused, andThen, occurrenceVerdict, bodyVerdict}
 use Rattle.laws.specs.Lists.{each-append}
-use Rattle.nets.specs.Slots.{Knows, Below}
+use Rattle.nets.specs.Slots.{Knows}
 use Rattle.nets.specs.Members.{member-append}
 use Rattle.image.specs.Stands.{Stands, stands-front, stands-skip}
 use Rattle.image.specs.Laid.{laid, laid-nothing}
 use Rattle.image.specs.Pieces.{moved}
 use Rattle.image.specs.Resolved.{referTo, slotIn, netsOf}
 use Rattle.checker.specs.Scene.{Same}
-use Rattle.checker.specs.Bodies.{Advanced, Finished, resolvedBody}
-use Rattle.checker.proofs.Fine.{fine-nets, fine-against}
+use Rattle.checker.specs.Notes.{notesOf}
+use Rattle.checker.specs.Occurrences.{Advanced}
+use Rattle.checker.specs.Bodies.{Finished, resolvedBody}
+use Rattle.checker.proofs.Noting.{note-one}
 use Rattle.checker.proofs.Growing.{driven-append, driven-snoc, length-of-snoc, laid-snoc, resolved-alike}
 
 pub record Progress
     (numbers : List ℕ) (ms : List Module) (m : Module) (later : List Module) (k from i count at filled base : ℕ)
-    (image₀ slots image : List ℕ) : Type 0 where
+    (image₀ slots image : List ℕ) (place : ℕ) (references₀ references : List ℕ) : Type 0 where
   pub finished : List Occurrence
   pub left : List Occurrence
   pub whole : m .occurrences ≡ finished ++ left
+  pub passed : i ≡ length finished
   pub turns : i + length left ≡ count
-  pub place : at ≡ from + length (each occurrenceNumbers finished)
+  pub behind : at ≡ from + length (each occurrenceNumbers finished)
   pub stands : Stands numbers at (each occurrenceNumbers left)
   pub knows : Knows slots base (m .inputs ++ driven finished)
   pub wide : filled ≡ length (m .inputs ++ driven finished)
@@ -38,21 +41,24 @@ pub record Progress
   pub same : Same (m .inputs ++ driven finished) signals
   pub verdict : bodyVerdict k (m .occurrences) (m .inputs) later ≡ bodyVerdict k left signals later
   pub written : image ≡ laid image₀ from (each occurrenceNumbers (resolvedBody ms m finished))
+  pub noted : references ≡ laid references₀ place (notesOf ms finished)
 
 -- Before the first occurrence.
 pub begin :
     (numbers : List ℕ) (ms : List Module) (m : Module) (later : List Module) (k from count inputs base : ℕ) (slots image : List ℕ)
+    (place : ℕ) (references : List ℕ)
     → Stands numbers from (each occurrenceNumbers (m .occurrences)) → count ≡ length (m .occurrences)
     → Knows slots base (m .inputs) → inputs ≡ length (m .inputs)
-    → Progress numbers ms m later k from 0 count from inputs base image slots image
+    → Progress numbers ms m later k from 0 count from inputs base image slots image place references references
 unfolding driven each
-begin numbers ms m later k from count inputs base slots image stands all knows wide =
+begin numbers ms m later k from count inputs base slots image place references stands all knows wide =
     record {
       finished = [];
       left = m .occurrences;
       whole = refl;
+      passed = refl;
       turns = omega (arith, all);
-      place = omega arith;
+      behind = omega arith;
       stands = stands;
       knows = rw append-nil knows;
       wide = rw append-nil wide;
@@ -60,11 +66,13 @@ begin numbers ms m later k from count inputs base slots image stands all knows w
       same = record { same = λ x. rw append-nil };
       verdict = refl;
       written = sym (laid-nothing image from);
+      noted = sym (laid-nothing references place);
     }
 
 module _
     {numbers : List ℕ} {ms : List Module} {m : Module} {later : List Module} {k from i count at filled base : ℕ} {image₀ slots image : List ℕ}
-    (p : Progress numbers ms m later k from i count at filled base image₀ slots image)
+    {place : ℕ} {references₀ references : List ℕ}
+    (p : Progress numbers ms m later k from i count at filled base image₀ slots image place references₀ references)
   where
     -- The nets so far.
     abbrev pub nets : List ℕ
@@ -104,18 +112,20 @@ module _
 
     -- One occurrence more.
     pub advance :
-        (c : Current) {slots′ marks′ image′ : List ℕ} {next filled′ : ℕ} → occurrenceVerdict k (c .o) (p .signals) later ≡ good
+        (c : Current) {slots′ image′ references′ : List ℕ} {next filled′ : ℕ} → occurrenceVerdict k (c .o) (p .signals) later ≡ good
         → from + length (each occurrenceNumbers (m .occurrences)) ≤ length image₀
-        → Advanced ms (c .o) nets at base image slots′ marks′ image′ next filled′
-        → Progress numbers ms m later k from (i + 1) count next filled′ base image₀ slots′ image′
+        → place + count ≤ length references₀
+        → Advanced ms (c .o) nets at base image slots′ image′ (place + i) references references′ next filled′
+        → Progress numbers ms m later k from (i + 1) count next filled′ base image₀ slots′ image′ place references₀ references′
     unfolding each driven bodyVerdict netsOf
-    advance c {slots′} {marks′} {image′} {next} {filled′} good-so-far fits a =
+    advance c {slots′} {image′} {references′} {next} {filled′} good-so-far fits noting a =
         record {
           finished = p .finished ++ (o ∷ []);
           left = c .rest;
           whole = whole;
+          passed = omega (arith, p .passed, length-append (p .finished) (o ∷ []));
           turns = omega (arith, p .turns, ap length (c .is));
-          place = a .behind ∙ omega (arith, p .place, length-of-snoc (p .finished) o);
+          behind = a .behind ∙ omega (arith, p .behind, length-of-snoc (p .finished) o);
           stands = moved (at + length (occurrenceNumbers o)) (a .behind) (stands-skip (occurrenceNumbers o) from-here);
           knows = subst (Knows slots′ base) (sym all-nets) (a .knows);
           wide = a .count ∙ ap length (sym all-nets);
@@ -126,6 +136,7 @@ module _
               ∙ ap (λ (l : List Occurrence). bodyVerdict k l (p .signals) later) (c .is)
               ∙ ap (λ (v : Verdict). andThen v (bodyVerdict k (c .rest) (o .drives ++ p .signals) later)) good-so-far;
           written = written;
+          noted = note-one ms references₀ place (p .finished) o (p .passed) (omega (arith, p .turns, ap length (c .is))) (p .noted) (a .noted);
         }
       where
         o : Occurrence
@@ -157,9 +168,6 @@ module _
             ∙ sym (append-assoc (m .inputs) (driven (p .finished ++ (o ∷ []))) (driven (c .rest)))
             ∙ ap (λ (l : List ℕ). l ++ driven (c .rest)) all-nets
 
-        bound : subset (o .takes) nets ≡ true
-        bound = fine-against (p .same) (fine-nets k o (p .signals) later good-so-far) .bound
-
         all-long :
             length (each occurrenceNumbers (m .occurrences))
             ≡ length (each occurrenceNumbers (p .finished ++ (o ∷ []))) + length (each occurrenceNumbers (c .rest))
@@ -172,22 +180,23 @@ module _
         written =
             a .written
             ∙ ap₂ (λ (im : List ℕ) (r : Occurrence). laid im at (occurrenceNumbers r)) (p .written)
-            (resolved-alike (referTo ms) m nets o (driven (c .rest)) module-nets bound)
-            ∙ laid-snoc (slotIn m) (referTo ms) image₀ from (p .finished) o (p .place)
-            (omega (arith, p .place, length-of-snoc (p .finished) o, all-long))
+            (resolved-alike (referTo ms) m nets o (driven (c .rest)) module-nets (a .bound))
+            ∙ laid-snoc (slotIn m) (referTo ms) image₀ from (p .finished) o (p .behind)
+            (omega (arith, p .behind, length-of-snoc (p .finished) o, all-long))
 
     -- Behind the last occurrence.
-    pub finish : count ≤ i → {marks : List ℕ} → Below (at + 1) marks
-        → (bodyVerdict k (m .occurrences) (m .inputs) later ≡ good) × Finished ms m from base image₀ slots marks image at filled
+    pub finish : count ≤ i → filled ≤ at
+        → (bodyVerdict k (m .occurrences) (m .inputs) later ≡ good) × Finished ms m from base image₀ slots image place references₀ references at filled
     unfolding bodyVerdict netsOf
-    finish h {marks} marked = (
+    finish h few = (
       p .verdict ∙ ap (λ (l : List Occurrence). bodyVerdict k l (p .signals) later) none,
       record {
-        behind = p .place ∙ ap (λ (l : List Occurrence). from + length (each occurrenceNumbers l)) (sym all);
+        behind = p .behind ∙ ap (λ (l : List Occurrence). from + length (each occurrenceNumbers l)) (sym all);
         count = p .wide ∙ ap (λ (l : List Occurrence). length (m .inputs ++ driven l)) (sym all);
         knows = subst (λ (l : List Occurrence). Knows slots base (m .inputs ++ driven l)) (sym all) (p .knows);
         written = p .written ∙ ap (λ (l : List Occurrence). laid image₀ from (each occurrenceNumbers (resolvedBody ms m l))) (sym all);
-        marked = marked;
+        noted = p .noted ∙ ap (λ (l : List Occurrence). laid references₀ place (notesOf ms l)) (sym all);
+        few = few;
       },
     )
       where

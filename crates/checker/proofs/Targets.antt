@@ -9,7 +9,7 @@ use lib.Dec.{eqb}
 use lib.ListN.{length, getD, drop, length-drop}
 use Rattle.meaning.specs.Syntax.{Module}
 use Rattle.meaning.specs.Gates.{isGate, gate}
-use Rattle.meaning.specs.Boxlist.{Found, box, F, assoc, isBox, submoduleOkp, arityOkp}
+use Rattle.meaning.specs.Boxlist.{box, F, assoc, isBox, arityOkp}
 use Rattle.image.specs.Pieces.{ModuleAt, module-at}
 use Rattle.image.specs.Resolved.{referTo, positionOf}
 use Rattle.checker.specs.Filed.{Filed, At}

@@ -1,41 +1,28 @@
 -- A module's turn: what its head, its occurrences and its end make of the verdict on it, and of the image where it is good.
-use Prim.Native.Nat.{ℕ, zero, suc, _+_, _*_, _≤_, _<_}
-use mathlib.Core.Path.{_≡_, refl, sym, ap, ap₂, subst, _∙_}
+use Prim.Native.Nat.{ℕ, zero, suc, _+_, _≤_, _<_}
+use mathlib.Core.Path.{_≡_, sym, ap, _∙_}
 use mathlib.Core.Bool.{Bool, true, false, cond}
-use mathlib.Core.List.{List, [], _∷_, _++_, map}
+use mathlib.Core.List.{List, [], _∷_}
 use native.Mathlib.Omega.{arith}
 use native.Mathlib.Nat.{zero-add}
 use borrow.Author.Tests.{eqb-false, eq-eqb, ne-eqb}
 use lib.Dec.{eqb}
-use lib.ListN.{length, getD, drop, length-append, length-map}
-use Rattle.meaning.specs.Syntax.{Occurrence, Module}
-use Rattle.meaning.specs.Boxlist.{disjoint, subset, assoc, isBox}
+use lib.ListN.{length, getD, drop}
+use Rattle.meaning.specs.Syntax.{Module}
+use Rattle.meaning.specs.Boxlist.{assoc, isBox}
 use Rattle.meaning.specs.Limits.{driven, netCount}
-use Rattle.meaning.specs.Layout.{each, occurrenceNumbers, moduleNumbers}
+use Rattle.meaning.specs.Layout.{moduleNumbers}
 use Rattle.meaning.specs.Verdict.{Verdict, good, refused, andThen, bodyVerdict, moduleVerdict}
-use Rattle.nets.specs.Slots.{Knows, Below}
-use Rattle.nets.specs.Members.{subset-self, subset-append-left}
-use Rattle.nets.specs.Bounds.{below-more}
-use Rattle.nets.specs.Tables.{next-base}
 use Rattle.image.specs.Stands.{Stands}
-use Rattle.image.specs.Pieces.{module-at}
-use Rattle.image.specs.Laid.{laid, laid-before}
-use Rattle.image.specs.Resolved.{referTo, resolveModule, netsOf}
-use Rattle.image.specs.Shapes.{length-of-nets, length-of-resolved-body}
+use Rattle.image.specs.Resolved.{netsOf}
+use Rattle.image.specs.Shapes.{length-of-nets}
 use Rattle.checker.specs.Filed.{At}
 use Rattle.checker.specs.Numbering.{firstRepeat}
-use Rattle.checker.specs.Scene.{Scene, Tables}
-use Rattle.checker.specs.Bodies.{BodyReady, BodyChecked, Walks, Finished, resolvedBody}
-use Rattle.checker.specs.Heads.{headRule, HeadJudged, resolvedHead}
-use Rattle.checker.specs.Modules.{endRule, EndReady, Ended, Ends, baseOf, Turn, ModuleReady, Settled, Checks}
-use Rattle.checker.specs.declared.bodies.Walked.{Walked}
-use Rattle.checker.specs.declared.bodies.Walked.the-variants as walked
-use Rattle.checker.specs.declared.modules.Checked.{Checked}
-use Rattle.checker.specs.declared.modules.Checked.the-variants.{Fine, Broken}
+use Rattle.checker.specs.Scene.{Scene}
+use Rattle.checker.specs.Heads.{headRule, HeadJudged}
+use Rattle.checker.specs.Modules.{endRule, Turn}
 use Rattle.checker.proofs.Targets.{at-inside}
-use Rattle.checker.proofs.Parts.{below-sized}
-use Rattle.checker.proofs.Rules.{ruled, ruled-broken, module-rules, FineHead, fine-head, fine-end, disjoint-sym, subset-apart}
-use Rattle.checker.proofs.HeadNumbers.{head-and-body, Places}
+use Rattle.checker.proofs.Rules.{ruled, ruled-broken, module-rules, FineHead, fine-head, disjoint-sym, subset-apart}
 
 -- Up to the first module whose number stands on a later one, that module is the first of those that are left.
 repeat-drop : (ms : List Module) (k : ℕ) → k ≤ firstRepeat ms → firstRepeat ms ≡ k + firstRepeat (drop k ms)
@@ -68,7 +55,7 @@ module _ {numbers starts first : List ℕ} {k repeated : ℕ} (t : Turn numbers 
   pub within : (k < length starts) × (k < 128)
   within = let i = at-inside (t .ms) k (t .m) (t .later) (t .here) in (omega (arith, t .filed .listed), omega (arith, t .filed .few))
 
-  module _ {base : ℕ} {slots marks : List ℕ} {rule : ℕ} (j : HeadJudged numbers base k repeated (getD starts k 0) slots marks rule) where
+  module _ {base : ℕ} {slots : List ℕ} {rule : ℕ} (j : HeadJudged numbers base k repeated (getD starts k 0) slots rule) where
     rule-here : rule ≡ headRule (t .m .number) (isBox (assoc (t .m .number) (t .later))) (t .m .inputs) (t .m .outputs)
     rule-here =
         j .rule (t .m) stands-here

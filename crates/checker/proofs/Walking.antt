@@ -10,9 +10,10 @@ use Rattle.nets.specs.Slots.{Knows, Below}
 use Rattle.image.specs.Stands.{Stands}
 use Rattle.image.specs.Pieces.{occurrence-at}
 use Rattle.checker.specs.Scene.{Scene, Tables}
-use Rattle.checker.specs.Bodies.{Placed, StepReady, Advanced, Stepped, Steps, BodyReady, Walks, BodyChecked}
-use Rattle.checker.specs.declared.bodies.Walked.{Walked}
-use Rattle.checker.specs.declared.bodies.Walked.the-variants.{Fine, Broken}
+use Rattle.checker.specs.Occurrences.{Placed, StepReady, Advanced, Stepped, Steps}
+use Rattle.checker.specs.Bodies.{BodyReady, Walks, BodyChecked}
+use Rattle.checker.specs.declared.occurrences.Walked.{Walked}
+use Rattle.checker.specs.declared.occurrences.Walked.the-variants.{Fine, Broken}
 use Rattle.checker.proofs.Progress.{Progress, Current, nets, begin, current, stop, advance, finish}
 
 -- A scene whose occurrences, so many, stand at the place where the walk begins, with a table that knows its inputs.
@@ -26,50 +27,55 @@ pub record Course (numbers starts first slots : List ℕ) (base k from count inp
 -- Before turn i: the places fit, no list has changed its length, and on every such course the walk has come this far.
 pub record Walking
     (numbers starts first : List ℕ) (k from count base inputs : ℕ)
-    (slots₀ marks₀ image₀ slots marks image : List ℕ) (at filled i : ℕ) : Type 0 where
-  pub placed : Placed numbers first slots base at filled marks image
+    (slots₀ image₀ slots image : List ℕ) (at filled i place : ℕ) (references₀ references : List ℕ) : Type 0 where
+  pub placed : Placed numbers first slots base at filled image
   pub slotsLong : length slots ≡ length slots₀
-  pub marksLong : length marks ≡ length marks₀
   pub imageLong : length image ≡ length image₀
+  pub referencesLong : length references ≡ length references₀
+  pub noting : place + count ≤ length references₀
   pub progress :
       (g : Course numbers starts first slots₀ base k from count inputs)
       → Progress numbers (g .scene .ms) (g .scene .m) (g .scene .later) k from i count at filled base image₀ slots image
+      place references₀ references
 
-module _ {numbers starts first slots₀ : List ℕ} {base k from count inputs : ℕ} {image₀ : List ℕ} where
+module _ {numbers starts first slots₀ : List ℕ} {base k from count inputs : ℕ} {image₀ : List ℕ} {place : ℕ} {references₀ : List ℕ} where
   -- What the answer says of every course.
   answered :
-      {slots′ marks′ image′ : List ℕ} {r : Walked}
+      {slots′ image′ references′ : List ℕ} {r : Walked}
       → ((g : Course numbers starts first slots₀ base k from count inputs)
       → Walks r (bodyVerdict k (g .scene .m .occurrences) (g .scene .m .inputs) (g .scene .later)) k (g .scene .ms) (g .scene .m)
-      from base image₀ slots′ marks′ image′)
-      → BodyChecked numbers starts first slots₀ base k from count inputs image₀ slots′ marks′ image′ r
+      from base image₀ slots′ image′ place references₀ references′)
+      → BodyChecked numbers starts first slots₀ base k from count inputs image₀ slots′ image′ place references₀ references′ r
   answered f =
       record { walks = λ s stands all knows wide. f (record { scene = s; stands = stands; all = all; knows = knows; wide = wide }) }
 
   -- Before the first turn.
-  module _ {marks₀ : List ℕ} (h : BodyReady numbers starts first slots₀ base k from count inputs marks₀ image₀) where
+  module _ (h : BodyReady numbers starts first slots₀ base k from count inputs image₀ place references₀) where
     pub course : Course numbers starts first slots₀ base k from count inputs
     course = record { scene = h .scene; stands = h .stands; all = h .all; knows = h .knows; wide = h .wide }
 
-    pub walk-begins : Walking numbers starts first k from count base inputs slots₀ marks₀ image₀ slots₀ marks₀ image₀ from inputs 0
+    pub walk-begins : Walking numbers starts first k from count base inputs slots₀ image₀ slots₀ image₀ from inputs 0 place references₀ references₀
     walk-begins =
         record {
           placed = h .placed;
           slotsLong = refl;
-          marksLong = refl;
           imageLong = refl;
+          referencesLong = refl;
+          noting = h .noting;
           progress = λ g.
-              begin numbers (g .scene .ms) (g .scene .m) (g .scene .later) k from count inputs base slots₀ image₀
+              begin numbers (g .scene .ms) (g .scene .m) (g .scene .later) k from count inputs base slots₀ image₀ place references₀
               (g .stands) (g .all) (g .knows) (g .wide);
         }
 
   module _
-      {marks₀ slots marks image : List ℕ} {at filled i : ℕ}
-      (w : Walking numbers starts first k from count base inputs slots₀ marks₀ image₀ slots marks image at filled i)
+      {slots image : List ℕ} {at filled i : ℕ} {references : List ℕ}
+      (w : Walking numbers starts first k from count base inputs slots₀ image₀ slots image at filled i place references₀ references)
     where
       -- Behind the last turn.
-      pub walk-ends : count ≤ i → BodyChecked numbers starts first slots₀ base k from count inputs image₀ slots marks image (Fine at filled)
-      walk-ends h = answered (λ g. finish (w .progress g) h (w .placed .marked))
+      pub walk-ends :
+          count ≤ i
+          → BodyChecked numbers starts first slots₀ base k from count inputs image₀ slots image place references₀ references (Fine at filled)
+      walk-ends h = answered (λ g. finish (w .progress g) h (w .placed .behind))
 
       module _ (more : i < count) where
         -- The occurrence whose turn it is.
@@ -79,27 +85,25 @@ module _ {numbers starts first slots₀ : List ℕ} {base k from count inputs : 
         -- It is there to be checked.
         pub step-ready :
             Course numbers starts first slots₀ base k from count inputs
-            → StepReady numbers starts first slots base k at filled marks image
+            → StepReady numbers starts first slots base k at filled image (place + i) references
         step-ready g =
             record {
               scene = g .scene;
               placed = w .placed;
               o = here g .o;
               stands = here g .stands;
-              nets = nets (w .progress g);
-              knows = w .progress g .knows;
-              count = w .progress g .wide;
+              noting = omega (arith, w .noting, w .referencesLong);
             }
 
         module _
-            {slots′ marks′ image′ : List ℕ} {r : Walked}
-            (step : Stepped numbers starts first slots base k at filled image slots′ marks′ image′ r)
+            {slots′ image′ references′ : List ℕ} {r : Walked}
+            (step : Stepped numbers starts first slots base k at filled image slots′ image′ (place + i) references references′ r)
           where
             -- What a step says of it on a course.
             abbrev Said : Course numbers starts first slots₀ base k from count inputs → Walked → Type 0
             Said g q =
                 Steps q (occurrenceVerdict k (here g .o) (w .progress g .signals) (g .scene .later)) k (g .scene .ms) (here g .o)
-                (nets (w .progress g)) at base image slots′ marks′ image′
+                (nets (w .progress g)) at base image slots′ image′ (place + i) references references′
 
             said : {q : Walked} → r ≡ q → (g : Course numbers starts first slots₀ base k from count inputs) → Said g q
             said e g =
@@ -110,43 +114,43 @@ module _ {numbers starts first slots₀ : List ℕ} {base k from count inputs : 
             -- It breaks a rule.
             pub walk-stops :
                 {rule : ℕ} → r ≡ Broken rule
-                → BodyChecked numbers starts first slots₀ base k from count inputs image₀ slots′ marks′ image′ (Broken rule)
+                → BodyChecked numbers starts first slots₀ base k from count inputs image₀ slots′ image′ place references₀ references′ (Broken rule)
             walk-stops {rule} e = answered (λ g. stop (w .progress g) (here g) rule (said e g))
 
             -- It is fine: the next turn.
             pub walk-goes-on :
                 {next filled′ : ℕ} → Course numbers starts first slots₀ base k from count inputs → r ≡ Fine next filled′
-                → length slots′ ≡ length slots → length marks′ ≡ length marks → length image′ ≡ length image
-                → Walking numbers starts first k from count base inputs slots₀ marks₀ image₀ slots′ marks′ image′ next filled′ (i + 1)
-            walk-goes-on {next} {filled′} own e slotsLong marksLong imageLong =
+                → length slots′ ≡ length slots → length image′ ≡ length image → length references′ ≡ length references
+                → Walking numbers starts first k from count base inputs slots₀ image₀ slots′ image′ next filled′ (i + 1) place references₀ references′
+            walk-goes-on {next} {filled′} own e slotsLong imageLong referencesLong =
                 record {
                   placed =
                       record {
                         tables = tables (w .placed .tables);
                         behind = behind (said e own .1);
-                        marked = said e own .1 .marked;
                         based = w .placed .based;
                         room = omega (arith, w .placed .room);
                       };
                   slotsLong = slotsLong ∙ w .slotsLong;
-                  marksLong = marksLong ∙ w .marksLong;
                   imageLong = imageLong ∙ w .imageLong;
+                  referencesLong = referencesLong ∙ w .referencesLong;
+                  noting = w .noting;
                   progress = λ g.
-                      advance (w .progress g) (here g) (said e g .0) (omega (arith, g .stands .within, w .placed .room, w .imageLong))
+                      advance (w .progress g) (here g) (said e g .0) (omega (arith, g .stands .within, w .placed .room, w .imageLong)) (w .noting)
                       (said e g .1);
                 }
               where
-                tables : Tables numbers first slots marks → Tables numbers first slots′ marks′
+                tables : Tables numbers first slots → Tables numbers first slots′
                 tables t =
                     record {
                       indexFirst = t .indexFirst;
                       indexSlots = subst (λ (n : ℕ). Below n numbers) (sym slotsLong) (t .indexSlots);
-                      indexMarks = subst (λ (n : ℕ). Below n numbers) (sym marksLong) (t .indexMarks);
                       short = t .short;
                     }
 
                 behind :
-                    Advanced (own .scene .ms) (here own .o) (nets (w .progress own)) at base image slots′ marks′ image′ next filled′
+                    Advanced (own .scene .ms) (here own .o) (nets (w .progress own)) at base image slots′ image′ (place + i)
+                    references references′ next filled′
                     → filled′ ≤ next
                 behind a =
                     let before = w .placed .behind in

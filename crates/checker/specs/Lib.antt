@@ -1,6 +1,7 @@
 -- What the check's functions take and answer.
 pub mod Filed
 pub mod Numbering
+pub mod Notes
 pub mod References
 pub mod Scene
 pub mod Occurrences

@@ -18,12 +18,12 @@ fn check_each(
     first: &[u16],
     repeated: usize,
     slots: &mut [u32],
-    marks: &mut [u32],
     image: &mut [u16],
     nets: &mut [usize],
+    references: &mut [u16],
 ) -> Found
-    requires { ⌜ EachReady (now numbers) (now starts) modules (now first) repeated (now slots) (now marks) (now image) (now nets) ⌝ }
-    ensures { λ r. ⌜ ((ms : List Module) → Laidout (now (numbers .entry)) (now (starts .entry)) modules ms → Indexed (now (first .entry)) repeated ms → EachFound r ms (now (image .entry)) (now (image .exit)) (now (nets .exit))) ⌝ }
+    requires { ⌜ EachReady (now numbers) (now starts) modules (now first) repeated (now slots) (now image) (now nets) (now references) ⌝ }
+    ensures { λ r. ⌜ ((ms : List Module) → Laidout (now (numbers .entry)) (now (starts .entry)) modules ms → Indexed (now (first .entry)) repeated ms → EachFound r ms (now (starts .entry)) (now (image .entry)) (now (image .exit)) (now (nets .exit)) (now (references .exit))) ⌝ }
 {
     let mut k = 0;
     while k < modules {
@@ -34,8 +34,8 @@ fn check_each(
             k,
             repeated,
             slots,
-            marks,
             image,
+            references,
         ) {
             Checked::Broken(rule) => {
                 return Found::Broken { rule, place: k };
@@ -49,19 +49,20 @@ fn check_each(
     Found::Fine
 }
 
-// All modules of a file, whose numbers are given; the image then holds the numbers of the resolved file.
+// All modules of a file, whose numbers are given; the image then holds the numbers of the resolved file, and the references
+// are noted beside it.
 pub fn check_modules(
     numbers: &[u16],
     starts: &[usize],
     modules: usize,
     first: &mut [u16],
     slots: &mut [u32],
-    marks: &mut [u32],
     image: &mut [u16],
     nets: &mut [usize],
+    references: &mut [u16],
 ) -> Found
-    requires { ⌜ FileReady (now numbers) (now starts) modules (now first) (now slots) (now marks) (now image) (now nets) ⌝ }
-    ensures { λ r. ⌜ ((ms : List Module) → Laidout (now (numbers .entry)) (now (starts .entry)) modules ms → FileFound r ms (now (image .entry)) (now (image .exit)) (now (nets .exit))) ⌝ }
+    requires { ⌜ FileReady (now numbers) (now starts) modules (now first) (now slots) (now image) (now nets) (now references) ⌝ }
+    ensures { λ r. ⌜ ((ms : List Module) → Laidout (now (numbers .entry)) (now (starts .entry)) modules ms → FileFound r ms (now (starts .entry)) (now (image .entry)) (now (image .exit)) (now (nets .exit)) (now (references .exit))) ⌝ }
 {
     let repeated = crate::numbering::number_modules(numbers, starts, modules, first);
     match check_each(
@@ -71,9 +72,9 @@ pub fn check_modules(
         first,
         repeated,
         slots,
-        marks,
         image,
         nets,
+        references,
     ) {
         Found::Broken { rule, place } => Found::Broken { rule, place },
         Found::Fine => {

@@ -1,25 +1,19 @@
 // What stands of a module in front of its occurrences: rules 6 to 10, and its numbers in the image.
 ghost use Rattle.checker.specs.Heads.{PortsReady, PortsJudged, HeadReady, HeadJudged, HeadWritable, HeadWritten};
 
-// Rules 8 to 10: the one that is broken first, 0 where all hold. The table then knows the inputs.
-fn judge_ports(
-    inputs: &[u16],
-    outputs: &[u16],
-    slots: &mut [u32],
-    base: u32,
-    marks: &mut [u32],
-    stamp: u32,
-) -> u16
-    requires { ⌜ PortsReady (now inputs) (now outputs) (now slots) base (now marks) stamp ⌝ }
-    ensures { λ r. ⌜ PortsJudged (now (inputs .entry)) (now (outputs .entry)) base (now (slots .exit)) (now (marks .exit)) stamp r ⌝ }
+// Rules 8 to 10: the one that is broken first, 0 where all hold. The table then knows the inputs. Before that it knows no net, so the
+// searches for repeats leave their stamps in it, just below the base.
+fn judge_ports(inputs: &[u16], outputs: &[u16], slots: &mut [u32], base: u32) -> u16
+    requires { ⌜ PortsReady (now inputs) (now outputs) (now slots) base ⌝ }
+    ensures { λ r. ⌜ PortsJudged (now (inputs .entry)) (now (outputs .entry)) base (now (slots .exit)) r ⌝ }
 {
-    if nets::repeats::has_repeat(inputs, marks, stamp) {
+    if nets::repeats::has_repeat(inputs, slots, base - 2) {
         return 8;
     }
-    if nets::repeats::has_repeat(outputs, marks, stamp + 1) {
+    if nets::repeats::has_repeat(outputs, slots, base - 1) {
         return 9;
     }
-    nets::table::learn(inputs, slots, base, 0);
+    nets::table::learn(inputs, slots, base);
     if nets::table::any_known(outputs, slots, base) {
         return 10;
     }
@@ -35,10 +29,9 @@ pub fn judge_head(
     repeated: usize,
     slots: &mut [u32],
     base: u32,
-    marks: &mut [u32],
 ) -> u16
-    requires { ⌜ HeadReady (now numbers) (now slots) base s (now marks) ⌝ }
-    ensures { λ r. ⌜ HeadJudged (now (numbers .entry)) base k repeated s (now (slots .exit)) (now (marks .exit)) r ⌝ }
+    requires { ⌜ HeadReady (now numbers) (now slots) base s ⌝ }
+    ensures { λ r. ⌜ HeadJudged (now (numbers .entry)) base k repeated s (now (slots .exit)) r ⌝ }
 {
     if numbers[s] < 16 {
         return 6;
@@ -50,23 +43,28 @@ pub fn judge_head(
     let n = crate::lists::list_end(numbers, s + 1);
     let o = n + 1;
     let e = crate::lists::list_end(numbers, n);
-    judge_ports(
-        &numbers[i..n],
-        &numbers[o..e],
-        slots,
-        base,
-        marks,
-        (s + 1) as u32,
-    )
+    judge_ports(&numbers[i..n], &numbers[o..e], slots, base)
 }
 
-// Sets the head down: position, inputs and outputs by their slots, and the counts.
-pub fn write_head(numbers: &[u16], s: usize, k: usize, slots: &[u32], base: u32, image: &mut [u16])
-    requires { ⌜ HeadWritable (now numbers) (now slots) base k s (now image) ⌝ }
-    ensures { λ _. ⌜ HeadWritten (now (numbers .entry)) (now (slots .entry)) base k s (now (image .entry)) (now (image .exit)) ⌝ }
+// Sets the head down: position, inputs and outputs by their slots, and the counts. Its inputs are known; answers whether its outputs are.
+pub fn write_head(
+    numbers: &[u16],
+    s: usize,
+    k: usize,
+    slots: &[u32],
+    base: u32,
+    nets: u32,
+    image: &mut [u16],
+) -> bool
+    requires { ⌜ HeadWritable (now numbers) (now slots) base k s nets (now image) ⌝ }
+    ensures { λ r. ⌜ HeadWritten (now (numbers .entry)) (now (slots .entry)) base k s nets (now (image .entry)) (now (image .exit)) r ⌝ }
 {
+    let i = s + 1;
+    let o = crate::lists::list_end(numbers, i);
+    let e = crate::lists::list_end(numbers, o);
     image[s] = (16 + k) as u16;
-    let o = crate::lists::write_list(numbers, s + 1, slots, base, image);
-    let e = crate::lists::write_list(numbers, o, slots, base, image);
+    crate::lists::write_list(numbers, i, slots, base, nets, image);
+    let known = crate::lists::write_list(numbers, o, slots, base, nets, image);
     image[e] = numbers[e];
+    known
 }

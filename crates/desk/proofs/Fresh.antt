@@ -1,4 +1,4 @@
--- An array of zeros, however long, is a clear table, and one of ones has no entry above 1.
+-- An array of zeros, however long, is a clear table, and one of zeros or of ones has no entry above 1.
 use Prim.Native.Nat.{ℕ, zero, suc, _<_}
 use mathlib.Core.Path.{_≡_, refl}
 use native.Mathlib.Omega.{arith}
@@ -14,10 +14,10 @@ zeros n = record { zero = zero-at n }
     zero-at (suc n) zero = refl
     zero-at (suc n) (suc i) = zero-at n i
 
-pub ones : (n : ℕ) → Below 2 (replicate n 1)
-ones n = record { below = low-at n }
+pub low : (n x : ℕ) → x < 2 → Below 2 (replicate n x)
+low n x small = record { below = low-at n }
   where
-    low-at : (n i : ℕ) → getD (replicate n 1) i 0 < 2
+    low-at : (n i : ℕ) → getD (replicate n x) i 0 < 2
     low-at zero i = omega arith
-    low-at (suc n) zero = omega arith
+    low-at (suc n) zero = small
     low-at (suc n) (suc i) = low-at n i

@@ -12,6 +12,7 @@ use Rattle.image.specs.Laid.{laid}
 use Rattle.image.specs.Resolved.{resolve, referTo, resolveModule}
 use Rattle.image.specs.ResolvedLayout.{startOf, stands-at-start, start-of-resolved, resolved-at, length-of-image}
 use Rattle.image.specs.Fitting.{good-fits}
+use Rattle.checker.specs.Notes.{Noted}
 use Rattle.checker.specs.Files.{Laidout, FileReady, FileFound, Counted}
 use Rattle.checker.specs.declared.files.Found.{Found}
 use Rattle.sizes.specs.Measured.{Imaged, Measurable, Measures, Long, Tabled}
@@ -34,17 +35,19 @@ pub sizes-decide : (ms : List Module) → modulesVerdict 0 ms ≡ good → fileV
 unfolding fileVerdict
 sizes-decide ms e = ap (λ (v : Verdict). andThen v (sizesVerdict 0 ms)) e
 
-module _ {numbers starts : List ℕ} {modules : ℕ} {ms : List Module} (l : Laidout numbers starts modules ms) (image₀ : List ℕ) {image nets : List ℕ} (exact : length image₀ ≡ length numbers)
+module _ {numbers starts : List ℕ} {modules : ℕ} {ms : List Module} (l : Laidout numbers starts modules ms) (image₀ : List ℕ) {image nets references : List ℕ} (exact : length image₀ ≡ length numbers)
     (good-modules : modulesVerdict 0 ms ≡ good) (written : image ≡ laid image₀ 0 (fileNumbers (resolve ms))) (counted : Counted ms nets)
+    (noted : Noted ms starts references)
   where
     pub image-is : image ≡ fileNumbers (resolve ms)
     image-is = written ∙ laid-whole image₀ (fileNumbers (resolve ms)) (omega (arith, length-of-image ms, ap length (l .numbersAre)))
 
-    pub imaged : Imaged image starts nets ms
+    pub imaged : Imaged image references starts nets ms
     imaged =
         record {
           fits = good-fits 0 ms good-modules;
           standing = standing;
+          noted = noted .noted;
           counted = counted .count;
         }
       where
@@ -68,22 +71,25 @@ module _ {numbers starts : List ℕ} {modules : ℕ} {ms : List Module} (l : Lai
         }
 
 -- The stage's answer in each of its three ways.
-module _ {numbers starts : List ℕ} {modules : ℕ} {first slots marks image₀ nets₀ sizes₀ rooms₀ : List ℕ} (stage : CheckedStage numbers starts modules first slots marks image₀ nets₀ sizes₀ rooms₀)
-    (found : Found) (image nets : List ℕ) (checked : (ms : List Module) → Laidout numbers starts modules ms → FileFound found ms image₀ image nets)
+module _
+    {numbers starts : List ℕ} {modules : ℕ} {first slots image₀ nets₀ sizes₀ rooms₀ references₀ : List ℕ}
+    (stage : CheckedStage numbers starts modules first slots image₀ nets₀ sizes₀ rooms₀ references₀)
+    (found : Found) (image nets references : List ℕ)
+    (checked : (ms : List Module) → Laidout numbers starts modules ms → FileFound found ms starts image₀ image nets references)
   where
     pub stage-broken : (rule place : ℕ) → found ≡ Found.Broken rule place → (sizes rooms : List ℕ) → Checks (Refused rule place) numbers starts modules image nets sizes rooms
     stage-broken rule place e sizes rooms =
-        record { checks = λ ms l. modules-broken ms rule place (subst (λ (f : Found). FileFound f ms image₀ image nets) e (checked ms l)) }
+        record { checks = λ ms l. modules-broken ms rule place (subst (λ (f : Found). FileFound f ms starts image₀ image nets references) e (checked ms l)) }
 
     module _ (e : found ≡ Found.Fine) where
-      fine : (ms : List Module) → Laidout numbers starts modules ms → FileFound Found.Fine ms image₀ image nets
-      fine ms l = subst (λ (f : Found). FileFound f ms image₀ image nets) e (checked ms l)
+      fine : (ms : List Module) → Laidout numbers starts modules ms → FileFound Found.Fine ms starts image₀ image nets references
+      fine ms l = subst (λ (f : Found). FileFound f ms starts image₀ image nets references) e (checked ms l)
 
-      image-of : (ms : List Module) → Laidout numbers starts modules ms → Imaged image starts nets ms
-      image-of ms l = imaged l image₀ (stage .exact) (fine ms l .0) (fine ms l .1) (fine ms l .2)
+      image-of : (ms : List Module) → Laidout numbers starts modules ms → Imaged image references starts nets ms
+      image-of ms l = imaged l image₀ (stage .exact) (fine ms l .0) (fine ms l .1) (fine ms l .2) (fine ms l .3)
 
-      pub measurable : length image ≡ length image₀ → length nets ≡ length nets₀ → Measurable image starts nets modules sizes₀ rooms₀
-      measurable imageKept netsKept =
+      pub measurable : length nets ≡ length nets₀ → Measurable image references starts nets modules sizes₀ rooms₀
+      measurable netsKept =
           let ready = stage .ready in
           let l = ready .laidout in
           record {
@@ -93,7 +99,6 @@ module _ {numbers starts : List ℕ} {modules : ℕ} {first slots marks image₀
             long =
                 record {
                   few = omega (arith, l .all, l .few);
-                  short = omega (arith, stage .exact, ready .roomy .tables .short);
                   startsLong = omega (arith, l .all, l .listed);
                   netsLong = omega (arith, ready .roomy .netsLong);
                   sizesLong = stage .sizesLong;
@@ -101,7 +106,7 @@ module _ {numbers starts : List ℕ} {modules : ℕ} {first slots marks image₀
                 };
           }
 
-      module _ (sized : Sized) (sizes rooms : List ℕ) (measured : (ms : List Module) → Imaged image starts nets ms → modules ≡ length ms → Measures 0 sized ms sizes rooms) where
+      module _ (sized : Sized) (sizes rooms : List ℕ) (measured : (ms : List Module) → Imaged image references starts nets ms → modules ≡ length ms → Measures 0 sized ms sizes rooms) where
         pub stage-over : (place : ℕ) → sized ≡ Sized.Over place → Checks (Refused 17 place) numbers starts modules image nets sizes rooms
         stage-over place s =
             record {
@@ -114,5 +119,5 @@ module _ {numbers starts : List ℕ} {modules : ℕ} {first slots marks image₀
             record {
               checks = λ ms l.
                   let t = subst (λ (z : Sized). Measures 0 z ms sizes rooms) s (measured ms (image-of ms l) (l .all)) in
-                  (refl, refl, figured l image₀ (stage .exact) (fine ms l .0) (fine ms l .1) (fine ms l .2) (t .0) (t .1));
+                  (refl, refl, figured l image₀ (stage .exact) (fine ms l .0) (fine ms l .1) (fine ms l .2) (fine ms l .3) (t .0) (t .1));
             }

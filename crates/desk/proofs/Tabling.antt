@@ -1,5 +1,5 @@
--- Tables as long as the bound of a file's numbers, with nothing entered in them, are what the check asks.
-use Prim.Native.Nat.{ℕ, _≤_}
+-- Tables as long as the bound of a file's numbers, with nothing entered in them, and room to note its references are what the check asks.
+use Prim.Native.Nat.{ℕ, _*_, _≤_}
 use mathlib.Core.List.{List}
 use native.Mathlib.Omega.{arith}
 use lib.ListN.{length}
@@ -7,12 +7,13 @@ use Rattle.nets.specs.Slots.{Below}
 use Rattle.desk.specs.Stages.{NumbersStage, Clear, CheckedStage}
 
 pub tabled :
-    {bound : ℕ} {numbers starts : List ℕ} {modules : ℕ} {first slots marks image nets sizes rooms : List ℕ}
+    {bound : ℕ} {numbers starts : List ℕ} {modules : ℕ} {first slots image nets sizes rooms references : List ℕ}
     → NumbersStage bound numbers starts modules image nets sizes rooms
-    → (bound ≤ length first) × (bound ≤ length slots) × (bound ≤ length marks)
-    → Clear first × Below 2 slots × Below 2 marks
-    → CheckedStage numbers starts modules first slots marks image nets sizes rooms
-tabled {bound} {numbers} {first = first} {slots} {marks} s long clear =
+    → (bound ≤ length first) × (bound ≤ length slots)
+    → Clear first × Below 2 slots
+    → length numbers ≤ 3 * length references
+    → CheckedStage numbers starts modules first slots image nets sizes rooms references
+tabled {bound} {numbers} {first = first} {slots} s long clear noting =
     record {
       ready =
           record {
@@ -24,15 +25,14 @@ tabled {bound} {numbers} {first = first} {slots} {marks} s long clear =
                       record {
                         indexFirst = inside (length first) (long .0);
                         indexSlots = inside (length slots) (long .1);
-                        indexMarks = inside (length marks) (long .2);
                         short = s .short;
                       };
                   room = omega (arith, s .exact);
                   netsLong = s .netsLong;
+                  noting = noting;
                 };
             clearFirst = clear .0 .zero;
             lowSlots = clear .1;
-            lowMarks = clear .2;
           };
       exact = s .exact;
       sizesLong = s .sizesLong;

@@ -31,8 +31,8 @@ pub record Clear (table : List ℕ) : Type 0 where
   pub zero : (x : ℕ) → getD table x 0 ≡ 0
 
 -- The tables are there too, indexed by the numbers.
-pub record CheckedStage (numbers starts : List ℕ) (modules : ℕ) (first slots marks image nets sizes rooms : List ℕ) : Type 0 where
-  pub ready : FileReady numbers starts modules first slots marks image nets
+pub record CheckedStage (numbers starts : List ℕ) (modules : ℕ) (first slots image nets sizes rooms references : List ℕ) : Type 0 where
+  pub ready : FileReady numbers starts modules first slots image nets references
   pub exact : length image ≡ length numbers
   pub sizesLong : modules ≤ length sizes
   pub roomsLong : modules ≤ length rooms

@@ -1,8 +1,8 @@
--- Entries below a bound: a higher bound, a part of the list, and a list of zeros.
+-- Entries below a bound: a higher bound, and a part of the list.
 use Prim.Native.Nat.{ℕ, zero, suc, _+_, _<_, _≤_}
 use native.Mathlib.Omega.{arith}
 use mathlib.Core.List.{List, [], _∷_}
-use lib.ListN.{getD, take, drop, replicate}
+use lib.ListN.{getD, take, drop}
 use lib.Seq.{getD-drop}
 use Rattle.nets.specs.Slots.{Below}
 
@@ -18,11 +18,3 @@ below-part {b} {xs} from count low =
     front (suc n) [] h i = h i
     front (suc n) (y ∷ ys) h zero = h 0
     front (suc n) (y ∷ ys) h (suc i) = front n ys (λ j. h (suc j)) i
-
-pub below-zeros : (n b : ℕ) → 0 < b → Below b (replicate n 0)
-below-zeros n b h = record { below = zeros n }
-  where
-    zeros : (n i : ℕ) → getD {A = ℕ} (replicate n 0) i 0 < b
-    zeros zero i = h
-    zeros (suc n) zero = h
-    zeros (suc n) (suc i) = zeros n i

@@ -5,5 +5,6 @@ pub mod Members
 pub mod Walks
 pub mod Bounds
 pub mod Marks
+pub mod Writing
 pub mod SlotLaws
 pub mod Tables

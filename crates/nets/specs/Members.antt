@@ -1,11 +1,10 @@
 -- Membership, repeats, disjoint lists and sublists, over lists that are joined or grow at their end: the nets of a module are such a
 -- list, and what the rules ask of it depends only on which nets it has.
-use Prim.Native.Nat.{ℕ, zero, suc, _<_}
-use native.Mathlib.Nat.{le-of-suc-le-suc, not-suc-le-zero}
+use Prim.Native.Nat.{ℕ, suc, _<_}
 use mathlib.Core.Path.{_≡_, refl, sym, ap, ap₂, _∙_}
-use mathlib.Core.Bool.{Bool, true, false, not, _||_, or-assoc, or-comm}
+use mathlib.Core.Bool.{Bool, true, false, not, _&&_, _||_, or-assoc, or-comm}
 use mathlib.Core.List.{List, [], _∷_, _++_, map}
-use borrow.Author.Tests.{eq-eqb, not-true}
+use borrow.Author.Tests.{eq-eqb}
 use lib.Dec.{eqb}
 use lib.ListN.{length, getD, take, drop, take-append-drop}
 use lib.Seq.{take-suc}
@@ -35,20 +34,6 @@ module _ (ns ms : List ℕ) (same : (x : ℕ) → member x ns ≡ member x ms) w
   subset-same [] = refl
   subset-same (x ∷ l) = rw (same x, subset-same l)
 
--- What holds of each entry of a list that is disjoint from another, or a sublist of it.
-pub disjoint-entry : (l ns : List ℕ) (i : ℕ) → i < length l → disjoint l ns ≡ true → member (getD l i 0) ns ≡ false
-unfolding disjoint
-disjoint-entry [] ns i h d = absurd (not-suc-le-zero h)
-disjoint-entry (x ∷ l) ns zero h d = not-true (member x ns) (and-left (not (member x ns)) (disjoint l ns) d)
-disjoint-entry (x ∷ l) ns (suc i) h d =
-    disjoint-entry l ns i (le-of-suc-le-suc h) (and-right (not (member x ns)) (disjoint l ns) d)
-
-pub subset-entry : (l ns : List ℕ) (i : ℕ) → i < length l → subset l ns ≡ true → member (getD l i 0) ns ≡ true
-unfolding subset
-subset-entry [] ns i h s = absurd (not-suc-le-zero h)
-subset-entry (x ∷ l) ns zero h s = and-left (member x ns) (subset l ns) s
-subset-entry (x ∷ l) ns (suc i) h s = subset-entry l ns i (le-of-suc-le-suc h) (and-right (member x ns) (subset l ns) s)
-
 -- A sublist stays one when the list grows, at its end or at its front.
 pub subset-append-left : (l ns ms : List ℕ) → subset l ns ≡ true → subset l (ns ++ ms) ≡ true
 unfolding subset
@@ -76,19 +61,18 @@ map-subset f g ns alike [] s = refl
 map-subset f g ns alike (x ∷ l) s =
     ap₂ _∷_ (alike x (and-left (member x ns) (subset l ns) s)) (map-subset f g ns alike l (and-right (member x ns) (subset l ns) s))
 
--- A list stays disjoint when the other grows by a net that it lacks.
-pub disjoint-snoc :
-    (l ns : List ℕ) (x : ℕ) → disjoint l ns ≡ true → member x l ≡ false → disjoint l (ns ++ (x ∷ [])) ≡ true
+-- A list is disjoint from one that grows by a net if it was and lacks the net.
+pub disjoint-snoc : (l ns : List ℕ) (x : ℕ) → disjoint l (ns ++ (x ∷ [])) ≡ (disjoint l ns && not (member x l))
 unfolding disjoint member
-disjoint-snoc [] ns x d m = refl
-disjoint-snoc (y ∷ l) ns x d m =
-    rw (
-      member-append y ns (x ∷ []),
-      not-true (member y ns) (and-left (not (member y ns)) (disjoint l ns) d),
-      eqb-sym y x,
-      or-left (eqb x y) (member x l) m,
-    )
-    (disjoint-snoc l ns x (and-right (not (member y ns)) (disjoint l ns) d) (or-right (eqb x y) (member x l) m))
+disjoint-snoc [] ns x = refl
+disjoint-snoc (y ∷ l) ns x =
+    rw (member-append y ns (x ∷ []), disjoint-snoc l ns x, eqb-sym y x) (regroup (member y ns) (eqb x y) (disjoint l ns) (member x l))
+  where
+    regroup : (n e j m : Bool) → (not (n || (e || false)) && (j && not m)) ≡ ((not n && j) && not (e || m))
+    regroup true e j m = refl
+    regroup false true true m = refl
+    regroup false true false m = refl
+    regroup false false j m = refl
 
 -- A list that grows by one net repeats one if it did, or if it had the net.
 pub duplicates-snoc : (xs : List ℕ) (x : ℕ) → duplicates (xs ++ (x ∷ [])) ≡ (member x xs || duplicates xs)

@@ -1,5 +1,6 @@
 -- Where nets stand: a net's slot is below the number of nets, keeps when nets are added, and nets that are added take the next slots.
-use Prim.Native.Nat.{ℕ, suc, _<_}
+use Prim.Native.Nat.{ℕ, suc, _+_, _<_}
+use native.Mathlib.Nat.{add-zero, zero-add, suc-add}
 use native.Mathlib.Numerals.{add-one}
 use native.Mathlib.Omega.{arith}
 use mathlib.Core.Path.{_≡_, refl, sym, ap, ap₂, _∙_}
@@ -7,13 +8,13 @@ use mathlib.Core.Bool.{Bool, true, false, not, _||_, cond, true≢false}
 use mathlib.Core.List.{List, [], _∷_, _++_, map}
 use borrow.Author.Tests.{eq-eqb, not-true}
 use lib.Dec.{eqb}
-use lib.ListN.{length, getD, take, drop, length-append}
-use lib.Seq.{split-at, length-take-le, append-snoc}
+use lib.ListN.{length, length-append}
+use lib.Seq.{append-snoc}
 use Rattle.meaning.specs.Boxlist.{member, disjoint, duplicates, subset}
 use Rattle.meaning.specs.Adder.{upFrom}
 use Rattle.nets.specs.Slots.{slotOf}
 use Rattle.nets.specs.Booleans.{or-left, or-right, and-left, and-right}
-use Rattle.nets.specs.Members.{map-subset, disjoint-snoc, entry-fresh}
+use Rattle.nets.specs.Members.{map-subset, disjoint-snoc}
 
 pub slot-below : (x : ℕ) (xs : List ℕ) → member x xs ≡ true → slotOf x xs < length xs
 unfolding member slotOf
@@ -43,19 +44,18 @@ pub slots-append :
 slots-append l xs ys s =
     map-subset (λ (x : ℕ). slotOf x (xs ++ ys)) (λ (x : ℕ). slotOf x xs) xs (λ x m. slot-append x xs ys m) l s
 
--- A net that is added takes the next slot.
-pub slot-fresh : (x : ℕ) (xs ys : List ℕ) → member x xs ≡ false → slotOf x (xs ++ (x ∷ ys)) ≡ length xs
+-- A net that stands only among those that are added has its slot behind the others.
+pub slot-behind : (x : ℕ) (xs ys : List ℕ) → member x xs ≡ false → slotOf x (xs ++ ys) ≡ length xs + slotOf x ys
 unfolding member slotOf
-slot-fresh x [] ys m = rw (eq-eqb x x refl)
-slot-fresh x (y ∷ xs) ys m =
-    rw (or-left (eqb x y) (member x xs) m) (ap suc (slot-fresh x xs ys (or-right (eqb x y) (member x xs) m)))
+slot-behind x [] ys m = sym (zero-add (slotOf x ys))
+slot-behind x (y ∷ xs) ys m =
+    rw (or-left (eqb x y) (member x xs) m, suc-add (length xs) (slotOf x ys))
+    (ap suc (slot-behind x xs ys (or-right (eqb x y) (member x xs) m)))
 
--- In a list without repeats each entry's slot is its place.
-pub slot-of-entry : (xs : List ℕ) (i : ℕ) → i < length xs → duplicates xs ≡ false → slotOf (getD xs i 0) xs ≡ i
-slot-of-entry xs i h e =
-    ap (slotOf (getD xs i 0)) (split-at xs i 0 h)
-    ∙ slot-fresh (getD xs i 0) (take i xs) (drop (suc i) xs) (entry-fresh xs i h e)
-    ∙ length-take-le i xs (omega arith)
+-- One that is added takes the next slot.
+pub slot-fresh : (x : ℕ) (xs ys : List ℕ) → member x xs ≡ false → slotOf x (xs ++ (x ∷ ys)) ≡ length xs
+unfolding slotOf
+slot-fresh x xs ys m = slot-behind x xs (x ∷ ys) m ∙ rw (eq-eqb x x refl) (add-zero (length xs))
 
 -- New nets, no two of them the same, take the next slots in order.
 pub slots-appended :
@@ -69,8 +69,7 @@ slots-appended nets (x ∷ list) d e =
     (rest
     (slots-appended (nets ++ (x ∷ [])) list
     (disjoint-snoc list nets x
-    (and-right (not (member x nets)) (disjoint list nets) d)
-    (or-left (member x list) (duplicates list) e))
+    ∙ rw (and-right (not (member x nets)) (disjoint list nets) d, or-left (member x list) (duplicates list) e))
     (or-right (member x list) (duplicates list) e)))
   where
     rest :

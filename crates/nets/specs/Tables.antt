@@ -1,20 +1,21 @@
--- What a table that knows the nets of a list tells of them, how it learns one more, and how it starts afresh.
-use Prim.Native.Nat.{ℕ, _+_, _-_, _<_, _≤_}
-use native.Mathlib.Nat.{add-sub-cancel-left}
+-- What a table that knows the nets of a list tells of them, how it learns one more, and how it starts afresh; and what learning and
+-- resolving a list ask and come to.
+use Prim.Native.Nat.{ℕ, _+_, _%_, _^_, _<_, _≤_}
 use native.Mathlib.Omega.{arith}
-use mathlib.Core.Path.{_≡_, refl, sym, ap, _∙_}
+use mathlib.Core.Path.{_≡_, refl, sym, _∙_}
 use mathlib.Core.Bool.{Bool, true, false, _||_, true≢false, or-false}
 use mathlib.Core.List.{List, [], _∷_, _++_, map}
 use borrow.Author.Tests.{le-leb, lt-leb, eqb-true, eqb-false}
 use lib.Dec.{eqb, leb}
-use lib.ListN.{length, getD, set, replicate}
+use lib.ListN.{length, getD, set}
 use lib.Seq.{getD-set-same, getD-set-other}
 use Rattle.meaning.specs.Boxlist.{member, subset}
 use Rattle.nets.specs.Slots.{slotOf, Knows, Below}
 use Rattle.nets.specs.Booleans.{or-left, or-right}
-use Rattle.nets.specs.Members.{member-append, map-subset}
-use Rattle.nets.specs.Bounds.{below-zeros}
-use Rattle.nets.specs.SlotLaws.{slot-below, slot-append, slot-fresh}
+use Rattle.nets.specs.Members.{member-append}
+use Rattle.nets.specs.Walks.{apart}
+use Rattle.nets.specs.SlotLaws.{slot-below, slot-append, slot-behind, slot-fresh}
+use Rattle.nets.specs.Writing.{holding}
 
 -- A net is known if its entry is not below the base.
 pub known-member :
@@ -24,18 +25,6 @@ known-member table base nets k x = go (member x nets) refl
     go : (b : Bool) → member x nets ≡ b → b ≡ leb base (getD table x 0)
     go true e = let h = k .inside x e in sym (le-leb base (getD table x 0) (omega arith))
     go false e = sym (lt-leb base (getD table x 0) (k .outside x e))
-
--- A table knows nets by which they are and by their slots, however they are listed.
-pub knows-same :
-    {table : List ℕ} {base : ℕ} {ns : List ℕ} (ms : List ℕ) → Knows table base ns
-    → ((x : ℕ) → member x ms ≡ member x ns)
-    → ((x : ℕ) → member x ms ≡ true → slotOf x ms ≡ slotOf x ns)
-    → Knows table base ms
-knows-same {base = base} ms k same slots =
-    record {
-      inside = λ x e. k .inside x (sym (same x) ∙ e) ∙ ap (λ (s : ℕ). base + s) (sym (slots x e));
-      outside = λ x e. k .outside x (sym (same x) ∙ e);
-    }
 
 -- With the next slot stored at a new net the table knows that net too.
 pub knows-one :
@@ -65,38 +54,77 @@ knows-one {table} {base} {nets} x h m k =
         rw (getD-set-other table x y (base + length nets) 0 (eqb-false y x q))
         (k .outside y (or-left (member y nets) false (sym (both y false q) ∙ e)))
 
--- With a base that is higher by the number of nets the table knows none: the next module starts there.
-pub next-base : {table : List ℕ} {base : ℕ} {nets : List ℕ} (d : ℕ) → Knows table base nets → length nets ≤ d → Knows table (base + d) []
-unfolding member
-next-base {table} {base} {nets} d k h =
-    record { inside = λ x e. absurd (true≢false (sym e)); outside = λ x e. go x (member x nets) refl }
+-- No entry is above the slots: the next module's base lies there.
+pub known-below : {table : List ℕ} {base : ℕ} {nets : List ℕ} (d : ℕ) → Knows table base nets → length nets ≤ d → Below (base + d) table
+known-below {table} {base} {nets} d k h = record { below = λ x. go x (member x nets) refl }
   where
     go : (x : ℕ) (b : Bool) → member x nets ≡ b → getD table x 0 < base + d
     go x true e = omega (arith, k .inside x e, slot-below x nets e)
     go x false e = omega (arith, k .outside x e)
 
--- A table of zeros knows no net.
-pub knows-none : (n base : ℕ) → 0 < base → Knows (replicate n 0) base []
+-- A table whose entries are all below the base knows no net.
+pub knows-none : {table : List ℕ} {base : ℕ} → Below base table → Knows table base []
 unfolding member
-knows-none n base h =
-    record { inside = λ x e. absurd (true≢false (sym e)); outside = λ x e. below-zeros n base h .below x }
+knows-none low = record { inside = λ x e. absurd (true≢false (sym e)); outside = λ x e. low .below x }
 
--- The slots of known nets, read off the table.
-pub slots-read :
-    {table : List ℕ} {base : ℕ} {nets : List ℕ} → Knows table base nets → (l : List ℕ) → subset l nets ≡ true
-    → map (λ (x : ℕ). getD table x 0 - base) l ≡ map (λ (x : ℕ). slotOf x nets) l
-slots-read {table} {base} {nets} k l s =
-    map-subset (λ (x : ℕ). getD table x 0 - base) (λ (x : ℕ). slotOf x nets) nets
-    (λ x m. ap (λ (n : ℕ). n - base) (k .inside x m) ∙ add-sub-cancel-left base (slotOf x nets))
-    l
-    s
+-- The slot of a net, counted from the base modulo 2 ^ 32, where the table knows `more` behind `nets` and the limit is between them.
+module _
+    {table : List ℕ} {base limit : ℕ} (nets more : List ℕ) (k : Knows table base (nets ++ more)) (between : limit ≡ length nets)
+    (high : base + limit ≤ 2 ^ 32) (x slot : ℕ) (small : slot < 2 ^ 32) (counted : (slot + base) % 2 ^ 32 ≡ getD table x 0) where
+  -- A net in front of the limit has its slot there.
+  pub slot-in-front : member x nets ≡ true → slot ≡ slotOf x (nets ++ more)
+  slot-in-front e =
+      let entry = k .inside x (member-append x nets more ∙ rw e) in
+      let front = slot-append x nets more e in
+      let below = slot-below x nets e in
+      omega arith
 
--- The nets of a list can be written as slots into an image from a place on: the table knows each of them, every slot fits a number of
--- the image, and there is room.
-pub record Resolvable (list table : List ℕ) (base : ℕ) (image : List ℕ) (at : ℕ) : Type 0 where
-  pub nets : List ℕ
-  pub knows : Knows table base nets
-  pub listed : subset list nets ≡ true
-  pub few : length nets ≤ 65536
+  pub front-below : slot < limit → member x nets ≡ true
+  front-below h = go (member x nets) (member x more) refl refl
+    where
+      go : (b d : Bool) → member x nets ≡ b → member x more ≡ d → b ≡ true
+      go true d e f = refl
+      go false true e f =
+          let entry = k .inside x (member-append x nets more ∙ rw (e, f)) in
+          let behind = slot-behind x nets more e in
+          absurd (omega arith)
+      go false false e f = let entry = k .outside x (member-append x nets more ∙ rw (e, f)) in absurd (omega arith)
+
+  pub front-above : limit ≤ slot → member x nets ≡ false
+  front-above h = go (member x nets) refl
+    where
+      go : (b : Bool) → member x nets ≡ b → b ≡ false
+      go true e =
+          let is = slot-in-front e in
+          let front = slot-append x nets more e in
+          let below = slot-below x nets e in
+          absurd (omega arith)
+      go false e = refl
+
+-- What learning a list of nets asks: they are indices of the table, slots from `first` on fit a number of the image, and there is room
+-- for them from a place on.
+pub record Learnable (list table : List ℕ) (base first : ℕ) (image : List ℕ) (at : ℕ) : Type 0 where
   pub inTable : Below (length table) list
+  pub few : first + length list ≤ 65536
+  pub high : base + 65536 ≤ 2 ^ 32
   pub room : at + length list ≤ length image
+
+-- What it comes to where the table knew `nets`: whether the nets of the list are new, and then the table knows them too and their slots
+-- are in the image.
+pub record Learnt (nets list : List ℕ) (base : ℕ) (image : List ℕ) (at : ℕ) (table′ image′ : List ℕ) (r : Bool) : Type 0 where
+  pub answer : r ≡ apart list nets
+  pub knows : r ≡ true → Knows table′ base (nets ++ list)
+  pub written : r ≡ true → image′ ≡ holding image at (map (λ (x : ℕ). slotOf x (nets ++ list)) list)
+
+-- What resolving a list of nets asks likewise.
+pub record Resolvable (list table : List ℕ) (base limit : ℕ) (image : List ℕ) (at : ℕ) : Type 0 where
+  pub inTable : Below (length table) list
+  pub few : limit ≤ 65536
+  pub high : base + 65536 ≤ 2 ^ 32
+  pub room : at + length list ≤ length image
+
+-- What it comes to where the table knows `more` behind `nets`: whether the list has none but `nets`, and then their slots are in the
+-- image.
+pub record Resolved (nets more list image : List ℕ) (at : ℕ) (image′ : List ℕ) (r : Bool) : Type 0 where
+  pub answer : r ≡ subset list nets
+  pub written : r ≡ true → image′ ≡ holding image at (map (λ (x : ℕ). slotOf x (nets ++ more)) list)

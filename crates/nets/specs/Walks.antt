@@ -3,24 +3,17 @@
 use Prim.Native.Nat.{ℕ, _+_, _<_, _≤_}
 use native.Mathlib.Numerals.{add-one}
 use mathlib.Core.Path.{_≡_, refl, ap}
-use mathlib.Core.Bool.{Bool, true, false, not, _&&_, _||_, cond, Bool·beq}
+use mathlib.Core.Bool.{Bool, true, false, not, _&&_, _||_}
 use mathlib.Core.List.{List, [], _∷_, _++_}
 use lib.Dec.{eqb}
 use lib.ListN.{length, getD, take, drop, drop-of-length-le}
 use lib.Seq.{take-suc, drop-cons}
 use Rattle.meaning.specs.Boxlist.{member, disjoint, duplicates, subset}
+use Rattle.nets.specs.Members.{disjoint-snoc}
 
--- All nets of a list stand in another, or, where `known` is false, none does.
-abbrev pub alike : (known : Bool) (l ns : List ℕ) → Bool
-alike known l ns = cond known (subset l ns) (disjoint l ns)
-
-beq-true : (b : Bool) → Bool·beq b true ≡ b
-beq-true true = refl
-beq-true false = refl
-
-beq-false : (b : Bool) → Bool·beq b false ≡ not b
-beq-false true = refl
-beq-false false = refl
+-- The nets of a list are new: no two of them are the same, and none stands in the other list.
+abbrev pub apart : (l ns : List ℕ) → Bool
+apart l ns = not (duplicates l) && disjoint l ns
 
 module _ (l : List ℕ) (i : ℕ) (h : i < length l) where
   pub from-here : drop i l ≡ getD l i 0 ∷ drop (i + 1) l
@@ -37,12 +30,31 @@ module _ (l : List ℕ) (i : ℕ) (h : i < length l) where
   unfolding duplicates
   duplicates-here = ap duplicates from-here
 
-  pub alike-here :
-      (ns : List ℕ) (known : Bool)
-      → alike known (drop i l) ns ≡ (Bool·beq (member (getD l i 0) ns) known && alike known (drop (i + 1) l) ns)
-  unfolding disjoint subset
-  alike-here ns true = rw (from-here, beq-true (member (getD l i 0) ns))
-  alike-here ns false = rw (from-here, beq-false (member (getD l i 0) ns))
+  pub disjoint-here : (ns : List ℕ) → disjoint (drop i l) ns ≡ (not (member (getD l i 0) ns) && disjoint (drop (i + 1) l) ns)
+  unfolding disjoint
+  disjoint-here ns = rw from-here
+
+  pub subset-here : (ns : List ℕ) → subset (drop i l) ns ≡ (member (getD l i 0) ns && subset (drop (i + 1) l) ns)
+  unfolding subset
+  subset-here ns = rw from-here
+
+  -- The net here is new and the rest is apart from it too.
+  pub apart-here : (ns : List ℕ) → apart (drop i l) ns ≡ (not (member (getD l i 0) ns) && apart (drop (i + 1) l) (ns ++ (getD l i 0 ∷ [])))
+  apart-here ns =
+      rw (duplicates-here, disjoint-here ns, disjoint-snoc (drop (i + 1) l) ns (getD l i 0))
+      (regroup (member (getD l i 0) (drop (i + 1) l)) (duplicates (drop (i + 1) l)) (member (getD l i 0) ns) (disjoint (drop (i + 1) l) ns))
+    where
+      regroup : (m d n j : Bool) → (not (m || d) && (not n && j)) ≡ (not n && (not d && (j && not m)))
+      regroup true true true j = refl
+      regroup true true false j = refl
+      regroup true false true j = refl
+      regroup true false false true = refl
+      regroup true false false false = refl
+      regroup false true true j = refl
+      regroup false true false j = refl
+      regroup false false true j = refl
+      regroup false false false true = refl
+      regroup false false false false = refl
 
 module _ (l : List ℕ) (i : ℕ) (h : length l ≤ i) where
   pub member-end : (x : ℕ) → member x (drop i l) ≡ false
@@ -53,7 +65,13 @@ module _ (l : List ℕ) (i : ℕ) (h : length l ≤ i) where
   unfolding duplicates
   duplicates-end = ap duplicates (drop-of-length-le l h)
 
-  pub alike-end : (ns : List ℕ) (known : Bool) → alike known (drop i l) ns ≡ true
-  unfolding disjoint subset
-  alike-end ns true = rw (drop-of-length-le l h)
-  alike-end ns false = rw (drop-of-length-le l h)
+  pub disjoint-end : (ns : List ℕ) → disjoint (drop i l) ns ≡ true
+  unfolding disjoint
+  disjoint-end ns = rw (drop-of-length-le l h)
+
+  pub subset-end : (ns : List ℕ) → subset (drop i l) ns ≡ true
+  unfolding subset
+  subset-end ns = rw (drop-of-length-le l h)
+
+  pub apart-end : (ns : List ℕ) → apart (drop i l) ns ≡ true
+  apart-end ns = rw (duplicates-end, disjoint-end ns)

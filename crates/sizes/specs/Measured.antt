@@ -1,11 +1,11 @@
--- Expanded size and room of every module of a file that keeps rules 6 to 16, worked out on its image: what measuring asks, and what
--- its answer says of rule 17 and of the two tables.
-use Prim.Native.Nat.{ℕ, _+_, _≤_}
+-- Expanded size and room of every module of a file that keeps rules 6 to 16, worked out on its image and on the references beside it:
+-- what measuring asks, and what its answer says of rule 17 and of the two tables.
+use Prim.Native.Nat.{ℕ, _+_, _/_, _≤_}
 use mathlib.Core.Path.{_≡_}
-use mathlib.Core.List.{List, _∷_}
+use mathlib.Core.List.{List, _∷_, map}
 use lib.ListN.{length, getD, drop}
-use Rattle.meaning.specs.Syntax.{Module}
-use Rattle.meaning.specs.Reading.{mostModules, mostBytes}
+use Rattle.meaning.specs.Syntax.{Occurrence, Module}
+use Rattle.meaning.specs.Reading.{mostModules}
 use Rattle.meaning.specs.Layout.{moduleNumbers}
 use Rattle.meaning.specs.Limits.{netCount, bodySize, expandedSize}
 use Rattle.meaning.specs.Figures.{largestReferred, room}
@@ -20,29 +20,33 @@ use Rattle.sizes.specs.declared.Sized.the-variants.{Fine, Over}
 abbrev pub At : List Module → ℕ → Module → List Module → Type 0
 At ms k m later = drop k ms ≡ m ∷ later
 
--- What measuring rests on: the image of a file that keeps rules 6 to 16, where each module starts in it, and how many nets each has.
-pub record Imaged (image starts nets : List ℕ) (ms : List Module) : Type 0 where
+-- What measuring rests on: the image of a file that keeps rules 6 to 16, where each module starts in it, what its occurrences refer to
+-- there, noted from a third of that place on, and how many nets each has.
+pub record Imaged (image references starts nets : List ℕ) (ms : List Module) : Type 0 where
   pub fits : Fits ms
   pub standing :
       (k : ℕ) (m : Module) (later : List Module)
       → At ms k m later
       → Stands image (getD starts k 0) (moduleNumbers (resolveModule (referTo ms) k m))
+  pub noted :
+      (k : ℕ) (m : Module) (later : List Module)
+      → At ms k m later
+      → Stands references (getD starts k 0 / 3) (map (λ (o : Occurrence). referTo ms (o .refers)) (m .occurrences))
   pub counted : (k : ℕ) (m : Module) (later : List Module) → At ms k m later → getD nets k 0 ≡ netCount m
 
--- The lists are as long as there are modules, and the image is no longer than a file.
-pub record Long (image starts nets : List ℕ) (modules : ℕ) (sizes rooms : List ℕ) : Type 0 where
+-- The lists are as long as there are modules.
+pub record Long (starts nets : List ℕ) (modules : ℕ) (sizes rooms : List ℕ) : Type 0 where
   pub few : modules ≤ mostModules
-  pub short : length image ≤ mostBytes
   pub startsLong : modules ≤ length starts
   pub netsLong : modules ≤ length nets
   pub sizesLong : modules ≤ length sizes
   pub roomsLong : modules ≤ length rooms
 
-pub record Measurable (image starts nets : List ℕ) (modules : ℕ) (sizes rooms : List ℕ) : Type 0 where
+pub record Measurable (image references starts nets : List ℕ) (modules : ℕ) (sizes rooms : List ℕ) : Type 0 where
   pub ms : List Module
-  pub imaged : Imaged image starts nets ms
+  pub imaged : Imaged image references starts nets ms
   pub all : modules ≡ length ms
-  pub long : Long image starts nets modules sizes rooms
+  pub long : Long starts nets modules sizes rooms
 
 -- The tables have the figures of every module from a position on.
 pub record Tabled (first : ℕ) (ms : List Module) (sizes rooms : List ℕ) : Type 0 where

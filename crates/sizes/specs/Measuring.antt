@@ -48,23 +48,22 @@ measured-over-behind k ms sizes rooms {place = place} h e measured =
 
 -- All behind it are measured: so it can be.
 pub ready-next :
-    {image starts nets : List ℕ} {modules : ℕ} {sizes₀ rooms₀ sizes rooms : List ℕ} (k : ℕ) {ms : List Module} {answer : Sized}
-    → Long image starts nets modules sizes₀ rooms₀
+    {image references starts nets : List ℕ} {modules : ℕ} {sizes₀ rooms₀ sizes rooms : List ℕ} (k : ℕ) {ms : List Module} {answer : Sized}
+    → Long starts nets modules sizes₀ rooms₀
     → length sizes ≡ length sizes₀
     → length rooms ≡ length rooms₀
-    → Imaged image starts nets ms
+    → Imaged image references starts nets ms
     → modules ≡ length ms
     → k < modules
     → answer ≡ Fine
     → Measures (k + 1) answer ms sizes rooms
-    → Ready image starts nets k sizes rooms ms
+    → Ready image references starts nets k sizes rooms ms
 ready-next {sizes = sizes} {rooms = rooms} k {ms} long as-sizes as-rooms imaged all h e measured =
     record {
       imaged = imaged;
       long =
           record {
             few = omega arith;
-            short = long .short;
             startsLong = omega arith;
             netsLong = omega arith;
             sizesLong = omega arith;
@@ -100,14 +99,14 @@ module _ (ms : List Module) (k : ℕ) {m : Module} {later : List Module} (e : At
 
 -- The module at k has few nets.
 pub nets-few :
-    {image starts nets : List ℕ} {k : ℕ} {sizes rooms : List ℕ} {ms : List Module} → Ready image starts nets k sizes rooms ms
+    {image references starts nets : List ℕ} {k : ℕ} {sizes rooms : List ℕ} {ms : List Module} → Ready image references starts nets k sizes rooms ms
     → getD nets k 0 ≤ mostModuleNets
 nets-few {k = k} ready =
     let at = there ready in
     omega (arith, ready .imaged .counted k (at .m) (at .later) (at .at), rules ready .fits .nets)
 
 module _
-    {image starts nets : List ℕ} {k : ℕ} {sizes rooms : List ℕ} {ms : List Module} (ready : Ready image starts nets k sizes rooms ms)
+    {image references starts nets : List ℕ} {k : ℕ} {sizes rooms : List ℕ} {ms : List Module} (ready : Ready image references starts nets k sizes rooms ms)
     {size largest : ℕ} (figures : Figures (there ready .m) (there ready .later) size largest) where
   -- The module at k is over the limit.
   pub measured-over : mostSize < size → sizesVerdict k (drop k ms) ≡ refused 17 k

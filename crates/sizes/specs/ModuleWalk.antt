@@ -1,9 +1,9 @@
--- The module at a position can be walked in the image once the figures of the modules behind it are in the tables, and the sums of the
--- walk are its figures in the file.
-use Prim.Native.Nat.{ℕ, suc, _+_, _≤_, _<_}
+-- The references of the module at a position can be walked once the figures of the modules behind it are in the tables, and the sums of
+-- the walk are its figures in the file.
+use Prim.Native.Nat.{ℕ, suc, _+_, _/_, _≤_, _<_}
 use mathlib.Core.Path.{_≡_, _∙_}
 use mathlib.Core.Bool.{Bool, true, false, cond}
-use mathlib.Core.List.{List, map}
+use mathlib.Core.List.{List, map, map-map}
 use native.Mathlib.Omega.{arith}
 use native.Mathlib.Numerals.{add-one}
 use borrow.Author.Tests.{ltb-true}
@@ -33,7 +33,7 @@ pub record Figures (m : Module) (later : List Module) (size largest : ℕ) : Typ
   pub sized : size ≡ bodySize (expandedSize later) (m .occurrences)
   pub roomed : largest ≡ largestReferred (room later) (m .occurrences)
 
-module _ {image starts nets : List ℕ} {k : ℕ} {sizes rooms : List ℕ} {ms : List Module} (ready : Ready image starts nets k sizes rooms ms) where
+module _ {image references starts nets : List ℕ} {k : ℕ} {sizes rooms : List ℕ} {ms : List Module} (ready : Ready image references starts nets k sizes rooms ms) where
   pub there : Here ms k
   there = here ms k (ready .inside)
 
@@ -93,14 +93,13 @@ module _ {image starts nets : List ℕ} {k : ℕ} {sizes rooms : List ℕ} {ms :
   standing = ready .imaged .standing k m later (there .at)
 
   pub walk-here :
-      (p : ℕ) → p ≡ getD starts k 0 + 3 + length (imaged .inputs) + length (imaged .outputs)
-      → Walk image p sizes rooms (imaged .occurrences)
+      (p : ℕ) {count : ℕ} → p ≡ getD starts k 0 + 3 + length (imaged .inputs) + length (imaged .outputs) → count ≡ getD image p 0
+      → Walk references (getD starts k 0 / 3) count sizes rooms (imaged .occurrences)
   unfolding resolveModule
-  walk-here p place =
-      let read = module-at imaged standing in
+  walk-here p place count =
       record {
-        counted = read .occurrenceCount p place;
-        standing = read .body (p + 1) (omega arith);
+        counted = count ∙ module-at imaged standing .occurrenceCount p place;
+        standing = rw map-map (ready .imaged .noted k m later (there .at));
         told = told (slotIn m) (rules .fits .body);
       }
 

@@ -6,12 +6,12 @@ use Rattle.meaning.specs.Syntax.{Module}
 use Rattle.sizes.specs.Measured.{Imaged, Long, Measures}
 use Rattle.sizes.specs.declared.Sized.the-variants.{Fine}
 
-pub record Ready (image starts nets : List ℕ) (k : ℕ) (sizes rooms : List ℕ) (ms : List Module) : Type 0 where
-  pub imaged : Imaged image starts nets ms
-  pub long : Long image starts nets (length ms) sizes rooms
+pub record Ready (image references starts nets : List ℕ) (k : ℕ) (sizes rooms : List ℕ) (ms : List Module) : Type 0 where
+  pub imaged : Imaged image references starts nets ms
+  pub long : Long starts nets (length ms) sizes rooms
   pub inside : k < length ms
   pub behind : Measures (k + 1) Fine ms sizes rooms
 
-pub record SomeReady (image starts nets : List ℕ) (k : ℕ) (sizes rooms : List ℕ) : Type 0 where
+pub record SomeReady (image references starts nets : List ℕ) (k : ℕ) (sizes rooms : List ℕ) : Type 0 where
   pub ms : List Module
-  pub ready : Ready image starts nets k sizes rooms ms
+  pub ready : Ready image references starts nets k sizes rooms ms

@@ -1,16 +1,15 @@
--- Walking the occurrences of one module in an image: what the tables say of each reference, and what the sums over all of them are.
+-- Walking the references of one module's occurrences: what the tables say of each, and what the sums over all of them are.
 use Prim.Native.Nat.{ℕ, _+_, _-_, _<_, _≤_}
 use mathlib.Core.Path.{_≡_}
 use mathlib.Core.Bool.{Bool, true, false, cond}
-use mathlib.Core.List.{List}
+use mathlib.Core.List.{List, map}
 use native.Mathlib.Omega.{arith}
 use borrow.Author.Tests.{lt-ltb, le-ltb}
 use lib.ListN.{length, getD}
 use Rattle.meaning.specs.Syntax.{Occurrence, Module}
 use Rattle.meaning.specs.Lists.{All}
-use Rattle.meaning.specs.Reading.{mostBytes}
 use Rattle.meaning.specs.Gates.{isGate}
-use Rattle.meaning.specs.Layout.{each, occurrenceNumbers, moduleNumbers}
+use Rattle.meaning.specs.Layout.{moduleNumbers}
 use Rattle.meaning.specs.Limits.{bodySize, mostSize}
 use Rattle.meaning.specs.Figures.{largestReferred}
 use Rattle.image.specs.Stands.{Stands}
@@ -47,16 +46,20 @@ pub record Told (sizes rooms : List ℕ) (o : Occurrence) : Type 0 where
   pub roomed : o .refers < 16 + length rooms
   pub small : figure sizes (o .refers) ≤ mostSize
 
--- Occurrences stand in an image, their count first.
-pub record Walk (image : List ℕ) (count : ℕ) (sizes rooms : List ℕ) (os : List Occurrence) : Type 0 where
-  pub counted : getD image count 0 ≡ length os
-  pub standing : Stands image (count + 1) (each occurrenceNumbers os)
+-- What occurrences refer to, in order.
+abbrev pub referredBy : List Occurrence → List ℕ
+referredBy os = map (λ (o : Occurrence). o .refers) os
+
+-- The references of so many occurrences stand from a place on.
+pub record Walk (references : List ℕ) (from count : ℕ) (sizes rooms : List ℕ) (os : List Occurrence) : Type 0 where
+  pub counted : count ≡ length os
+  pub standing : Stands references from (referredBy os)
   pub told : All (Told sizes rooms) os
 
-pub record Walkable (image : List ℕ) (count : ℕ) (sizes rooms : List ℕ) : Type 0 where
+pub record Walkable (references : List ℕ) (from count : ℕ) (sizes rooms : List ℕ) : Type 0 where
   pub os : List Occurrence
-  pub walk : Walk image count sizes rooms os
-  pub short : length image ≤ mostBytes
+  pub walk : Walk references from count sizes rooms os
+  pub few : count ≤ 65535
 
 -- Expanded size and largest room referred to, by the tables.
 pub record Summed (sizes rooms : List ℕ) (os : List Occurrence) (size largest : ℕ) : Type 0 where

@@ -1,5 +1,7 @@
-// Expanded size and room of every module, from the last to the first, and rule 17. All of it is read off the image, where a
-// reference to a module is 16 plus its position: so the figures of later modules come from tables, and the work is linear.
+// Expanded size and room of every module, from the last to the first, and rule 17. Both are sums over the references of the module's
+// occurrences, which stand side by side in a list of their own: from a third of the module's start on, as an occurrence has at least three
+// numbers. As in the image a reference to a module is 16 plus its position: so the figures of later modules come from tables, and the work
+// is linear.
 ghost use mathlib.Core.Path.{_≡_};
 ghost use mathlib.Core.List.{List};
 ghost use Prim.Native.Nat.{_+_, _<_, _^_, max};
@@ -48,23 +50,20 @@ fn body(image: &[u16], start: usize) -> usize
     outputs + 1 + image::entry(image, outputs)
 }
 
-// The sums over the occurrences whose count stands at a place.
-fn walk(image: &[u16], count: usize, sizes: &[u32], rooms: &[u32]) -> Sums
-    requires { ⌜ Walkable (now image) count (now sizes) (now rooms) ⌝ }
-    ensures { λ r. ⌜ ((os : List Occurrence) → Walk (now (image .entry)) count (now (sizes .entry)) (now (rooms .entry)) os → Summed (now (sizes .entry)) (now (rooms .entry)) os (r .size) (r .room)) ⌝ }
+// The sums over so many occurrences, whose references stand from a place on.
+fn walk(references: &[u16], from: usize, count: usize, sizes: &[u32], rooms: &[u32]) -> Sums
+    requires { ⌜ Walkable (now references) from count (now sizes) (now rooms) ⌝ }
+    ensures { λ r. ⌜ ((os : List Occurrence) → Walk (now (references .entry)) from count (now (sizes .entry)) (now (rooms .entry)) os → Summed (now (sizes .entry)) (now (rooms .entry)) os (r .size) (r .room)) ⌝ }
 {
-    let occurrences = image::entry(image, count);
-    let mut at = count + 1;
+    let end = from + count;
+    let mut at = from;
     let mut size = 0u32;
     let mut room = 0u32;
-    let mut i = 0;
-    while i < occurrences {
-        let refers = at + 1 + image::entry(image, at);
-        let to = image::entry(image, refers);
+    while at < end {
+        let to = image::entry(references, at);
         size += share(1, sizes, to);
         room = larger(room, share(0, rooms, to));
-        at = refers + 2 + image::entry(image, refers + 1);
-        i += 1;
+        at += 1;
     }
     Sums { size, room }
 }
@@ -72,16 +71,19 @@ fn walk(image: &[u16], count: usize, sizes: &[u32], rooms: &[u32]) -> Sums
 // The module at position k, by the tables' figures of the later ones: it is over the limit, or its figures join theirs.
 fn measure_one(
     image: &[u16],
+    references: &[u16],
     starts: &[usize],
     nets: &[usize],
     k: usize,
     sizes: &mut [u32],
     rooms: &mut [u32],
 ) -> Sized
-    requires { ⌜ SomeReady (now image) (now starts) (now nets) k (now sizes) (now rooms) ⌝ }
-    ensures { λ r. ⌜ ((ms : List Module) → Ready (now (image .entry)) (now (starts .entry)) (now (nets .entry)) k (now (sizes .entry)) (now (rooms .entry)) ms → Measures k r ms (now (sizes .exit)) (now (rooms .exit))) ⌝ }
+    requires { ⌜ SomeReady (now image) (now references) (now starts) (now nets) k (now sizes) (now rooms) ⌝ }
+    ensures { λ r. ⌜ ((ms : List Module) → Ready (now (image .entry)) (now (references .entry)) (now (starts .entry)) (now (nets .entry)) k (now (sizes .entry)) (now (rooms .entry)) ms → Measures k r ms (now (sizes .exit)) (now (rooms .exit))) ⌝ }
 {
-    let sums = walk(image, body(image, starts[k]), sizes, rooms);
+    let start = starts[k];
+    let count = image::entry(image, body(image, start));
+    let sums = walk(references, start / 3, count, sizes, rooms);
     let own = nets[k] as u32;
     if 65535 < sums.size {
         return Sized::Over { place: k };
@@ -94,6 +96,7 @@ fn measure_one(
 // The modules from position k on: the strictly later ones first, then the one at k.
 fn measure_from(
     image: &[u16],
+    references: &[u16],
     starts: &[usize],
     nets: &[usize],
     modules: usize,
@@ -101,14 +104,23 @@ fn measure_from(
     sizes: &mut [u32],
     rooms: &mut [u32],
 ) -> Sized
-    requires { ⌜ Measurable (now image) (now starts) (now nets) modules (now sizes) (now rooms) ⌝ }
-    ensures { λ r. ⌜ ((ms : List Module) → Imaged (now (image .entry)) (now (starts .entry)) (now (nets .entry)) ms → modules ≡ length ms → Measures k r ms (now (sizes .exit)) (now (rooms .exit))) ⌝ }
+    requires { ⌜ Measurable (now image) (now references) (now starts) (now nets) modules (now sizes) (now rooms) ⌝ }
+    ensures { λ r. ⌜ ((ms : List Module) → Imaged (now (image .entry)) (now (references .entry)) (now (starts .entry)) (now (nets .entry)) ms → modules ≡ length ms → Measures k r ms (now (sizes .exit)) (now (rooms .exit))) ⌝ }
 {
     if modules <= k {
         return Sized::Fine;
     }
-    match measure_from(image, starts, nets, modules, k + 1, sizes, rooms) {
-        Sized::Fine => measure_one(image, starts, nets, k, sizes, rooms),
+    match measure_from(
+        image,
+        references,
+        starts,
+        nets,
+        modules,
+        k + 1,
+        sizes,
+        rooms,
+    ) {
+        Sized::Fine => measure_one(image, references, starts, nets, k, sizes, rooms),
         Sized::Over { place } => Sized::Over { place },
     }
 }
@@ -116,14 +128,15 @@ fn measure_from(
 // All modules: rule 17, and where it is kept their sizes and rooms in the tables.
 pub fn measure(
     image: &[u16],
+    references: &[u16],
     starts: &[usize],
     nets: &[usize],
     modules: usize,
     sizes: &mut [u32],
     rooms: &mut [u32],
 ) -> Sized
-    requires { ⌜ Measurable (now image) (now starts) (now nets) modules (now sizes) (now rooms) ⌝ }
-    ensures { λ r. ⌜ ((ms : List Module) → Imaged (now (image .entry)) (now (starts .entry)) (now (nets .entry)) ms → modules ≡ length ms → Measures 0 r ms (now (sizes .exit)) (now (rooms .exit))) ⌝ }
+    requires { ⌜ Measurable (now image) (now references) (now starts) (now nets) modules (now sizes) (now rooms) ⌝ }
+    ensures { λ r. ⌜ ((ms : List Module) → Imaged (now (image .entry)) (now (references .entry)) (now (starts .entry)) (now (nets .entry)) ms → modules ≡ length ms → Measures 0 r ms (now (sizes .exit)) (now (rooms .exit))) ⌝ }
 {
-    measure_from(image, starts, nets, modules, 0, sizes, rooms)
+    measure_from(image, references, starts, nets, modules, 0, sizes, rooms)
 }

@@ -9,11 +9,11 @@ use Rattle.checker.proofs.bodies.check_body.Statement.{statement}
 use Rattle.checker.proofs.bodies.check_body.Tie as tie
 
 abbrev Inv-loop : tie.InvT-loop
-Inv-loop numbers from count k starts first slots₀ base inputs marks₀ image₀ at₀ filled₀ i₀ slots marks image at filled i =
-    Walking numbers starts first k from count base inputs slots₀ marks₀ image₀ slots marks image at filled i
+Inv-loop numbers from count k starts first slots₀ base inputs image₀ references₀ place at₀ filled₀ i₀ slots image references at filled i =
+    Walking numbers starts first k from count base inputs slots₀ image₀ slots image at filled i place references₀ references
 
 abbrev μ-loop : tie.MeasureT-loop
-μ-loop numbers from count k starts first slots₀ base inputs marks₀ image₀ at₀ filled₀ i₀ slots marks image at filled i =
+μ-loop numbers from count k starts first slots₀ base inputs image₀ references₀ place at₀ filled₀ i₀ slots image references at filled i =
     count - i
 
 loop-holds : tie.Need-loop-holds Inv-loop μ-loop
@@ -32,6 +32,11 @@ broken c = c .before .before .before .before .before .before .before .before .be
 abbrev fine : tie.After-known-told2 Inv-loop μ-loop → tie.After-check-occurrence Inv-loop μ-loop
 fine c = c .before .before .before .before .before .before .before .before .before
 
+add-check-occurrence : tie.Need-add-check-occurrence Inv-loop μ-loop
+add-check-occurrence c =
+    let t = c .before .before .before in
+    omega (arith, t .before .loop .inv .noting, t .loop-test .taken, entered t .good)
+
 check-occurrence-requires : tie.Need-check-occurrence-requires Inv-loop μ-loop
 check-occurrence-requires c κs =
     let t = c .before .before .before in
@@ -45,12 +50,12 @@ same-length c =
 same-length-2 : tie.Need-same-length-2 Inv-loop μ-loop
 same-length-2 c =
     let s = broken c in
-    s .check-occurrence .kept .1 .1 .1 .1 .1 .1 .1 .1 .0 ∙ turn s .before .loop .inv .marksLong
+    s .check-occurrence .kept .1 .1 .1 .1 .1 .1 .1 .1 .0 ∙ turn s .before .loop .inv .imageLong
 
 same-length-3 : tie.Need-same-length-3 Inv-loop μ-loop
 same-length-3 c =
     let s = broken c in
-    s .check-occurrence .kept .1 .1 .1 .1 .1 .1 .1 .1 .1 .0 ∙ turn s .before .loop .inv .imageLong
+    s .check-occurrence .kept .1 .1 .1 .1 .1 .1 .1 .1 .1 .0 ∙ turn s .before .loop .inv .referencesLong
 
 returns : tie.Need-returns Inv-loop μ-loop
 returns c =
@@ -84,6 +89,7 @@ check-body-spec =
     Inv-loop
     μ-loop
     loop-holds
+    add-check-occurrence
     check-occurrence-requires
     (λ c. search needs)
     same-length
@@ -95,6 +101,6 @@ check-body-spec =
     loop-less
     loop-again
     (λ c. c .before .loop .inv .slotsLong)
-    (λ c. c .before .loop .inv .marksLong)
     (λ c. c .before .loop .inv .imageLong)
+    (λ c. c .before .loop .inv .referencesLong)
     returns-2)

@@ -1,9 +1,8 @@
 -- `checker::modules::check_module` meets its contract: the verdict goes by the head, then the occurrences, then the end. Assumes nothing.
-use Prim.Native.Nat.{ℕ, _+_, _≤_, _<_}
-use mathlib.Core.Path.{_≡_, refl, sym, ap, subst, _∙_}
+use mathlib.Core.Path.{_∙_}
 use native.Mathlib.Omega.{arith}
 use borrow.Author.Needs.{needs}
-use lib.ListN.{length, getD}
+use lib.ListN.{getD}
 use Rattle.image.specs.Pieces.{module-at}
 use Rattle.checker.specs.Scene.{Tables}
 use Rattle.checker.specs.Modules.{Turn}
@@ -13,8 +12,6 @@ use Rattle.checker.proofs.Turns.{stands-here, within, head-broken}
 use Rattle.checker.proofs.Settling.{ready-body, body-broken, body-fine, ready-end, settle}
 use Rattle.checker.proofs.modules.check_module.Statement.{statement}
 use Rattle.checker.proofs.modules.check_module.Tie as tie
-use Rattle.checker.proofs.modules.check_module.Reads as reads
-use Rattle.checker.proofs.modules.check_module.Lts as lts
 
 mul-s : tie.Need-mul-s
 mul-s c = let w = within (c .before .before .before .before .before .before .pre .turn) in omega arith
@@ -33,25 +30,24 @@ mul-base c = let w = within (c .before .before .before .before .before .before .
 
 judge-head-requires : tie.Need-judge-head-requires
 judge-head-requires c κs =
-    let p = c .before .before .before .before .before .before .before .before .before .pre in
+    let p = c .before .before .before .before .before .before .before .before .pre in
     record {
       m = p .turn .m;
       stands = stands-here (p .turn);
-      knows = p .knows;
-      marked = p .marked;
+      earlier = p .earlier;
       indexSlots = p .tables .indexSlots;
-      indexMarks = p .tables .indexMarks;
       short = p .tables .short;
+      stamps = omega arith;
       based = omega (arith, within (p .turn) .1);
     }
 
 returns : tie.Need-returns
 returns c =
-    record { checks = λ t. head-broken t (c .before .before .before .before .before .judge-head .ensures) (c .if1 .taken) }
+    record { checks = λ t. head-broken t (c .before .before .before .judge-head .ensures) (c .if1 .taken) }
 
 -- Back to the function's entry from behind the head.
 abbrev from-head : tie.Else1 → tie.Start
-from-head c = c .before .before .before .before .before .before .before .before .before .before .before .before .before .before .before
+from-head c = c .before .before .before .before .before .before .before .before .before .before .before .before
 
 add-entry : tie.Need-add-entry
 add-entry c = let t = from-head c .pre .turn in omega (arith, module-at (t .m) (stands-here t) .end)
@@ -88,17 +84,15 @@ entry-requires-2 c κs = place c (from-head (c .before .before .before) .pre .tu
 add-check-body : tie.Need-add-check-body
 add-check-body c = let p = place (c .before) (from-head (c .before .before .before .before) .pre .turn) in omega arith
 
--- The tables keep their lengths over the head.
+-- The tables have an entry for each number behind the head too.
 tables :
     (c : tie.After-judge-head)
-    → (let s = c .before .before .before .before .before .before .before .before .before .before in
-    Tables (s .args .numbers .now) (s .args .first .now) (c .judge-head .last .1 .1 .1 .1 .0) (c .judge-head .last .1 .1 .1 .1 .1 .1 .0))
+    → (let s = c .before .before .before .before .before .before .before .before .before in Tables (s .args .numbers .now) (s .args .first .now) (c .judge-head .last .1 .1 .1 .1 .0))
 tables c =
-    let p = c .before .before .before .before .before .before .before .before .before .before .pre in
+    let p = c .before .before .before .before .before .before .before .before .before .pre in
     record {
       indexFirst = p .tables .indexFirst;
       indexSlots = below-sized (c .judge-head .kept .1 .1 .1 .1 .0) (p .tables .indexSlots);
-      indexMarks = below-sized (c .judge-head .kept .1 .1 .1 .1 .1 .1 .0) (p .tables .indexMarks);
       short = p .tables .short;
     }
 
@@ -107,7 +101,7 @@ abbrev fine-head : tie.After-check-body-arg3 → tie.Else1
 fine-head c = c .before .before .before .before .before .before .before
 
 abbrev judged : tie.Else1 → tie.After-judge-head
-judged c = c .before .before .before .before .before
+judged c = c .before .before .before
 
 check-body-requires : tie.Need-check-body-requires
 check-body-requires c κs =
@@ -115,7 +109,7 @@ check-body-requires c κs =
     let l = c .before .before .before .before in
     let p = from-head h .pre in
     ready-body (p .turn) (judged h .judge-head .ensures) (h .if1 .left) (place l (p .turn)) (c .before .before .before .entry2 .ensures)
-    (l .before .before .entry .ensures) (tables (judged h)) (p .room)
+    (l .before .before .entry .ensures) (tables (judged h)) (p .room) (p .noting)
 
 -- Back to the call on the occurrences from where its answer was taken apart.
 abbrev walked : tie.At-match-keys2 → tie.After-check-body
@@ -132,7 +126,8 @@ finish-module-requires c κs =
     (l .before .before .entry .ensures) (b .check-body .ensures) (n .nets .given .1) in
     ready-end t (judged h .judge-head .ensures) (h .if1 .left) (place l t) (f .0) (f .1)
     (below-sized (b .check-body .kept .1 .1 .1 .1 .1 .1 .0) (tables (judged h) .indexSlots))
-    (omega (arith, b .check-body .kept .1 .1 .1 .1 .1 .1 .1 .1 .1 .1 .0, from-head h .pre .room))
+    (from-head h .pre .tables .short)
+    (omega (arith, b .check-body .kept .1 .1 .1 .1 .1 .1 .1 .1 .1 .0, from-head h .pre .room))
 
 returns-2 : tie.Need-returns-2
 returns-2 c =
@@ -146,8 +141,8 @@ returns-2 c =
           (l .before .before .entry .ensures) (b .check-body .ensures) (n .broken .given .1);
     }
 
-same-length-6 : tie.Need-same-length-6
-same-length-6 c =
+same-length-5 : tie.Need-same-length-5
+same-length-5 c =
     let b = walked (c .before .before .before .before .before .before .before) in
     b .check-body .kept .1 .1 .1 .1 .1 .1 .0 ∙ judged (fine-head (b .before)) .judge-head .kept .1 .1 .1 .1 .0
 
@@ -177,7 +172,6 @@ check-module-spec =
     mul-base
     judge-head-requires
     (λ c. search needs)
-    (λ c. search needs)
     returns
     add-entry
     entry-requires
@@ -194,7 +188,7 @@ check-module-spec =
     (λ c. search needs)
     (λ c. search needs)
     returns-2
-    same-length-6
+    same-length-5
     (λ c. search needs)
     (λ c. search needs)
     returns-3)

@@ -1,15 +1,14 @@
 -- The table is filled from the last module to the first: at each turn it knows the modules from position k on.
 use Prim.Native.Nat.{ℕ, zero, suc, _+_, _-_, _≤_, _<_}
-use mathlib.Core.Path.{_≡_, refl, sym, ap, subst, _∙_}
-use mathlib.Core.List.{List, [], _∷_}
+use mathlib.Core.Path.{_≡_, refl, subst, _∙_}
+use mathlib.Core.List.{List, []}
 use mathlib.Core.Logic.{_⊎_, inl, inr, ⊎-elim}
 use native.Mathlib.Omega.{arith}
 use native.Mathlib.Nat.{zero-add}
 use lib.ListN.{length, getD, set, drop, length-set, drop-of-length-le}
-use borrow.Author.Needs.{needs}
 use Rattle.meaning.specs.Syntax.{Module}
 use Rattle.checker.specs.Filed.{Filed, Countable}
-use Rattle.checker.specs.Numbering.{firstOf, firstRepeat, Numbered, shifted}
+use Rattle.checker.specs.Numbering.{firstOf, firstRepeat, shifted}
 use Rattle.checker.proofs.Numbers.{Tabled, tabled-more, repeat-here, repeat-later, Positioned, positioned, headed}
 use Rattle.checker.proofs.numbering.number_modules.Statement.{statement}
 use Rattle.checker.proofs.numbering.number_modules.Tie as tie

@@ -1,17 +1,13 @@
 -- The table's place of the number says whether a later module has it; its counts stand where the module starts.
 use borrow.Author.Needs.{needs}
-use borrow.Author.Tests.{eq-eqb, ne-eqb}
-use Prim.Native.Nat.{ℕ, _+_, _-_, _≤_, _<_}
+use Prim.Native.Nat.{_-_, _<_}
 use native.Mathlib.Omega.{arith}
-use mathlib.Core.Path.{_≡_, refl, sym, ap, _∙_}
-use mathlib.Core.Bool.{true, false, and-false}
+use mathlib.Core.Path.{_≡_, refl, sym, _∙_}
 use mathlib.Core.List.{List}
-use lib.ListN.{length, getD}
+use lib.ListN.{length}
 use Rattle.meaning.specs.Syntax.{Module}
 use Rattle.checker.specs.Filed.{Filed}
-use Rattle.checker.specs.Numbering.{Numbered, firstOf, firstRepeat, Referable}
-use Rattle.checker.specs.References.{referenceOf, pick}
-use Rattle.checker.specs.declared.references.Reference.the-variants.{To, Broken}
+use Rattle.checker.specs.Numbering.{Numbered, firstRepeat}
 use Rattle.checker.proofs.Later.{later-none}
 use Rattle.checker.proofs.Targets.{Target, target, to-none, inputs-differ, outputs-differ, counts-agree, output-count, repeat-inside}
 use Rattle.checker.proofs.references.judge_module.Statement.{statement}

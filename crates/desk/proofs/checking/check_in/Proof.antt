@@ -1,165 +1,92 @@
--- The three ways: a broken rule, a size over its limit, all fine.
+-- `desk::checking::check_in` meets its contract in each of three ways: a broken rule, a size over its limit, all fine. Assumes nothing.
 use borrow.Author.Needs.{needs}
 use Rattle.desk.proofs.StageAnswers.{stage-broken, stage-over, stage-fine, measurable}
 use Rattle.desk.proofs.checking.check_in.Statement.{statement}
 use Rattle.desk.proofs.checking.check_in.Tie as tie
-use Rattle.desk.proofs.checking.check_in.Reads as reads
-use Rattle.desk.proofs.checking.check_in.Lts as lts
-use Rattle.checker.proofs.files.check_modules.Reads as check-modules-reads
-use Rattle.sizes.proofs.measure.Reads as measure-reads
 
--- src/preparing.rt:30:11
-check-modules-requires : tie.Need-check-modules-requires
-check-modules-requires c κs = c .before .before .before .before .before .before .before .before .before .before .before .before .before .before .pre .ready
+-- Back from the check of the modules to the function's entry, and from the measure to that check.
+abbrev entered : tie.After-check-modules → tie.Start
+entered m = m .before .before .before .before .before .before .before .before .before .before .before .before .before .before .before
 
--- src/preparing.rt:40:25
-enum-known-rule : tie.Need-enum-known-rule
-enum-known-rule c = search needs
+abbrev checked : tie.After-measure → tie.After-check-modules
+checked z = z .before .before .before .before .before .before .before .before .before .before .before .before .before .before .before .before .before .before
 
--- src/preparing.rt:44:45
-enum-told : tie.Need-enum-told
-enum-told c = search needs
-
--- src/preparing.rt:44:30
 measure-requires : tie.Need-measure-requires
 measure-requires c κs =
-    let m = c .before .before .before .before .before .before .before .before .before .before .before .before .before .before .before .before .check-modules in
-    measurable (c .before .before .before .before .before .before .before .before .before .before .before .before .before .before .before .before .before .before .before .before .before .before .before .before .before .before .before .before .before .before .before .pre) (m .result) (m .last .1 .1 .1 .1 .1 .1 .0) (m .last .1 .1 .1 .1 .1 .1 .1 .0) (m .ensures) (c .before .before .before .before .enum-told .given .1) (m .kept .1 .1 .1 .1 .1 .1 .0) (m .kept .1 .1 .1 .1 .1 .1 .1 .0)
+    let m = c .before .before .before .before .before .before .before .before .before .before .before .before .before .before .before .before .before in
+    let last = m .check-modules .last .1 .1 .1 .1 .1 in
+    let kept = m .check-modules .kept .1 .1 .1 .1 .1 in
+    measurable (entered m .pre) (m .check-modules .result) (last .0) (last .1 .0) (last .1 .1 .0) (m .check-modules .ensures)
+    (c .before .before .before .before .before .enum-told .given .1)
+    (kept .1 .0)
 
--- src/preparing.rt:45:27
-enum-known-place : tie.Need-enum-known-place
-enum-known-place c = search needs
-
--- src/preparing.rt:48:24
-enum-told-2 : tie.Need-enum-told-2
-enum-told-2 c = search needs
-
--- src/preparing.rt:15:1
-same-length : tie.Need-same-length
-same-length c = search needs
-
--- src/preparing.rt:15:1
-same-length-2 : tie.Need-same-length-2
-same-length-2 c = search needs
-
--- src/preparing.rt:15:1
-same-length-3 : tie.Need-same-length-3
-same-length-3 c = search needs
-
--- src/preparing.rt:15:1
-same-length-4 : tie.Need-same-length-4
-same-length-4 c = search needs
-
--- src/preparing.rt:15:1
-same-length-5 : tie.Need-same-length-5
-same-length-5 c = search needs
-
--- src/preparing.rt:15:1
 returns : tie.Need-returns
 returns c =
-    let m = c .before .before .before .before .before .before .before .before .before .before .before .before .before .check-modules in
-    let a = c .before .before .before .before .before .before .before .before .before .before .before .before .before .before .before .before .before .before .before .before .before .before .before .before .before .before .before .before .args in
-    stage-broken (c .before .before .before .before .before .before .before .before .before .before .before .before .before .before .before .before .before .before .before .before .before .before .before .before .before .before .before .before .pre) (m .result) (m .last .1 .1 .1 .1 .1 .1 .0) (m .last .1 .1 .1 .1 .1 .1 .1 .0) (m .ensures) _ _ (c .before .rule .given .1) (a .sizes .now) (a .rooms .now)
+    let m = c .before .before .before .before .before .before .before .before .before .before .before .before .before in
+    let last = m .check-modules .last .1 .1 .1 .1 .1 in
+    let s = entered m in
+    stage-broken (s .pre) (m .check-modules .result) (last .0) (last .1 .0) (last .1 .1 .0) (m .check-modules .ensures) _ _ (c .before .rule .given .1)
+    (s .args .sizes .now)
+    (s .args .rooms .now)
 
--- src/preparing.rt:15:1
-same-length-6 : tie.Need-same-length-6
-same-length-6 c = search needs
-
--- src/preparing.rt:15:1
-same-length-7 : tie.Need-same-length-7
-same-length-7 c = search needs
-
--- src/preparing.rt:15:1
-same-length-8 : tie.Need-same-length-8
-same-length-8 c = search needs
-
--- src/preparing.rt:15:1
-same-length-9 : tie.Need-same-length-9
-same-length-9 c = search needs
-
--- src/preparing.rt:15:1
-same-length-10 : tie.Need-same-length-10
-same-length-10 c = search needs
-
--- src/preparing.rt:15:1
-same-length-11 : tie.Need-same-length-11
-same-length-11 c = search needs
-
--- src/preparing.rt:15:1
-same-length-12 : tie.Need-same-length-12
-same-length-12 c = search needs
-
--- src/preparing.rt:15:1
 returns-2 : tie.Need-returns-2
 returns-2 c =
-    let m = c .before .before .before .before .before .before .before .before .before .before .before .before .before .before .before .before .before .before .before .before .before .before .before .before .check-modules in
-    let z = c .before .before .before .before .before .before .before .measure in
-    stage-over (c .before .before .before .before .before .before .before .before .before .before .before .before .before .before .before .before .before .before .before .before .before .before .before .before .before .before .before .before .before .before .before .before .before .before .before .before .before .before .before .pre) (m .result) (m .last .1 .1 .1 .1 .1 .1 .0) (m .last .1 .1 .1 .1 .1 .1 .1 .0) (m .ensures) (c .before .before .before .before .before .before .before .before .before .before .before .before .enum-told .given .1) (z .result) (z .last .1 .1 .1 .1 .0) (z .last .1 .1 .1 .1 .1 .0) (z .ensures) _ (c .before .place .given .1)
+    let z = c .before .before .before .before .before .before .before in
+    let m = checked z in
+    let last = m .check-modules .last .1 .1 .1 .1 .1 in
+    let figures = z .measure .last .1 .1 .1 .1 .1 in
+    stage-over (entered m .pre) (m .check-modules .result) (last .0) (last .1 .0) (last .1 .1 .0) (m .check-modules .ensures)
+    (z .before .before .before .before .before .before .enum-told .given .1)
+    (z .measure .result)
+    (figures .0)
+    (figures .1 .0)
+    (z .measure .ensures)
+    _
+    (c .before .place .given .1)
 
--- src/preparing.rt:15:1
-same-length-13 : tie.Need-same-length-13
-same-length-13 c = search needs
-
--- src/preparing.rt:15:1
-same-length-14 : tie.Need-same-length-14
-same-length-14 c = search needs
-
--- src/preparing.rt:15:1
-same-length-15 : tie.Need-same-length-15
-same-length-15 c = search needs
-
--- src/preparing.rt:15:1
-same-length-16 : tie.Need-same-length-16
-same-length-16 c = search needs
-
--- src/preparing.rt:15:1
-same-length-17 : tie.Need-same-length-17
-same-length-17 c = search needs
-
--- src/preparing.rt:15:1
-same-length-18 : tie.Need-same-length-18
-same-length-18 c = search needs
-
--- src/preparing.rt:15:1
-same-length-19 : tie.Need-same-length-19
-same-length-19 c = search needs
-
--- src/preparing.rt:15:1
 returns-3 : tie.Need-returns-3
 returns-3 c =
-    let m = c .before .before .before .before .before .before .before .before .before .before .before .before .before .before .before .before .before .before .before .before .before .before .before .check-modules in
-    let z = c .before .before .before .before .before .before .measure in
-    stage-fine (c .before .before .before .before .before .before .before .before .before .before .before .before .before .before .before .before .before .before .before .before .before .before .before .before .before .before .before .before .before .before .before .before .before .before .before .before .before .before .pre) (m .result) (m .last .1 .1 .1 .1 .1 .1 .0) (m .last .1 .1 .1 .1 .1 .1 .1 .0) (m .ensures) (c .before .before .before .before .before .before .before .before .before .before .before .enum-told .given .1) (z .result) (z .last .1 .1 .1 .1 .0) (z .last .1 .1 .1 .1 .1 .0) (z .ensures) (c .enum-told2 .given .1)
+    let z = c .before .before .before .before .before .before in
+    let m = checked z in
+    let last = m .check-modules .last .1 .1 .1 .1 .1 in
+    let figures = z .measure .last .1 .1 .1 .1 .1 in
+    stage-fine (entered m .pre) (m .check-modules .result) (last .0) (last .1 .0) (last .1 .1 .0) (m .check-modules .ensures)
+    (z .before .before .before .before .before .before .enum-told .given .1)
+    (z .measure .result)
+    (figures .0)
+    (figures .1 .0)
+    (z .measure .ensures)
+    (c .enum-told2 .given .1)
 
 pub check-in-spec : {M : Type 1} → statement M
 check-in-spec =
     tie.close
     (tie.spec
-    check-modules-requires
-    enum-known-rule
-    enum-told
+    (λ c κs. search needs)
+    (λ c. search needs)
+    (λ c. search needs)
     measure-requires
-    enum-known-place
-    enum-told-2
-    same-length
-    same-length-2
-    same-length-3
-    same-length-4
-    same-length-5
+    (λ c. search needs)
+    (λ c. search needs)
+    (λ c. search needs)
+    (λ c. search needs)
+    (λ c. search needs)
+    (λ c. search needs)
+    (λ c. search needs)
     returns
-    same-length-6
-    same-length-7
-    same-length-8
-    same-length-9
-    same-length-10
-    same-length-11
-    same-length-12
+    (λ c. search needs)
+    (λ c. search needs)
+    (λ c. search needs)
+    (λ c. search needs)
+    (λ c. search needs)
+    (λ c. search needs)
+    (λ c. search needs)
     returns-2
-    same-length-13
-    same-length-14
-    same-length-15
-    same-length-16
-    same-length-17
-    same-length-18
-    same-length-19
+    (λ c. search needs)
+    (λ c. search needs)
+    (λ c. search needs)
+    (λ c. search needs)
+    (λ c. search needs)
+    (λ c. search needs)
+    (λ c. search needs)
     returns-3)
