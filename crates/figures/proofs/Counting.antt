@@ -21,6 +21,7 @@ use Rattle.image.specs.Stepping.{frame-at}
 use Rattle.image.specs.Searching.{gateWeight-search, expandedSize-search}
 use Rattle.figures.specs.Places.{IsBody, RefersTo, IsPlace}
 use Rattle.figures.specs.Tallies.{oneOf, Addable, Added, Countable}
+use Rattle.figures.specs.Rows.{Kept, Tallying, Tallied}
 use Rattle.figures.specs.declared.places.To.{To}
 use Rattle.figures.specs.declared.places.To.the-variants.{Gate, Module as AModule}
 use Rattle.figures.proofs.Entries.{mapped}
@@ -134,15 +135,17 @@ module _ {image starts : List ℕ} {k : ℕ} (s : Countable image starts k) wher
           step = step (oneOf gate) (λ kind less. rw (refers .1) (ap (λ (n : ℕ). oneOf n kind) (sym (refers .0))));
         }
 
-    -- A module adds its tally.
+    -- A module adds its tally, whether that is kept or counted now.
     pub record AtModule (j : ℕ) : Type 0 where
       pub after : k < j
       pub inside : j < length starts
-      pub countable : Countable image starts j
-      pub step :
-          {inner : List ℕ}
-          → ((s′ : Countable image starts j) → inner ≡ tally (s′ .rs) (16 + j))
-          → Step behind left counts (λ kind. getD inner kind 0)
+      pub tallying : {rows : List ℕ} {filled : List Bool} → Kept (s .rs) rows filled → Tallying image starts j rows filled
+      pub tallied :
+          {rows rows′ inner : List ℕ} {filled filled′ : List Bool}
+          → Kept (s .rs) rows filled
+          → ((s′ : Tallying image starts j rows filled) → Tallied (s′ .countable .rs) j inner rows′ filled′)
+          → Tallied (s .rs) j inner rows′ filled′
+      pub step : {inner : List ℕ} → inner ≡ tally (s .rs) (16 + j) → Step behind left counts (λ kind. getD inner kind 0)
 
     pub at-module : (j : ℕ) → to ≡ AModule j → AtModule j
     unfolding kindCount bodySize
@@ -155,12 +158,13 @@ module _ {image starts : List ℕ} {k : ℕ} (s : Countable image starts k) wher
         record {
           after = b .after;
           inside = b .inside;
-          countable = countable;
-          step = λ {inner} told.
+          tallying = λ kept. record { countable = countable; kept = kept };
+          tallied = λ kept told. told (record { countable = countable; kept = kept });
+          step = λ {inner} is.
               step (λ kind. getD inner kind 0)
               (λ kind less.
               rw (refers .1)
-              (ap (λ (l : List ℕ). getD l kind 0) (told countable)
+              (ap (λ (l : List ℕ). getD l kind 0) is
               ∙ count-of-kind (s .rs) (16 + j) kind less
               ∙ sym
               (says-beyond (s .scene) j (here .reference) (refers .0) (refers .1) (gateWeight-search (λ gate. oneOf gate kind)))));

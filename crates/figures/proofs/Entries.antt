@@ -6,7 +6,7 @@ use mathlib.Core.List.{List, [], _∷_, _++_, map, append-nil}
 use native.Mathlib.Omega.{arith}
 use borrow.Author.Tests.{eqb-true, eqb-false}
 use lib.Dec.{eqb}
-use lib.ListN.{length, getD, take, drop, set, length-append, length-drop, drop-of-length-le, List·getD-append}
+use lib.ListN.{length, getD, take, drop, set, replicate, length-append, length-drop, drop-of-length-le, List·getD-append}
 use lib.Seq.{slice, getD-set-same, getD-set-other, getD-take, getD-drop, drop-drop, take-all, take-at, drop-at, take-add, length-take-le}
 use Rattle.meaning.specs.Figures.{largest}
 use Rattle.meaning.specs.Adder.{upFrom}
@@ -29,6 +29,12 @@ mapped f first (suc n) zero less = ap f (omega arith)
 mapped f first (suc n) (suc i) less =
     let further : suc first + i ≡ first + suc i = omega arith in
     mapped f (suc first) n i (omega arith) ∙ ap f further
+
+-- A list of one value has it everywhere, also where it stands for what is not there.
+pub all-alike : {A : Type 0} (count i : ℕ) (a : A) → getD (replicate count a) i a ≡ a
+all-alike zero i a = refl
+all-alike (suc n) zero a = refl
+all-alike (suc n) (suc i) a = all-alike n i a
 
 -- No entry is above the largest.
 pub within-largest : (l : List ℕ) (i : ℕ) → getD l i 0 ≤ largest l

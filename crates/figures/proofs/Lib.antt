@@ -1,5 +1,7 @@
 -- Facts that the proofs of this crate cite.
 pub mod Entries
+pub mod Copies
+pub mod KeptRows
 pub mod Counts
 pub mod Walks
 pub mod Beyond
@@ -8,3 +10,4 @@ pub mod Placing
 pub mod Loading
 pub mod LoadSteps
 pub mod LoadTurns
+pub mod KeptLoads

@@ -18,7 +18,7 @@ use Rattle.figures.specs.Loads.{Loadable, placeLoads, Placed, LoadsAdded
 use Rattle.figures.specs.declared.places.To.{To}
 use Rattle.figures.proofs.Entries.{same-entry, same-further, stands-entry, stands-slice}
 use Rattle.figures.proofs.Walks.{Turn, turn}
-use Rattle.figures.proofs.Loading.{Loading, loadBy, net-within, says-room}
+use Rattle.figures.proofs.Loading.{Loading, loadBy, frame-fits, net-within, says-room}
 
 -- What the argument places of an occurrence add, and what it makes of the largest load so far.
 abbrev occurrenceLoads : List Module → Occurrence → List ℕ
@@ -38,38 +38,36 @@ module _
   place = read (here .o) (here .stands)
 
   module _ {frame : ℕ} (framed : frame ≡ netCount (s .scene .m)) where
-    -- What is to be added stands ready in scratch, the frame is as it was, and so is what lies behind the module's room.
-    pub record Ready (inside : Bool) (most′ : ℕ) (scratch′ : List ℕ) : Type 0 where
+    -- What is to be added stands ready, the frame is as it was, and so is what lies behind the module's room.
+    pub record Ready (inside : Bool) (first : ℕ) (loads : List ℕ) (most′ : ℕ) (scratch′ : List ℕ) : Type 0 where
       pub front : take frame scratch′ ≡ take frame scratch
       pub back : drop (room (s .rs) (16 + k)) scratch′ ≡ drop (room (s .rs) (16 + k)) before
       pub long : length scratch′ ≡ entries
-      pub space : frame + cond inside (length (here .o .takes)) 0 ≤ entries
-      pub loads : placeLoads inside frame (length (here .o .takes)) scratch′ ≡ occurrenceLoads (s .scene .later) (here .o)
+      pub space : first + cond inside (length (here .o .takes)) 0 ≤ length loads
+      pub adds : placeLoads inside first (length (here .o .takes)) loads ≡ occurrenceLoads (s .scene .later) (here .o)
       pub larger : most′ ≡ largestWith (s .scene .later) (here .o) most
 
     -- Then it can be added, and the loads go on.
-    pub record Step (inside : Bool) (most′ : ℕ) (scratch′ : List ℕ) : Type 0 where
-      pub placed : Placed image from behind inside frame scratch′
+    pub record Step (inside : Bool) (first : ℕ) (loads : List ℕ) (most′ : ℕ) (scratch′ : List ℕ) : Type 0 where
+      pub placed : Placed image from behind inside first loads scratch′
       pub next :
           {left′ : ℕ} {scratch″ : List ℕ}
           → left′ + 1 ≡ left
           → length scratch″ ≡ length scratch′
-          → LoadsAdded image from behind inside frame scratch′ scratch″
+          → ((p : Placed image from behind inside first loads scratch′)
+          → LoadsAdded image from behind inside first loads (p .frame) scratch′ scratch″)
           → Loading s before behind left′ most′ scratch″
 
-    pub step : {inside : Bool} {most′ : ℕ} {scratch′ : List ℕ} → Ready inside most′ scratch′ → Step inside most′ scratch′
+    pub step :
+        {inside : Bool} {first : ℕ} {loads : List ℕ} {most′ : ℕ} {scratch′ : List ℕ}
+        → Ready inside first loads most′ scratch′
+        → Step inside first loads most′ scratch′
     unfolding netLoad largestReferred
-    step {inside} {most′} {scratch′} ready =
+    step {inside} {first} {loads} {most′} {scratch′} ready =
         record {
-          placed =
-              record {
-                ordered = omega (arith, place .taken);
-                within = omega (arith, place .taken, place .takes .within);
-                slots = slots;
-                room = omega (arith, ap (λ (n : ℕ). cond inside n 0) count, ready .space, ready .long);
-                fits = λ net less. omega (arith, split net less, net-within s net (omega arith));
-              };
-          next = λ {left′} {scratch″} fewer long added.
+          placed = placed;
+          next = λ {left′} {scratch″} fewer long told.
+              let added = told placed in
               record {
                 rest = here .os;
                 ahead = here .next behind left′ (place .next) fewer;
@@ -98,17 +96,17 @@ module _
 
         shares :
             (net : ℕ)
-            → placesLoad net (slice from behind image) (placeLoads inside frame (behind - from) scratch′)
+            → placesLoad net (slice from behind image) (placeLoads inside first (behind - from) loads)
             ≡ placesLoad net (here .o .takes) (occurrenceLoads (s .scene .later) (here .o))
         shares net =
             ap₂ (placesLoad net) (stands-slice behind (place .taken) (place .takes))
-            (ap (λ (n : ℕ). placeLoads inside frame n scratch′) count ∙ ready .loads)
+            (ap (λ (n : ℕ). placeLoads inside first n loads) count ∙ ready .adds)
 
         split :
             (net : ℕ)
             → net < frame
             → getD scratch′ net 0
-            + (placesLoad net (slice from behind image) (placeLoads inside frame (behind - from) scratch′)
+            + (placesLoad net (slice from behind image) (placeLoads inside first (behind - from) loads)
             + loadBy (s .scene .later) (here .os) net)
             ≡ loadBy (s .scene .later) (s .scene .m .occurrences) net
         split net less =
@@ -118,3 +116,15 @@ module _
               shares net,
               rw (here .is) at (l .loaded net (omega arith)),
             )
+
+        placed : Placed image from behind inside first loads scratch′
+        placed =
+            record {
+              frame = frame;
+              ordered = omega (arith, place .taken);
+              within = omega (arith, place .taken, place .takes .within);
+              slots = slots;
+              room = omega (arith, frame-fits s, ready .long);
+              given = omega (arith, ap (λ (n : ℕ). cond inside n 0) count, ready .space);
+              fits = λ net less. omega (arith, split net less, net-within s net (omega arith));
+            }

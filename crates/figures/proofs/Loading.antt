@@ -16,7 +16,7 @@ use Rattle.image.specs.Stepping.{frame-at}
 use Rattle.image.specs.Searching.{room-search, inputLoads-search, largestLoad-search}
 use Rattle.figures.specs.Scene.{Scene}
 use Rattle.figures.specs.Places.{IsBody}
-use Rattle.figures.specs.Loads.{Loadable, Loaded}
+use Rattle.figures.specs.Loads.{Loadable}
 use Rattle.figures.proofs.Entries.{mapped, within-largest, same-further}
 use Rattle.figures.proofs.Walks.{Ahead, all-ahead}
 use Rattle.figures.proofs.Beyond.{says-here}
@@ -41,12 +41,20 @@ pub record Loading
   pub long : length scratch ≡ entries
   pub behind : drop (room (s .rs) (16 + k)) scratch ≡ drop (room (s .rs) (16 + k)) before
 
+-- All occurrences have added: the loads of the module's nets stand in its frame, the largest of them and of those inside is known, and
+-- nothing behind its room has changed.
+pub record FrameLoaded
+    (rs : List Module) (m : Module) (later : List Module) (k most : ℕ) (scratch scratch′ : List ℕ) : Type 0 where
+  pub largest : most ≡ largestLoad rs (16 + k)
+  pub loads : take (netCount m) scratch′ ≡ map (netLoad (inputLoads later) (m .occurrences)) (netsOf m)
+  pub behind : drop (room rs (16 + k)) scratch′ ≡ drop (room rs (16 + k)) scratch
+
 -- The same module in other entries that are enough.
 abbrev pub moved :
     {image starts nets : List ℕ} {k entries entries′ : ℕ} (s : Loadable image starts nets k entries)
     → room (s .rs) (16 + k) ≤ entries′
     → Loadable image starts nets k entries′
-moved s enough = record { rs = s .rs; scene = s .scene; netted = s .netted; room = enough; loads = s .loads }
+moved s enough = record { rs = s .rs; scene = s .scene; ordered = s .ordered; netted = s .netted; room = enough; loads = s .loads }
 
 module _ {image starts nets : List ℕ} {k entries : ℕ} (s : Loadable image starts nets k entries) where
   -- The table has the size of the module's frame.
@@ -131,7 +139,7 @@ module _ {image starts nets : List ℕ} {k entries : ℕ} (s : Loadable image st
       → frame ≡ netCount (s .scene .m)
       → own ≡ largest (take frame scratch)
       → most′ ≡ max own most
-      → Loaded (s .rs) (s .scene .m) (s .scene .later) k most′ entry scratch
+      → FrameLoaded (s .rs) (s .scene .m) (s .scene .later) k most′ entry scratch
   unfolding netLoad largestReferred
   all-loaded {scratch = scratch} entry {left = left} {most} over l kept framed own larger =
       record {
@@ -169,7 +177,7 @@ module _ {image starts nets : List ℕ} {k entries : ℕ} (s : Loadable image st
 -- The loads of a module's inputs are the first of those that its turn leaves.
 pub inputs-loaded :
     {image starts : List ℕ} {rs : List Module} {j most : ℕ} {part part′ : List ℕ} (s : Scene image starts rs j)
-    → Loaded rs (s .m) (s .later) j most part part′
+    → FrameLoaded rs (s .m) (s .later) j most part part′
     → take (length (s .m .inputs)) part′ ≡ inputLoads rs (16 + j)
 unfolding netsOf netCount
 inputs-loaded {part′ = part′} s done =

@@ -1,7 +1,7 @@
 -- Adding at the argument places of an occurrence, one after the other: what is added and what the places ahead add are what all of them
 -- add.
 use Prim.Native.Nat.{ℕ, suc, _+_, _-_, _≤_, _<_, _^_}
-use mathlib.Core.Path.{_≡_, refl, sym, ap, _∙_}
+use mathlib.Core.Path.{_≡_, refl, _∙_}
 use mathlib.Core.Bool.{Bool, true, false, cond}
 use mathlib.Core.List.{List, _∷_}
 use native.Mathlib.Omega.{arith}
@@ -14,17 +14,17 @@ use Rattle.figures.specs.Loads.{placeLoads, Placed, LoadsAdded}
 use Rattle.figures.proofs.Entries.{entry-more}
 
 -- What so many places add, one by one.
-module _ (frame count : ℕ) (before : List ℕ) where
+module _ (first count : ℕ) (loads : List ℕ) where
   loads-long :
-      (inside : Bool) → frame + cond inside count 0 ≤ length before → length (placeLoads inside frame count before) ≡ count
-  loads-long true room = length-take-le count (drop frame before) (omega (arith, length-drop frame before))
-  loads-long false room = length-replicate count 1
+      (inside : Bool) → first + cond inside count 0 ≤ length loads → length (placeLoads inside first count loads) ≡ count
+  loads-long true given = length-take-le count (drop first loads) (omega (arith, length-drop first loads))
+  loads-long false given = length-replicate count 1
 
   load-at :
       (inside : Bool) (i : ℕ)
       → i < count
-      → getD (placeLoads inside frame count before) i 0 ≡ cond inside (getD before (frame + i) 0) 1
-  load-at true i less = getD-take count (drop frame before) i 0 less ∙ getD-drop frame before i 0
+      → getD (placeLoads inside first count loads) i 0 ≡ cond inside (getD loads (first + i) 0) 1
+  load-at true i less = getD-take count (drop first loads) i 0 less ∙ getD-drop first loads i 0
   load-at false i less = getD-replicate {A = ℕ} count i 1 0 less
 
 -- One entry made larger, at the net of the first place.
@@ -36,91 +36,83 @@ place-more :
 unfolding placesLoad
 place-more scratch slot load net takes loads inside = omega (arith, entry-more scratch slot load net inside)
 
-module _ (image : List ℕ) (from end : ℕ) (inside : Bool) (frame : ℕ) (before : List ℕ) where
+module _
+    {image : List ℕ} {from end : ℕ} {inside : Bool} {first : ℕ} {loads before : List ℕ}
+    (placed : Placed image from end inside first loads before) where
   -- What all places add.
-  abbrev loads : List ℕ
-  loads = placeLoads inside frame (end - from) before
+  abbrev adds : List ℕ
+  adds = placeLoads inside first (end - from) loads
 
   pub record Placing (i : ℕ) (scratch : List ℕ) : Type 0 where
     pub low : from ≤ i
     pub high : i ≤ end
     pub long : length scratch ≡ length before
-    pub behind : drop frame scratch ≡ drop frame before
+    pub behind : drop (placed .frame) scratch ≡ drop (placed .frame) before
     pub sums :
         (net : ℕ)
-        → net < frame
-        → getD scratch net 0 + placesLoad net (slice i end image) (drop (i - from) loads)
-        ≡ getD before net 0 + placesLoad net (slice from end image) loads
+        → net < placed .frame
+        → getD scratch net 0 + placesLoad net (slice i end image) (drop (i - from) adds)
+        ≡ getD before net 0 + placesLoad net (slice from end image) adds
 
-  module _ (placed : Placed image from end inside frame before) where
-    pub none-placed : Placing from before
-    none-placed =
-        let first : from - from ≡ 0 = omega arith in
-        record {
-          low = omega arith;
-          high = placed .ordered;
-          long = refl;
-          behind = refl;
-          sums = λ net less. rw first;
-        }
+  pub none-placed : Placing from before
+  none-placed =
+      let first : from - from ≡ 0 = omega arith in
+      record {
+        low = omega arith;
+        high = placed .ordered;
+        long = refl;
+        behind = refl;
+        sums = λ net less. rw first;
+      }
 
-    -- The place whose turn it is.
-    module _ {i : ℕ} {scratch : List ℕ} (p : Placing i scratch) (less : i < end) where
-      -- The load of an input stands behind the frame as it did at first.
-      pub load-behind : getD scratch (frame + (i - from)) 0 ≡ getD before (frame + (i - from)) 0
-      load-behind =
-          sym (getD-drop frame scratch (i - from) 0)
-          ∙ ap (λ (l : List ℕ). getD l (i - from) 0) (p .behind)
-          ∙ getD-drop frame before (i - from) 0
+  -- The place whose turn it is: its net is in the frame.
+  module _ {i : ℕ} {scratch : List ℕ} (p : Placing i scratch) (less : i < end) {slot : ℕ} (there : slot ≡ getD image i 0) where
+    in-frame : slot < placed .frame
+    in-frame = omega (arith, placed .slots i (p .low) less)
 
-      -- Its net is in the frame.
-      module _ {slot : ℕ} (there : slot ≡ getD image i 0) where
-        in-frame : slot < frame
-        in-frame = omega (arith, placed .slots i (p .low) less)
+    pub slot-inside : slot < length scratch
+    slot-inside = omega (arith, in-frame, placed .room, p .long)
 
-        pub slot-inside : slot < length scratch
-        slot-inside = omega (arith, in-frame, placed .room, p .long)
+    module _ {load : ℕ} (is : load ≡ cond inside (getD loads (first + (i - from)) 0) 1) where
+      here : slice i end image ≡ slot ∷ slice (i + 1) end image
+      here = slice-cons i end image 0 less (placed .within) ∙ rw (there, add-one i)
 
-        module _ {load : ℕ} (is : load ≡ cond inside (getD before (frame + (i - from)) 0) 1) where
-          here : slice i end image ≡ slot ∷ slice (i + 1) end image
-          here = slice-cons i end image 0 less (placed .within) ∙ rw (there, add-one i)
+      ahead : drop (i - from) adds ≡ load ∷ drop (i + 1 - from) adds
+      ahead =
+          let low = p .low in
+          let next : i + 1 - from ≡ suc (i - from) = omega arith in
+          drop-cons adds (i - from) 0 (omega (arith, loads-long first (end - from) loads inside (placed .given)))
+          ∙ rw (next, load-at first (end - from) loads inside (i - from) (omega arith), is)
 
-          ahead : drop (i - from) loads ≡ load ∷ drop (i + 1 - from) loads
-          ahead =
-              let low = p .low in
-              let next : i + 1 - from ≡ suc (i - from) = omega arith in
-              drop-cons loads (i - from) 0 (omega (arith, loads-long frame (end - from) before inside (placed .room)))
-              ∙ rw (next, load-at frame (end - from) before inside (i - from) (omega arith), is)
+      -- What a net has and what the places from here on add.
+      split :
+          (net : ℕ)
+          → net < placed .frame
+          → getD scratch net 0 + placesLoad net (slot ∷ slice (i + 1) end image) (load ∷ drop (i + 1 - from) adds)
+          ≡ getD before net 0 + placesLoad net (slice from end image) adds
+      split net inFrame = rw (here, ahead) at (p .sums net inFrame)
 
-          -- What a net has and what the places from here on add.
-          split :
-              (net : ℕ)
-              → net < frame
-              → getD scratch net 0 + placesLoad net (slot ∷ slice (i + 1) end image) (load ∷ drop (i + 1 - from) loads)
-              ≡ getD before net 0 + placesLoad net (slice from end image) loads
-          split net inFrame = rw (here, ahead) at (p .sums net inFrame)
+      pub place-fits : getD scratch slot 0 + load < 2 ^ 32
+      unfolding placesLoad
+      place-fits = omega (arith, rw (eq-eqb slot slot refl) at (split slot in-frame), placed .fits slot in-frame)
 
-          pub place-fits : getD scratch slot 0 + load < 2 ^ 32
-          unfolding placesLoad
-          place-fits = omega (arith, rw (eq-eqb slot slot refl) at (split slot in-frame), placed .fits slot in-frame)
+      pub more-placed : Placing (i + 1) (set scratch slot (getD scratch slot 0 + load))
+      more-placed =
+          record {
+            low = omega (arith, p .low);
+            high = omega arith;
+            long = length-set scratch slot (getD scratch slot 0 + load) ∙ p .long;
+            behind = drop-set-lt (placed .frame) scratch slot (getD scratch slot 0 + load) in-frame ∙ p .behind;
+            sums = λ net inFrame.
+                place-more scratch slot load net (slice (i + 1) end image) (drop (i + 1 - from) adds) slot-inside
+                ∙ split net inFrame;
+          }
 
-          pub more-placed : Placing (i + 1) (set scratch slot (getD scratch slot 0 + load))
-          more-placed =
-              record {
-                low = omega (arith, p .low);
-                high = omega arith;
-                long = length-set scratch slot (getD scratch slot 0 + load) ∙ p .long;
-                behind = drop-set-lt frame scratch slot (getD scratch slot 0 + load) in-frame ∙ p .behind;
-                sums = λ net inFrame.
-                    place-more scratch slot load net (slice (i + 1) end image) (drop (i + 1 - from) loads) slot-inside
-                    ∙ split net inFrame;
-              }
-
-    pub all-placed : {i : ℕ} {scratch : List ℕ} → end ≤ i → Placing i scratch → LoadsAdded image from end inside frame before scratch
-    unfolding placesLoad
-    all-placed {i} {scratch} over p =
-        let last : i ≡ end = omega (arith, p .high) in
-        record {
-          added = λ net inFrame. omega (arith, rw (last, slice-empty end image) at (p .sums net inFrame));
-          behind = p .behind;
-        }
+  pub all-placed : {i : ℕ} {scratch : List ℕ} → end ≤ i → Placing i scratch → LoadsAdded image from end inside first loads (placed .frame) before scratch
+  unfolding placesLoad
+  all-placed {i} {scratch} over p =
+      let last : i ≡ end = omega (arith, p .high) in
+      record {
+        added = λ net inFrame. omega (arith, rw (last, slice-empty end image) at (p .sums net inFrame));
+        behind = p .behind;
+      }

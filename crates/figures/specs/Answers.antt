@@ -21,7 +21,7 @@ use Rattle.image.specs.ResolvedFigures.{expandedSize-resolved, gateWeight-resol
 use Rattle.image.specs.ResolvedLoads.{largestLoad-resolved}
 use Rattle.figures.specs.Scene.{Imaged, Scene}
 use Rattle.figures.specs.Tallies.{oneOf, Countable}
-use Rattle.figures.specs.Loads.{Netted, Loadable}
+use Rattle.figures.specs.Loads.{Ordered, Netted, Loadable}
 
 -- Resolution keeps the tally.
 pub tally-resolved :
@@ -54,28 +54,24 @@ module _
   tallied answer = answer countable ∙ tally-resolved (accepted-fits accepted) number m found
 
   -- The largest load.
-  pub loadable :
-      {nets : List ℕ} {entries : ℕ}
-      → Netted nets (resolve ms)
-      → room ms number ≤ entries
-      → Loadable image starts nets (positionOf number ms) entries
-  loadable nets enough =
-      record {
-        rs = resolve ms;
-        scene = scene;
-        netted = nets;
-        room = omega (arith, room-resolved (accepted-fits accepted) number m found);
-        loads = omega (arith, largestLoad-resolved (accepted-fits accepted) number m found, largestLoad-within accepted number);
-      }
+  module _ {nets : List ℕ} {entries : ℕ} (ordered : Ordered starts (resolve ms)) (netted : Netted nets (resolve ms)) (enough : room ms number ≤ entries) where
+    pub loadable : Loadable image starts nets (positionOf number ms) entries
+    loadable =
+        record {
+          rs = resolve ms;
+          scene = scene;
+          ordered = ordered;
+          netted = netted;
+          room = omega (arith, room-resolved (accepted-fits accepted) number m found);
+          loads = omega (arith, largestLoad-resolved (accepted-fits accepted) number m found, largestLoad-within accepted number);
+        }
 
-  pub loaded :
-      {nets : List ℕ} {entries most : ℕ}
-      → Netted nets (resolve ms)
-      → room ms number ≤ entries
-      → ((s : Loadable image starts nets (positionOf number ms) entries) → most ≡ largestLoad (s .rs) (16 + positionOf number ms))
-      → most ≡ largestLoad ms number
-  unfolding loadable
-  loaded nets enough answer = answer (loadable nets enough) ∙ largestLoad-resolved (accepted-fits accepted) number m found
+    pub loaded :
+        {most : ℕ}
+        → ((s : Loadable image starts nets (positionOf number ms) entries) → most ≡ largestLoad (s .rs) (16 + positionOf number ms))
+        → most ≡ largestLoad ms number
+    unfolding loadable
+    loaded answer = answer loadable ∙ largestLoad-resolved (accepted-fits accepted) number m found
 
 -- The sum of the tally: it fits, and it is the gate count.
 pub tally-fits : {ms : List Module} → Accepted ms → (number : ℕ) → total (tally ms number) < 2 ^ 32

@@ -2,6 +2,7 @@
 pub mod Scene
 pub mod Places
 pub mod Tallies
+pub mod Rows
 pub mod Loads
 pub mod Images
 pub mod Answers

@@ -6,6 +6,7 @@ ghost use lib.ListN.{replicate, getD};
 ghost use Rattle.meaning.specs.Figures.{tally};
 ghost use Rattle.laws.specs.Figures.Tally.{total};
 ghost use Rattle.figures.specs.Tallies.{oneOf, Addable, Added, Countable};
+ghost use Rattle.figures.specs.Rows.{Tallying, Tallied};
 
 // A record of sixteen gate counts, one a kind.
 pub struct Tally {
@@ -42,13 +43,22 @@ impl Tally {
     }
 }
 
-// The tally of the module at position k: a gate counts for itself, and a module adds its tally each time it is reached. The work is
-// bounded by the expanded size.
-pub fn tally_module(image: &[u16], starts: &[usize], k: usize) -> Tally
-    requires { ⌜ Countable (now image) (now starts) k ⌝ }
-    ensures { λ r. ⌜ ((s : Countable (now (image .entry)) (now (starts .entry)) k)
-        → r .counts ≡ tally (s .rs) (16 + k)) ⌝ }
+// The tally of the module at position k: a gate counts for itself, and a module adds its tally each time it is referred to. What is
+// kept is looked up, so the work is bounded by the length of the file.
+fn tally_once(
+    image: &[u16],
+    starts: &[usize],
+    k: usize,
+    rows: &mut [u32],
+    filled: &mut [bool],
+) -> Tally
+    requires { ⌜ Tallying (now image) (now starts) k (now rows) (now filled) ⌝ }
+    ensures { λ r. ⌜ ((s : Tallying (now (image .entry)) (now (starts .entry)) k (now (rows .entry)) (now (filled .entry)))
+        → Tallied (s .countable .rs) k (r .counts) (now (rows .exit)) (now (filled .exit))) ⌝ }
 {
+    if crate::rows::is_filled(filled, k) {
+        return crate::rows::row_at(rows, k);
+    }
     let body = crate::places::body_at(image, starts[k]);
     let mut at = body.at;
     let mut left = body.count;
@@ -63,12 +73,24 @@ pub fn tally_module(image: &[u16], starts: &[usize], k: usize) -> Tally
                 tally = tally.with_gate(kind);
             }
             To::Module(j) => {
-                let inner = tally_module(image, starts, j);
+                let inner = tally_once(image, starts, j, rows, filled);
                 tally = tally.with_tally(inner);
             }
         }
     }
+    crate::rows::fill_row(tally, k, rows, filled);
     tally
+}
+
+// The tally of the module at position k. A file has at most 128 modules, so each has its row.
+pub fn tally_module(image: &[u16], starts: &[usize], k: usize) -> Tally
+    requires { ⌜ Countable (now image) (now starts) k ⌝ }
+    ensures { λ r. ⌜ ((s : Countable (now (image .entry)) (now (starts .entry)) k)
+        → r .counts ≡ tally (s .rs) (16 + k)) ⌝ }
+{
+    let mut rows = [0u32; 2048];
+    let mut filled = [false; 128];
+    tally_once(image, starts, k, &mut rows, &mut filled)
 }
 
 // How many gates a tally counts.

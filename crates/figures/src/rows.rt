@@ -1,0 +1,37 @@
+// Tallies kept by position, so that a module is counted once and not each time it is reached: a row of sixteen counts for each module,
+// and whether the row is filled.
+use crate::tally::Tally;
+ghost use mathlib.Core.Path.{_≡_};
+ghost use mathlib.Core.Bool.{false};
+ghost use Prim.Native.Nat.{_+_, _*_, _≤_};
+ghost use lib.ListN.{length, getD};
+ghost use Rattle.figures.specs.Rows.{row, Filled};
+
+// Whether the row of the module at position k is filled. A position behind the rows has none.
+pub(crate) fn is_filled(filled: &[bool], k: usize) -> bool
+    ensures { λ r. ⌜ r ≡ getD (now (filled .entry)) k false ⌝ }
+{
+    if k < filled.len() { filled[k] } else { false }
+}
+
+// The tally in row k.
+pub(crate) fn row_at(rows: &[u32], k: usize) -> Tally
+    requires { ⌜ 16 * k + 16 ≤ length (now rows) ⌝ }
+    ensures { λ r. ⌜ r .counts ≡ row (now (rows .entry)) k ⌝ }
+{
+    let mut counts = [0u32; 16];
+    crate::copying::copy(rows, 16 * k, 16, &mut counts, 0);
+    Tally { counts }
+}
+
+// Row k is filled with a tally. A position behind the rows has none, and nothing is kept of it.
+pub(crate) fn fill_row(tally: Tally, k: usize, rows: &mut [u32], filled: &mut [bool])
+    requires { ⌜ 16 * length (now filled) ≤ length (now rows) ⌝ }
+    ensures { λ _. ⌜ Filled (tally .counts) k (now (rows .entry)) (now (filled .entry)) (now (rows .exit)) (now (filled .exit)) ⌝ }
+{
+    if k < filled.len() {
+        let counts = tally.counts;
+        crate::copying::copy(&counts, 0, 16, rows, 16 * k);
+        filled[k] = true;
+    }
+}
