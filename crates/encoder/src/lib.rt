@@ -1,7 +1,8 @@
-// The one place where the bytes of a file are written: a list of numbers to bytes in a lent buffer, and how many bytes they need.
+// The one place where the bytes of a file are written: a list of numbers to bytes in a lent buffer, and whether it has room for them.
 // The layout is that of specs/Layout.antt in `meaning`.
 ghost use mathlib.Core.Path.{_≡_};
 ghost use Prim.Native.Nat.{_+_, _≤_};
+ghost use lib.Dec.{leb};
 ghost use lib.ListN.{length};
 ghost use Rattle.meaning.specs.Ceilings.{Small};
 ghost use Rattle.meaning.specs.Layout.{each, numberBytes};
@@ -18,7 +19,7 @@ fn width(n: u16) -> usize
 }
 
 // How many bytes the numbers have.
-pub fn needed(numbers: &[u16]) -> usize
+fn needed(numbers: &[u16]) -> usize
     ensures { λ r. ⌜ r ≡ length (each numberBytes (now (numbers .entry))) ⌝ }
 {
     let mut total: usize = 0;
@@ -28,6 +29,16 @@ pub fn needed(numbers: &[u16]) -> usize
         i += 1;
     }
     total
+}
+
+// Whether the numbers have at most as many bytes as there is room for. Where there is room for two bytes each they need not be counted.
+pub fn fits(numbers: &[u16], room: usize) -> bool
+    ensures { λ r. ⌜ r ≡ leb (length (each numberBytes (now (numbers .entry)))) room ⌝ }
+{
+    if 2 * numbers.len() <= room {
+        return true;
+    }
+    needed(numbers) <= room
 }
 
 // Writes a number at a place, and gives the place behind it.

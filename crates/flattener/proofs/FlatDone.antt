@@ -1,7 +1,7 @@
 -- Once the plan of flattening is carried out: the numbers in front of the gates can be written, and with them the numbers are those of
 -- the flattened file.
 use Prim.Native.Nat.{ℕ, _+_, _-_, _≤_}
-use mathlib.Core.Path.{_≡_, sym, ap, subst, _∙_}
+use mathlib.Core.Path.{_≡_, sym, ap, _∙_}
 use mathlib.Core.List.{List, _++_}
 use native.Mathlib.Omega.{arith}
 use lib.ListN.{length, getD, take, drop, replicate}
@@ -10,7 +10,6 @@ use Rattle.meaning.specs.Limits.{netCount}
 use Rattle.meaning.specs.Flattening.{Placed}
 use Rattle.meaning.specs.Adder.{upFrom}
 use Rattle.laws.specs.Adder.Nets.{length-upFrom}
-use Rattle.nets.specs.Slots.{Below}
 use Rattle.image.specs.Frames.{readSlots, Filled}
 use Rattle.image.specs.Laid.{laid, length-laid}
 use Rattle.flattener.specs.Slots.{Readable, netsAt}
@@ -21,7 +20,7 @@ use Rattle.flattener.specs.Plan.{Done}
 use Rattle.flattener.specs.Flat.{Flattenable, Flattened, flatNumbers}
 use Rattle.flattener.specs.declared.gates.Pen.{Pen}
 use Rattle.flattener.specs.declared.places.Header.{Header}
-use Rattle.flattener.proofs.Nets.{below-read, read-front}
+use Rattle.flattener.proofs.Nets.{read-front}
 use Rattle.flattener.proofs.Parts.{laid-both, drop-behind}
 use Rattle.flattener.proofs.SubPlan.{inputs-within}
 use Rattle.flattener.proofs.FlatPlan.{position, frame-ok, head, flat, plan, walked, walk-is, front, flat-parts, front-long, flat-long}
@@ -56,7 +55,6 @@ module _
           record {
             listed = there .listed;
             slots = rw (there .is) (record { slot = λ i h. omega (arith, filled .slot i h, position f .room, f .wide, f .enough, scratch-long) });
-            small = rw nets-are (below-read (subst (Below 65536) (ap (λ (q : Placed). q .nets) (planned-is f of e)) (done .small)) slots);
           }
 
     inputs-filled-here : Filled (netCount (position f .r)) (position f .r .inputs)

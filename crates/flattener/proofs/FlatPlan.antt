@@ -20,7 +20,6 @@ use Rattle.image.specs.Frames.{FrameOk}
 use Rattle.image.specs.FrameLengths.{length-of-readSlots}
 use Rattle.image.specs.Stepping.{frame-at}
 use Rattle.flattener.specs.Placing.{walkPlaced, placeFrames}
-use Rattle.flattener.specs.Runs.{run-below}
 use Rattle.flattener.specs.Front.{frontNumbers, length-of-front}
 use Rattle.flattener.specs.AtPosition.{AtPosition, at-position}
 use Rattle.flattener.specs.FlatFrames.{FlatWalk, flat-walk, file-of-one}
@@ -144,7 +143,6 @@ module _
               here = position .here;
               room = omega (arith, position .room, f .wide);
               reached = omega (arith, f .enough, numbered-long);
-              small = rw given-is (run-below 65536 0 (header .inputs) (omega (arith, gates-few)) (omega arith));
               written =
                   record {
                     next = next;

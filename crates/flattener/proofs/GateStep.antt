@@ -20,7 +20,6 @@ use Rattle.flattener.specs.Places.{PlaceIs}
 use Rattle.flattener.specs.Plan.{Plan, Ready}
 use Rattle.flattener.specs.declared.gates.Pen.{Pen}
 use Rattle.flattener.specs.declared.places.Place.{Place}
-use Rattle.flattener.proofs.Nets.{below-one, below-read}
 use Rattle.flattener.proofs.Progress.{Progress, Current}
 use Rattle.flattener.proofs.Lengths.{long-now}
 use Rattle.flattener.proofs.Stepping.{placed, within, arguments, in-frame, Stepped}
@@ -72,7 +71,6 @@ module _
                     record {
                       listed = is .takeList .listed;
                       slots = rw (is .takeList .is) (record { slot = λ j h. omega (arith, c .slots .slot j h, free, in-scratch) });
-                      small = rw (arguments g c is) (below-read (g .small) (c .o .takes));
                     };
                 room = omega (arith, fits, numbers-of-gate, g .written .place, long-now ready g);
               };
@@ -88,7 +86,6 @@ module _
           front =
               rw (set-down, one-net (c .reference) gate, add-one filled, ← g .written .next)
               (take-suc-set scratch filled (pen .next) (omega (arith, free, in-scratch)));
-          small = rw set-down (below-one (omega (arith, rw set-down at (within g c ready .few))));
           size = length-set scratch filled (pen .next);
           kept = drop-set-lt (p .reach) scratch filled (pen .next) (omega (arith, free, g .wide, g .room));
           written = rw set-down (gate-written (c .o .refers) args (g .written) fits gate-is (s .next));

@@ -10,7 +10,6 @@ use lib.Seq.{take-take}
 use Rattle.meaning.specs.Gates.{isGate}
 use Rattle.meaning.specs.Limits.{netCount}
 use Rattle.meaning.specs.Flattening.{Board}
-use Rattle.nets.specs.Slots.{Below}
 use Rattle.image.specs.Frames.{readSlots, Filled}
 use Rattle.image.specs.FrameLengths.{length-of-readSlots}
 use Rattle.image.specs.Laid.{laid, length-laid}
@@ -22,7 +21,7 @@ use Rattle.flattener.specs.Plan.{Plan, Ready, Done, planned}
 use Rattle.flattener.specs.declared.gates.Pen.{Pen}
 use Rattle.flattener.specs.declared.places.Place.{Place}
 use Rattle.flattener.specs.declared.places.Header.{Header}
-use Rattle.flattener.proofs.Nets.{below-read, read-front}
+use Rattle.flattener.proofs.Nets.{read-front}
 use Rattle.flattener.proofs.Parts.{drop-by, take-before, take-through, drop-behind}
 use Rattle.flattener.proofs.Progress.{Progress, Current}
 use Rattle.flattener.proofs.Stepping.{in-frame, Stepped}
@@ -92,7 +91,6 @@ module _
           front =
               take-through back filled outs inside (filled + length (c .o .drives)) (sym long)
               ∙ ap₂ _++_ front-kept (outs-are ∙ nets-are g c is other ready);
-          small = subst (Below 65536) (nets-are g c is other ready) (below-read (finished .small) (callee .m .outputs));
           size = length-laid back filled outs inside ∙ size-is;
           kept =
               drop-behind back filled outs inside (p .reach) (omega (arith, long, in-frame g c, reach))

@@ -10,7 +10,6 @@ use Rattle.meaning.specs.Limits.{driven, netCount}
 use Rattle.meaning.specs.Figures.{largestReferred, room}
 use Rattle.meaning.specs.Flattening.{Board, Placed}
 use Rattle.laws.specs.WellFormed.{Reference}
-use Rattle.nets.specs.Slots.{Below}
 use Rattle.image.specs.Stands.{Stands, stands-front, stands-skip}
 use Rattle.image.specs.Frames.{Filled, Framed, step}
 use Rattle.image.specs.Stepping.{frame-at}
@@ -33,7 +32,6 @@ pub record Progress
   pub board : Board
   pub written : Written (p .around) (p .base) board pen numbers
   pub same : walkPlaced (placeFrames (p .later)) left (take filled scratch) board ≡ planned p scratch₀
-  pub small : Below 65536 (take filled scratch)
   pub size : length scratch ≡ length scratch₀
   pub kept : drop (p .reach) scratch ≡ drop (p .reach) scratch₀
 
@@ -60,7 +58,6 @@ begin {p} {k = k} {scratch = scratch} {h = h} ready header frame count e f =
       board = p .board;
       written = ready .written;
       same = ap (λ (n : ℕ). walkPlaced (placeFrames (p .later)) (p .m .occurrences) (take n scratch) (p .board)) (header .inputs);
-      small = rw (header .inputs) (ready .small);
       size = refl;
       kept = refl;
     }
@@ -121,7 +118,6 @@ module _
             record {
               size = g .size;
               frame = ap (λ (n : ℕ). take n scratch) (sym whole) ∙ nets;
-              small = subst (Below 65536) nets (g .small);
               kept = g .kept;
               written = subst (λ (b : Board). Written (p .around) (p .base) b pen numbers) (ap (λ (q : Placed). q .board) same) (g .written);
             }

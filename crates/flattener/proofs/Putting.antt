@@ -1,5 +1,4 @@
--- A list written as a file has it. One turn of the loop behind the count: the slot of the i-th net is in the scratch, and the net is a
--- number of two bytes. At the end the count and the nets behind it are the list.
+-- A list written as a file has it. One turn of the loop behind the count: the slot of the i-th net is in the scratch. At the end the count and the nets behind it are the list.
 use Prim.Native.Nat.{ℕ, _+_, _<_}
 use native.Mathlib.Omega.{arith}
 use mathlib.Core.Path.{_≡_, sym, ap, _∙_}
@@ -15,7 +14,6 @@ pub record Turn (image : List ℕ) (list : ℕ) (scratch numbers₀ : List ℕ) 
   pub same : length numbers ≡ length numbers₀
   pub inside : slot < length scratch
   pub value : getD scratch slot 0 ≡ getD (netsAt image list scratch) i 0
-  pub small : getD scratch slot 0 < 65536
 
 module _ {image : List ℕ} {list : ℕ} {scratch before : List ℕ} {at : ℕ} (able : Listable image list scratch before at) where
   pub count-of-nets : length (netsAt image list scratch) ≡ getD image list 0
@@ -33,7 +31,6 @@ module _ {image : List ℕ} {list : ℕ} {scratch before : List ℕ} {at : ℕ} 
         same = filling-length f;
         inside = omega (arith, able .readable .slots .slot i (omega (arith, count-of-list)), slot-of-list image list (able .readable .listed) i h);
         value = value;
-        small = omega (arith, able .readable .small .below i, value);
       }
     where
       count-of-list : length (listAt image list) ≡ getD image list 0

@@ -9,7 +9,6 @@ use Rattle.meaning.specs.Layout.{each, occurrenceNumbers}
 use Rattle.meaning.specs.Limits.{driven, mostModuleNets}
 use Rattle.meaning.specs.Figures.{largestReferred, room}
 use Rattle.meaning.specs.Flattening.{Placed, placeReferred}
-use Rattle.nets.specs.Slots.{Below}
 use Rattle.image.specs.Pieces.{moved}
 use Rattle.image.specs.Frames.{readSlots}
 use Rattle.flattener.specs.Placing.{walkPlaced, placeFrames}
@@ -20,7 +19,7 @@ use Rattle.flattener.specs.Places.{PlaceIs}
 use Rattle.flattener.specs.Plan.{Plan, Ready, planned}
 use Rattle.flattener.specs.declared.gates.Pen.{Pen}
 use Rattle.flattener.specs.declared.places.Place.{Place}
-use Rattle.flattener.proofs.Nets.{below-both, read-front}
+use Rattle.flattener.proofs.Nets.{read-front}
 use Rattle.flattener.proofs.Progress.{Progress, Current}
 
 module _
@@ -76,7 +75,6 @@ module _
     -- It is placed: its nets stand in their slots, and its gates are written.
     pub record Stepped (scratch′ numbers′ : List ℕ) (pen′ : Pen) : Type 0 where
       pub front : take (filled + length (c .o .drives)) scratch′ ≡ take filled scratch ++ placed .nets
-      pub small : Below 65536 (placed .nets)
       pub size : length scratch′ ≡ length scratch
       pub kept : drop (p .reach) scratch′ ≡ drop (p .reach) scratch
       pub written : Written (p .around) (p .base) (placed .board) pen′ numbers′
@@ -109,7 +107,6 @@ module _
           written = s .written;
           same =
               ap (λ (frame : List ℕ). walkPlaced (placeFrames (p .later)) (c .rest) frame (placed .board)) front ∙ rest-is;
-          small = rw front (below-both (g .small) (s .small));
           size = s .size ∙ g .size;
           kept = s .kept ∙ g .kept;
         }

@@ -25,7 +25,6 @@ use Rattle.flattener.specs.Places.{PlaceIs}
 use Rattle.flattener.specs.Plan.{Plan, Ready, given, planned}
 use Rattle.flattener.specs.declared.gates.Pen.{Pen}
 use Rattle.flattener.specs.declared.places.Place.{Place}
-use Rattle.flattener.proofs.Nets.{below-read}
 use Rattle.flattener.proofs.Progress.{Progress, Current}
 use Rattle.flattener.proofs.Stepping.{placed, within, in-frame}
 
@@ -123,7 +122,6 @@ module _
           here = target .here;
           room = omega (arith, roomy);
           reached = omega (arith, ready .reached, g .size, length-drop frame lent, length-laid scratch frame args fits);
-          small = rw given-is (below-read (g .small) (c .o .takes));
           written = g .written;
           few = rw board-is (within g c ready .few);
           long = rw board-is (within g c ready .long);

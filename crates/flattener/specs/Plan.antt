@@ -8,7 +8,6 @@ use Rattle.meaning.specs.Layout.{each, occurrenceNumbers, moduleNumbers}
 use Rattle.meaning.specs.Limits.{netCount, mostModuleNets}
 use Rattle.meaning.specs.Figures.{largestReferred, room}
 use Rattle.meaning.specs.Flattening.{Board, Placed}
-use Rattle.nets.specs.Slots.{Below}
 use Rattle.image.specs.Stands.{Stands}
 use Rattle.image.specs.Frames.{FramesOk}
 use Rattle.flattener.specs.Placing.{walkPlaced, placeFrames}
@@ -48,7 +47,6 @@ pub record Ready (p : Plan) (image starts nets : List ℕ) (k : ℕ) (pen : Pen)
   pub here : drop k (p .rs) ≡ p .m ∷ p .later
   pub room : netCount (p .m) + largestReferred (room (p .later)) (p .m .occurrences) ≤ p .reach
   pub reached : p .reach ≤ length scratch
-  pub small : Below 65536 (given p scratch)
   pub written : Written (p .around) (p .base) (p .board) pen numbers
   pub few : planned p scratch .board .next ≤ mostModuleNets
   pub long : p .base + length (each occurrenceNumbers (planned p scratch .board .gates)) ≤ length (p .around)
@@ -61,6 +59,5 @@ pub record SomeReady (image starts nets : List ℕ) (k : ℕ) (pen : Pen) (scrat
 pub record Done (p : Plan) (before after : List ℕ) (pen : Pen) (numbers : List ℕ) : Type 0 where
   pub size : length after ≡ length before
   pub frame : take (netCount (p .m)) after ≡ planned p before .nets
-  pub small : Below 65536 (planned p before .nets)
   pub kept : drop (p .reach) after ≡ drop (p .reach) before
   pub written : Written (p .around) (p .base) (planned p before .board) pen numbers

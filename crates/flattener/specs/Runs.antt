@@ -6,7 +6,6 @@ use native.Mathlib.Omega.{arith}
 use lib.ListN.{length, getD, take, drop}
 use lib.Seq.{drop-cons}
 use Rattle.meaning.specs.Adder.{upFrom}
-use Rattle.nets.specs.Slots.{Below}
 use Rattle.image.specs.Frames.{readSlots}
 
 pub run-at : (first count i : ℕ) → i < count → getD (upFrom first count) i 0 ≡ first + i
@@ -14,15 +13,6 @@ unfolding upFrom
 run-at first zero i h = absurd (omega arith)
 run-at first (suc n) zero h = omega arith
 run-at first (suc n) (suc i) h = run-at (suc first) n i (omega arith) ∙ omega arith
-
-pub run-below : (bound first count : ℕ) → first + count ≤ bound → 0 < bound → Below bound (upFrom first count)
-unfolding upFrom
-run-below bound first count fits some = record { below = at first count fits }
-  where
-    at : (first count : ℕ) → first + count ≤ bound → (i : ℕ) → getD (upFrom first count) i 0 < bound
-    at first zero h i = some
-    at first (suc n) h zero = omega arith
-    at first (suc n) h (suc i) = at (suc first) n (omega arith) i
 
 pub take-run : (first n count : ℕ) → n ≤ count → take n (upFrom first count) ≡ upFrom first n
 unfolding upFrom

@@ -3,7 +3,6 @@ use Prim.Native.Nat.{ℕ, _+_, _≤_, _<_}
 use mathlib.Core.Path.{_≡_}
 use mathlib.Core.List.{List}
 use lib.ListN.{length, getD, take, drop}
-use Rattle.nets.specs.Slots.{Below}
 use Rattle.image.specs.Frames.{readSlots, Filled}
 use Rattle.image.specs.Laid.{laid}
 
@@ -26,11 +25,10 @@ pub record Copyable (image : List ℕ) (list source target : ℕ) (scratch : Lis
   pub apart : (i : ℕ) → i < getD image list 0 → Outside target (getD image list 0) (source + getD (listAt image list) i 0)
   pub room : target + getD image list 0 ≤ length scratch
 
--- Each of them is a number of two bytes.
+-- They can be read.
 pub record Readable (image : List ℕ) (list : ℕ) (scratch : List ℕ) : Type 0 where
   pub listed : list + 1 + getD image list 0 ≤ length image
   pub slots : Filled (length scratch) (listAt image list)
-  pub small : Below 65536 (netsAt image list scratch)
 
 -- They can be written as a list of a file: there is room for their count and them.
 pub record Listable (image : List ℕ) (list : ℕ) (scratch numbers : List ℕ) (at : ℕ) : Type 0 where

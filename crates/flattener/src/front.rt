@@ -9,7 +9,7 @@ pub(crate) fn set_front(
     outputs: usize,
     number: u16,
     gates: u16,
-    scratch: &[u32],
+    scratch: &[u16],
     numbers: &mut [u16],
 )
     requires { ⌜ Frontable (now image) inputs outputs (now scratch) (now numbers) ⌝ }

@@ -13,7 +13,7 @@ pub(crate) fn set_gate(
     refers: usize,
     takes: usize,
     pen: Pen,
-    scratch: &[u32],
+    scratch: &[u16],
     numbers: &mut [u16],
 ) -> Pen
     requires { ⌜ Settable (now image) refers takes pen (now scratch) (now numbers) ⌝ }

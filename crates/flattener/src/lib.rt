@@ -18,7 +18,7 @@ pub fn flatten(
     k: usize,
     number: u16,
     room: usize,
-    scratch: &mut [u32],
+    scratch: &mut [u16],
     numbers: &mut [u16],
 ) -> usize
     requires { ⌜ Flattenable (now image) (now starts) (now nets) k number room (now scratch) (now numbers) ⌝ }

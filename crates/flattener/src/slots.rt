@@ -9,7 +9,7 @@ ghost use Rattle.image.specs.Laid.{laid};
 ghost use Rattle.flattener.specs.Slots.{Copyable, Listable, Laid, netsAt};
 
 // The nets at the slots of a list, counted from `source` on, to the places from `target` on.
-pub(crate) fn copy(image: &[u16], list: usize, source: usize, target: usize, scratch: &mut [u32])
+pub(crate) fn copy(image: &[u16], list: usize, source: usize, target: usize, scratch: &mut [u16])
     requires { ⌜ Copyable (now image) list source target (now scratch) ⌝ }
     ensures { λ _. ⌜ now (scratch .exit) ≡ laid (now (scratch .entry)) target (netsAt (now (image .entry)) list (drop source (now (scratch .entry)))) ⌝ }
 {
@@ -25,7 +25,7 @@ pub(crate) fn copy(image: &[u16], list: usize, source: usize, target: usize, scr
 pub(crate) fn put(
     image: &[u16],
     list: usize,
-    scratch: &[u32],
+    scratch: &[u16],
     numbers: &mut [u16],
     at: usize,
 ) -> usize
@@ -36,19 +36,19 @@ pub(crate) fn put(
     numbers[at] = image[list];
     let mut i = 0;
     while i < count {
-        numbers[at + 1 + i] = scratch[image::entry(image, list + 1 + i)] as u16;
+        numbers[at + 1 + i] = scratch[image::entry(image, list + 1 + i)];
         i += 1;
     }
     at + 1 + count
 }
 
 // The nets of the new module's inputs, 0, 1, 2 and so on, in the first slots.
-pub(crate) fn number_inputs(count: usize, scratch: &mut [u32])
+pub(crate) fn number_inputs(count: usize, scratch: &mut [u16])
     requires { ⌜ count ≤ length (now scratch) ⌝ }
     requires { ⌜ count ≤ 4096 ⌝ }
     ensures { λ _. ⌜ now (scratch .exit) ≡ laid (now (scratch .entry)) 0 (upFrom 0 count) ⌝ }
 {
-    let mut net = 0u32;
+    let mut net = 0u16;
     let mut i = 0;
     while i < count {
         scratch[i] = net;
@@ -58,7 +58,7 @@ pub(crate) fn number_inputs(count: usize, scratch: &mut [u32])
 }
 
 // Puts the first entries back to 0.
-pub(crate) fn clear(room: usize, scratch: &mut [u32])
+pub(crate) fn clear(room: usize, scratch: &mut [u16])
     requires { ⌜ room ≤ length (now scratch) ⌝ }
     ensures { λ _. ⌜ now (scratch .exit) ≡ replicate room 0 ++ drop room (now (scratch .entry)) ⌝ }
 {

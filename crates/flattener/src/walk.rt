@@ -13,7 +13,7 @@ pub(crate) fn place_module(
     nets: &[usize],
     k: usize,
     pen: Pen,
-    scratch: &mut [u32],
+    scratch: &mut [u16],
     numbers: &mut [u16],
 ) -> Pen
     requires { ⌜ SomeReady (now image) (now starts) (now nets) k pen (now scratch) (now numbers) ⌝ }
@@ -32,7 +32,7 @@ fn walk(
     k: usize,
     header: Header,
     pen: Pen,
-    scratch: &mut [u32],
+    scratch: &mut [u16],
     numbers: &mut [u16],
 ) -> Pen
     requires { ⌜ SomeReady (now image) (now starts) (now nets) k pen (now scratch) (now numbers) ⌝ }
@@ -56,7 +56,7 @@ fn walk(
         if refers < 16 {
             let net = pen.next;
             pen = crate::gates::set_gate(image, place.refers, place.takes, pen, scratch, numbers);
-            scratch[here] = net as u32;
+            scratch[here] = net;
         } else {
             let j = refers - 16;
             crate::slots::copy(image, place.takes, 0, frame, scratch);

@@ -42,9 +42,6 @@ mul-numbers-3 c = omega (arith, here c .inside)
 shared-slice-read-numbers-2 : tie.Need-shared-slice-read-numbers-2 Inv-loop μ-loop
 shared-slice-read-numbers-2 c = here (c .before) .inside
 
-cast-numbers : tie.Need-cast-numbers Inv-loop μ-loop
-cast-numbers c = record { fits = here (c .before) .small }
-
 slice-write-numbers-2 : tie.Need-slice-write-numbers-2 Inv-loop μ-loop
 slice-write-numbers-2 c = omega (arith, here (c .before) .more, c .before .before .before .loop .inv .room, here (c .before) .same)
 
@@ -84,7 +81,6 @@ put-spec =
     (λ c κs. omega arith)
     mul-numbers-3
     shared-slice-read-numbers-2
-    cast-numbers
     (λ c. omega arith)
     (λ c. omega arith)
     (λ c. omega arith)

@@ -129,9 +129,6 @@ pub +place-module+walk-spec : {M : Type 1} → statement M
     (set-gate-requires t)
     (λ c.
     let turning = c .before .before .before .before .before .before .before in
-    omega (arith, gate-settable (some t turning) (ready t turning) (c .before .before .before .before .before .if1 .taken) .number))
-    (λ c.
-    let turning = c .before .before .before .before .before .before .before in
     omega (
       arith,
       gate-free (some t turning) (ready t turning) (c .before .before .before .before .before .if1 .taken),
