@@ -9,6 +9,7 @@ use lib.Seq.{drop-at}
 use Rattle.meaning.specs.Syntax.{Module}
 use Rattle.meaning.specs.Layout.{moduleNumbers}
 use Rattle.meaning.specs.Figures.{gateCount, tally, room, delay, largestLoad}
+use Rattle.meaning.specs.Calls.{figuresOn}
 use Rattle.laws.specs.Figures.Tally.{total}
 use Rattle.image.specs.Stands.{Stands}
 use Rattle.image.specs.Resolved.{positionOf, referTo, resolveModule, resolve}
@@ -21,11 +22,11 @@ use Rattle.runner.specs.Arriving.{delay-means}
 use Rattle.runner.specs.declared.places.Header.{Header}
 use Rattle.figures.specs.Scene as scene
 use Rattle.figures.specs.Tallies.{Countable}
-use Rattle.figures.specs.Loads.{Netted, Loadable}
-use Rattle.figures.specs.Images.{imaged, netted}
+use Rattle.figures.specs.Loads.{Ordered, Netted, Loadable}
+use Rattle.figures.specs.Images.{imaged, netted, ordered as ordered-starts}
 use Rattle.figures.specs.Answers as counted
 use Rattle.counting.specs.Answers.{figuresOf}
-use Rattle.counting.specs.Figuring.{Figurable, figuresIn}
+use Rattle.counting.specs.Figuring.{Figurable}
 use Rattle.counting.specs.declared.answers.Figures.{Figures}
 
 -- Clearing the same entries twice is clearing them once.
@@ -114,14 +115,17 @@ module _ {image starts nets : List ℕ} {k size given : ℕ} {scratch : List ℕ
   net-table : Netted nets (resolve (s .ms))
   net-table = netted (s .ms) (s .netsLong) (s .netsAre)
 
+  apart : Ordered starts (resolve (s .ms))
+  apart = ordered-starts (s .ms) (s .startsAre)
+
   pub loadable : Loadable image starts nets k given
   loadable =
       subst (λ (p : ℕ). Loadable image starts nets p given) (s .found .placed)
-      (counted.loadable (s .accepted) images (s .number) (s .found .m) (s .found .found) net-table (omega (arith, s .roomIs)))
+      (counted.loadable (s .accepted) images (s .number) (s .found .m) (s .found .found) apart net-table (omega (arith, s .roomIs)))
 
   pub load-is : {most : ℕ} → ((e : Loadable image starts nets k given) → most ≡ largestLoad (e .rs) (16 + k)) → most ≡ largestLoad (s .ms) (s .number)
   load-is {most} answer =
-      counted.loaded (s .accepted) images (s .number) (s .found .m) (s .found .found) net-table (omega (arith, s .roomIs))
+      counted.loaded (s .accepted) images (s .number) (s .found .m) (s .found .found) apart net-table (omega (arith, s .roomIs))
       (subst (λ (p : ℕ). (e : Loadable image starts nets p given) → most ≡ largestLoad (e .rs) (16 + p)) (sym (s .found .placed)) answer)
 
   -- Scratch is cleared by the delay, and again by the load.
@@ -134,12 +138,12 @@ module _ {image starts nets : List ℕ} {k size given : ℕ} {scratch : List ℕ
   -- All figures together.
   pub figures-are :
       {inputs outputs gates delay load : ℕ} {counts : List ℕ}
-      → inputs ≡ figuresIn (s .ms) (s .number) (s .found .m) .inputs
-      → outputs ≡ figuresIn (s .ms) (s .number) (s .found .m) .outputs
-      → counts ≡ figuresIn (s .ms) (s .number) (s .found .m) .tally
-      → gates ≡ figuresIn (s .ms) (s .number) (s .found .m) .gates
-      → delay ≡ figuresIn (s .ms) (s .number) (s .found .m) .delay
-      → load ≡ figuresIn (s .ms) (s .number) (s .found .m) .load
+      → inputs ≡ figuresOn (s .number) (s .ms) (s .found .m) .inputs
+      → outputs ≡ figuresOn (s .number) (s .ms) (s .found .m) .outputs
+      → counts ≡ figuresOn (s .number) (s .ms) (s .found .m) .tally
+      → gates ≡ figuresOn (s .number) (s .ms) (s .found .m) .gates
+      → delay ≡ figuresOn (s .number) (s .ms) (s .found .m) .delay
+      → load ≡ figuresOn (s .number) (s .ms) (s .found .m) .load
       → _≡_ {A = Figures}
       (record {
         inputs = inputs;
@@ -151,5 +155,5 @@ module _ {image starts nets : List ℕ} {k size given : ℕ} {scratch : List ℕ
         delay = delay;
         load = load;
       })
-      (figuresOf (figuresIn (s .ms) (s .number) (s .found .m)))
+      (figuresOf (figuresOn (s .number) (s .ms) (s .found .m)))
   figures-are a b c d e f = rw (a, b, c, d, e, f, s .sizeIs, s .roomIs)

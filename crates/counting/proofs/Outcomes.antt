@@ -8,14 +8,14 @@ use borrow.Author.Tests.{le-leb, lt-leb}
 use lib.Dec.{leb}
 use lib.ListN.{length, getD, length-drop}
 use Rattle.meaning.specs.Figures.{room}
-use Rattle.meaning.specs.Calls.{Decision, answer, demand, counting, Figures as Meant}
+use Rattle.meaning.specs.Calls.{Decision, answer, demand, counting, Figures as Meant, figuresOn}
 use Rattle.laws.specs.Figures.Bounds.{found-within}
 use Rattle.desk.specs.Sought.{Held, Unheld, Seeks}
 use Rattle.desk.specs.Holding.{held-accepted, held-stands, held-room, held-size, held-asks, unheld-refuses}
 use Rattle.desk.specs.declared.seeking.Sought.{Sought}
 use Rattle.desk.specs.declared.seeking.Sought.the-variants.{At, Refused}
 use Rattle.counting.specs.Answers.{Counts, refusedWith}
-use Rattle.counting.specs.Figuring.{Figurable, Figured, figuresIn}
+use Rattle.counting.specs.Figuring.{Figurable, Figured}
 use Rattle.counting.specs.declared.answers.Figures.{Figures}
 use Rattle.counting.specs.declared.answers.Counted.{Counted}
 
@@ -48,9 +48,9 @@ module _
   in-sizes = omega (arith, ap length (h .found .here), length-drop k (h .ms), h .desk .sizesLong)
 
   decided : (scratch : List ℕ) {b : Bool} → leb (room (h .ms) number) (length scratch) ≡ b
-      → counting file number (length scratch) ≡ demand 21 0 b (answer (figuresIn (h .ms) number (h .found .m)))
+      → counting file number (length scratch) ≡ demand 21 0 b (answer (figuresOn number (h .ms) (h .found .m)))
   unfolding counting
-  decided scratch e = held-asks h _ ∙ ap (λ (b : Bool). demand 21 0 b (answer (figuresIn (h .ms) number (h .found .m)))) e
+  decided scratch e = held-asks h _ ∙ ap (λ (b : Bool). demand 21 0 b (answer (figuresOn number (h .ms) (h .found .m)))) e
 
   -- 21: scratch has fewer entries than room.
   pub short-counts :
@@ -72,6 +72,7 @@ module _
         within = found-within number (h .found .m) (h .desk .within) (h .found .found);
         stands = held-stands h;
         startsLong = h .desk .startsLong;
+        startsAre = h .desk .startsAre;
         netsLong = h .desk .netsLong;
         netsAre = h .desk .netsAre;
         sizeIs = held-size h;

@@ -68,9 +68,9 @@ fn look_short(file: &[u8], position: usize) -> Looked
     requires { ⌜ length (now file) ≤ 1020 ⌝ }
     ensures { λ r. ⌜ Looks r (now (file .entry)) position ⌝ }
 {
-    let mut numbers = [1u16; 1020];
+    let mut numbers = [0u16; 1020];
     let mut starts = [0usize; 128];
-    let mut image = [1u16; 1020];
+    let mut image = [0u16; 1020];
     let mut nets = [0usize; 128];
     let mut sizes = [0u32; 128];
     let mut rooms = [0u32; 128];
@@ -86,15 +86,12 @@ fn look_short(file: &[u8], position: usize) -> Looked
     )
 }
 
-// The look in long arrays.
-fn look_long(
-    file: &[u8],
-    position: usize,
-    numbers: &mut [u16; 65536],
-    image: &mut [u16; 65536],
-) -> Looked
+// The look into any file.
+fn look_large(file: &[u8], position: usize) -> Looked
     ensures { λ r. ⌜ Looks r (now (file .entry)) position ⌝ }
 {
+    let mut numbers = [1u16; 65536];
+    let mut image = [1u16; 65536];
     let mut starts = [0usize; 128];
     let mut nets = [0usize; 128];
     let mut sizes = [0u32; 128];
@@ -102,22 +99,13 @@ fn look_long(
     look_in(
         file,
         position,
-        numbers,
+        &mut numbers,
         &mut starts,
-        image,
+        &mut image,
         &mut nets,
         &mut sizes,
         &mut rooms,
     )
-}
-
-// The look into any file.
-fn look_large(file: &[u8], position: usize) -> Looked
-    ensures { λ r. ⌜ Looks r (now (file .entry)) position ⌝ }
-{
-    let mut numbers = [1u16; 65536];
-    let mut image = [1u16; 65536];
-    look_long(file, position, &mut numbers, &mut image)
 }
 
 // The look, in arrays as long as the file asks.

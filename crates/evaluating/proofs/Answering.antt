@@ -8,7 +8,7 @@ use lib.ListN.{length, length-map}
 use Rattle.meaning.specs.Values.{value, code}
 use Rattle.meaning.specs.Evaluation.{evaluate}
 use Rattle.meaning.specs.Figures.{room}
-use Rattle.meaning.specs.Calls.{Decision, answer, firstAbove, Written, outAfter, scratchAfter}
+use Rattle.meaning.specs.Calls.{Decision, answer, firstAbove, Written, outAfter, scratchAfter, evaluationOn}
 use Rattle.laws.specs.OutputCount.{outputCount, length-of-evaluate}
 use Rattle.image.specs.Fitting.{accepted-fits}
 use Rattle.image.specs.Resolved.{positionOf, resolve}
@@ -18,7 +18,7 @@ use Rattle.runner.specs.Loading.{evaluable}
 use Rattle.writer.specs.Answers.{writingOf}
 use Rattle.writer.specs.declared.answer.Writing.the-variants.{Wrote}
 use Rattle.writer.specs.Settled.{Settles}
-use Rattle.evaluating.specs.Asked.{Ready, asked}
+use Rattle.evaluating.specs.Ready.{Ready}
 use Rattle.evaluating.proofs.SmallValues.{all-small}
 
 -- The engine's promise at a position.
@@ -46,8 +46,7 @@ module _
           cleared = room (f .ms) (f .number);
         }
 
-    decided : asked (f .number) values (length scratch) (length out) (f .ms) (f .m) ≡ answer written
-    unfolding asked
+    decided : evaluationOn (f .number) values (length scratch) (length out) (f .ms) (f .m) ≡ answer written
     decided =
         rw (eq-eqb _ _ fed, eq-eqb _ _ small, le-leb (room (f .ms) (f .number)) (length scratch) (omega (arith, f .roomy)), le-leb _ _ long)
 
@@ -55,7 +54,7 @@ module _
     pub answered :
         {scratch′ out′ : List ℕ} {count : ℕ} → Runs image starts nets k given values scratch out scratch′ out′
         → count ≡ length (f .m .outputs)
-        → Settles (asked (f .number) values (length scratch) (length out) (f .ms) (f .m)) scratch out scratch′ out′ (Wrote count)
+        → Settles (evaluationOn (f .number) values (length scratch) (length out) (f .ms) (f .m)) scratch out scratch′ out′ (Wrote count)
     answered {scratch′} {out′} {count} runs counted =
         record {
           answered =

@@ -12,7 +12,7 @@ use Rattle.image.specs.Resolved.{referTo, resolveModule}
 use Rattle.image.specs.Shapes.{inputs-of-resolved, outputs-of-resolved}
 use Rattle.runner.specs.Places.{ModuleThere, HeaderOf}
 use Rattle.runner.specs.declared.places.Header.{Header}
-use Rattle.evaluating.specs.Asked.{Ready}
+use Rattle.evaluating.specs.Ready.{Ready}
 
 module _ {image starts nets : List ℕ} {k given : ℕ} (f : Ready image starts nets k given) where
   here : drop k (f .ms) ≡ f .m ∷ drop (suc k) (f .ms)

@@ -6,11 +6,11 @@ use native.Mathlib.Omega.{arith}
 use borrow.Author.Tests.{eq-eqb, ne-eqb, le-leb, lt-leb}
 use lib.ListN.{length}
 use Rattle.meaning.specs.Figures.{room}
-use Rattle.meaning.specs.Calls.{Decision, refusal, firstAbove, Written, outAfter, scratchAfter}
+use Rattle.meaning.specs.Calls.{Decision, refusal, firstAbove, Written, outAfter, scratchAfter, evaluationOn}
 use Rattle.writer.specs.Answers.{writingOf}
 use Rattle.writer.specs.declared.answer.Writing.the-variants.{Refused}
 use Rattle.writer.specs.Settled.{Settles}
-use Rattle.evaluating.specs.Asked.{Ready, asked}
+use Rattle.evaluating.specs.Ready.{Ready}
 
 pub refused :
     {d : Decision Written} {number place : ℕ} (scratch out : List ℕ) → d ≡ refusal number place
@@ -24,29 +24,25 @@ refused scratch out e =
 
 module _ {image starts nets : List ℕ} {k given : ℕ} (f : Ready image starts nets k given) (values scratch out : List ℕ) where
   abbrev decision : Decision Written
-  decision = asked (f .number) values (length scratch) (length out) (f .ms) (f .m)
+  decision = evaluationOn (f .number) values (length scratch) (length out) (f .ms) (f .m)
 
   pub other-count : (length values ≡ length (f .m .inputs) → ⊥) → Settles decision scratch out scratch out (Refused 19 0)
-  unfolding asked
   other-count apart = refused scratch out (rw (ne-eqb _ _ apart))
 
   module _ (fed : length values ≡ length (f .m .inputs)) where
     pub value-above :
         {above : ℕ} → above ≡ firstAbove values → above < length values → Settles decision scratch out scratch out (Refused 20 above)
-    unfolding asked
     value-above is within =
         refused scratch out (rw (eq-eqb _ _ fed, ne-eqb (firstAbove values) (length values) (λ e. omega (arith, is, within, e)), is))
 
     module _ (small : firstAbove values ≡ length values) where
       pub scratch-short : length scratch < given → Settles decision scratch out scratch out (Refused 21 0)
-      unfolding asked
       scratch-short short =
           refused scratch out
           (rw (eq-eqb _ _ fed, eq-eqb _ _ small, lt-leb (room (f .ms) (f .number)) (length scratch) (omega (arith, f .roomy, short))))
 
       pub out-short :
           given ≤ length scratch → length out < length (f .m .outputs) → Settles decision scratch out scratch out (Refused 22 0)
-      unfolding asked
       out-short wide short =
           refused scratch out
           (rw

@@ -5,7 +5,7 @@ use mathlib.Core.List.{List}
 use native.Mathlib.Omega.{arith}
 use lib.ListN.{length, getD, length-drop}
 use Rattle.meaning.specs.Reading.{mostModules}
-use Rattle.meaning.specs.Calls.{Decision, evaluation, Written}
+use Rattle.meaning.specs.Calls.{Decision, evaluation, evaluationOn, Written}
 use Rattle.desk.specs.Sought.{Held, Unheld, Seeks}
 use Rattle.desk.specs.Holding.{held-accepted, held-stands, held-room, held-asks, unheld-refuses}
 use Rattle.desk.specs.declared.seeking.Sought.{Sought}
@@ -14,7 +14,7 @@ use Rattle.writer.specs.declared.answer.Writing.{Writing}
 use Rattle.writer.specs.declared.answer.Writing.the-variants as writing
 use Rattle.writer.specs.Settled.{Settles}
 use Rattle.evaluating.specs.Evaluates.{Evaluates}
-use Rattle.evaluating.specs.Asked.{Ready, asked}
+use Rattle.evaluating.specs.Ready.{Ready}
 use Rattle.evaluating.proofs.Refusing.{refused}
 
 module _
@@ -25,9 +25,9 @@ module _
     pub unsought :
         (n place : ℕ) → sought ≡ Refused n place → (values scratch out : List ℕ)
         → Evaluates file number values scratch out scratch out (writing.Refused n place)
-    unfolding evaluation asked
+    unfolding evaluation
     unsought n place e values scratch out =
-        refused scratch out (unheld-refuses unheld (asked number values (length scratch) (length out)))
+        refused scratch out (unheld-refuses unheld (evaluationOn number values (length scratch) (length out)))
       where
         unheld : Unheld file number n place
         unheld = subst (λ (s : Sought). Seeks s file number numbers starts image nets sizes rooms) e seeks
@@ -67,9 +67,9 @@ module _
       pub asks :
           (values scratch out : List ℕ) {scratch′ out′ : List ℕ} {r : Writing}
           → ((f : Ready image starts nets k (getD rooms k 0))
-          → Settles (asked (f .number) values (length scratch) (length out) (f .ms) (f .m)) scratch out scratch′ out′ r)
+          → Settles (evaluationOn (f .number) values (length scratch) (length out) (f .ms) (f .m)) scratch out scratch′ out′ r)
           → Evaluates file number values scratch out scratch′ out′ r
-      unfolding evaluation asked
+      unfolding evaluation
       asks values scratch out {scratch′} {out′} {r} run =
           subst (λ (d : Decision Written). Settles d scratch out scratch′ out′ r)
-          (sym (held-asks held (asked number values (length scratch) (length out)))) (run ready)
+          (sym (held-asks held (evaluationOn number values (length scratch) (length out)))) (run ready)

@@ -1,3 +1,3 @@
 -- What evaluation promises, and how it goes on once the module is found.
 pub mod Evaluates
-pub mod Asked
+pub mod Ready

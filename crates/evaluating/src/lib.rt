@@ -6,7 +6,8 @@ ghost use lib.ListN.{length};
 ghost use Rattle.desk.specs.Prepared.{Space};
 ghost use Rattle.writer.specs.Settled.{Settles};
 ghost use Rattle.evaluating.specs.Evaluates.{Evaluates};
-ghost use Rattle.evaluating.specs.Asked.{Ready, asked};
+ghost use Rattle.meaning.specs.Calls.{evaluationOn};
+ghost use Rattle.evaluating.specs.Ready.{Ready};
 
 mod values;
 
@@ -24,7 +25,7 @@ fn evaluate_at(
     requires { ⌜ Ready (now image) (now starts) (now nets) k room ⌝ }
     ensures { λ r.
         ⌜ ((f : Ready (now (image .entry)) (now (starts .entry)) (now (nets .entry)) k room)
-        → Settles (asked (f .number) (now (values .entry)) (length (now (scratch .entry))) (length (now (out .entry))) (f .ms) (f .m)) (now (scratch .entry)) (now (out .entry)) (now (scratch .exit)) (now (out .exit)) r) ⌝ }
+        → Settles (evaluationOn (f .number) (now (values .entry)) (length (now (scratch .entry))) (length (now (out .entry))) (f .ms) (f .m)) (now (scratch .entry)) (now (out .entry)) (now (scratch .exit)) (now (out .exit)) r) ⌝ }
 {
     let header = runner::places::module_at(image, starts[k]);
     let outputs = header.to - header.from;
@@ -94,9 +95,9 @@ fn evaluate_short(
     requires { ⌜ length (now file) ≤ 1020 ⌝ }
     ensures { λ r. ⌜ Evaluates (now (file .entry)) number (now (values .entry)) (now (scratch .entry)) (now (out .entry)) (now (scratch .exit)) (now (out .exit)) r ⌝ }
 {
-    let mut numbers = [1u16; 1020];
+    let mut numbers = [0u16; 1020];
     let mut starts = [0usize; 128];
-    let mut image = [1u16; 1020];
+    let mut image = [0u16; 1020];
     let mut nets = [0usize; 128];
     let mut sizes = [0u32; 128];
     let mut rooms = [0u32; 128];
@@ -109,37 +110,6 @@ fn evaluate_short(
         &mut nets,
         &mut sizes,
         &mut rooms,
-        values,
-        scratch,
-        out,
-    )
-}
-
-// The call in long arrays of the caller's.
-fn evaluate_long(
-    file: &[u8],
-    number: u16,
-    numbers: &mut [u16; 65536],
-    starts: &mut [usize; 128],
-    image: &mut [u16; 65536],
-    nets: &mut [usize; 128],
-    sizes: &mut [u32; 128],
-    rooms: &mut [u32; 128],
-    values: &[u8],
-    scratch: &mut [u32],
-    out: &mut [u8],
-) -> Writing
-    ensures { λ r. ⌜ Evaluates (now (file .entry)) number (now (values .entry)) (now (scratch .entry)) (now (out .entry)) (now (scratch .exit)) (now (out .exit)) r ⌝ }
-{
-    evaluate_in(
-        file,
-        number,
-        numbers,
-        starts,
-        image,
-        nets,
-        sizes,
-        rooms,
         values,
         scratch,
         out,
@@ -162,7 +132,7 @@ fn evaluate_large(
     let mut nets = [0usize; 128];
     let mut sizes = [0u32; 128];
     let mut rooms = [0u32; 128];
-    evaluate_long(
+    evaluate_in(
         file,
         number,
         &mut numbers,

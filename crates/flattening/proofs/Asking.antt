@@ -6,16 +6,15 @@ use lib.ListN.{length}
 use borrow.Author.Tests.{le-leb, lt-leb}
 use Rattle.meaning.specs.Syntax.{Module}
 use Rattle.meaning.specs.Figures.{gateCount, room}
-use Rattle.meaning.specs.Calls.{flatFile}
+use Rattle.meaning.specs.Calls.{flatFile, fitting, flatteningOn}
 use Rattle.writer.specs.declared.answer.Writing.{Writing}
 use Rattle.writer.specs.declared.answer.Writing.the-variants.{Refused}
 use Rattle.writer.specs.Settled.{Settles}
-use Rattle.flattening.specs.Found.{fitting, asked}
 
 module _ (number : ℕ) (scratch out : List ℕ) (ms : List Module) (m : Module) where
   pub asks-many :
       4096 < length (m .inputs) + gateCount ms number
-      → Settles (asked number (length scratch) (length out) ms m) scratch out scratch out (Refused 24 0)
+      → Settles (flatteningOn number (length scratch) (length out) ms m) scratch out scratch out (Refused 24 0)
   asks-many many =
       rw (lt-leb (length (m .inputs) + gateCount ms number) 4096 many)
       (record { answered = record { is = refl; out = refl }; scratched = refl })
@@ -23,7 +22,7 @@ module _ (number : ℕ) (scratch out : List ℕ) (ms : List Module) (m : Module)
   module _ (few : length (m .inputs) + gateCount ms number ≤ 4096) where
     pub asks-narrow :
         length scratch < room ms number
-        → Settles (asked number (length scratch) (length out) ms m) scratch out scratch out (Refused 21 0)
+        → Settles (flatteningOn number (length scratch) (length out) ms m) scratch out scratch out (Refused 21 0)
     asks-narrow narrow =
         rw (le-leb (length (m .inputs) + gateCount ms number) 4096 few, lt-leb (room ms number) (length scratch) narrow)
         (record { answered = record { is = refl; out = refl }; scratched = refl })
@@ -33,7 +32,7 @@ module _ (number : ℕ) (scratch out : List ℕ) (ms : List Module) (m : Module)
         → given ≡ room ms number
         → given ≤ length scratch
         → Settles (fitting (flatFile ms number m) given (length out)) scratch out scratch′ out′ result
-        → Settles (asked number (length scratch) (length out) ms m) scratch out scratch′ out′ result
+        → Settles (flatteningOn number (length scratch) (length out) ms m) scratch out scratch′ out′ result
     asks-on {given} roomy enough answered =
         rw (
           ← roomy,

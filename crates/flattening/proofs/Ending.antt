@@ -7,7 +7,7 @@ use borrow.Author.Tests.{le-leb, lt-leb}
 use Rattle.encoder.specs.Filled.{Filled}
 use Rattle.writer.specs.declared.answer.Writing.the-variants.{Wrote, Refused}
 use Rattle.writer.specs.Settled.{Settles}
-use Rattle.flattening.specs.Found.{fitting}
+use Rattle.meaning.specs.Calls.{fitting}
 
 module _ (bytes : List ℕ) (cleared : ℕ) (scratch out : List ℕ) where
   pub ends-short : length out < length bytes → Settles (fitting bytes cleared (length out)) scratch out scratch out (Refused 22 0)

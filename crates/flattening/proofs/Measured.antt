@@ -3,15 +3,17 @@
 use Prim.Native.Nat.{ℕ, suc, _+_, _<_, _≤_, _^_}
 use mathlib.Core.Path.{_≡_, sym, ap, ap₂, subst, _∙_}
 use mathlib.Core.List.{List, _∷_}
+use native.Mathlib.Nat.{le-refl}
 use native.Mathlib.Omega.{arith}
 use lib.ListN.{length, getD, drop, length-drop}
 use Rattle.meaning.specs.Syntax.{Module}
 use Rattle.meaning.specs.Layout.{moduleNumbers}
-use Rattle.meaning.specs.Limits.{mostSize}
+use Rattle.meaning.specs.Limits.{expandedSize, mostSize}
 use Rattle.meaning.specs.Figures.{gateCount, tally}
 use Rattle.laws.specs.WellFormed.{Accepted}
 use Rattle.laws.specs.Accepted.{good-accepted}
-use Rattle.laws.specs.Bounds.{gates-within}
+use Rattle.laws.specs.Acceptable.{size-within}
+use Rattle.laws.specs.Bounds.{weight-size, gates-within}
 use Rattle.laws.specs.Figures.Bounds.{found-within}
 use Rattle.laws.specs.Figures.Tally.{total}
 use Rattle.image.specs.Stands.{Stands}
@@ -82,6 +84,23 @@ module _ {image starts nets : List ℕ} {k number given : ℕ} (f : Found image 
   pub nets-low : length (f .m .inputs) + gateCount (f .ms) number ≤ 192 + mostSize
   nets-low = omega (arith, found-within number (f .m) (f .within) (f .found) .inputs .count, gates-within accepted number)
 
+  -- Inputs plus expanded size: each gate is one of the visits that it counts.
+  module _ {header : Header} {size : ℕ}
+      (headed : (m : Module) → Stands image (getD starts k 0) (moduleNumbers m) → HeaderOf (getD starts k 0) m header)
+      (sized : size ≡ expandedSize (f .ms) number) where
+    pub most-low : header .inputs + size ≤ 192 + mostSize
+    most-low =
+        omega (
+          arith,
+          inputs-counted headed,
+          found-within number (f .m) (f .within) (f .found) .inputs .count,
+          size-within accepted number,
+        )
+
+    pub nets-below : length (f .m .inputs) + gateCount (f .ms) number ≤ header .inputs + size
+    unfolding gateCount
+    nets-below = omega (arith, inputs-counted headed, weight-size (λ kind. 1) (λ kind. le-refl 1) (f .ms) number)
+
   abbrev pub small-placeable :
       given ≤ 1024
       → length (f .m .inputs) + gateCount (f .ms) number ≤ 1024
@@ -99,12 +118,18 @@ module _ {image starts nets : List ℕ} {k number given : ℕ} (f : Found image 
             );
       }
 
-  abbrev pub large-placeable :
-      length (f .m .inputs) + gateCount (f .ms) number ≤ 4096 → Placeable image starts nets k number given 65535 32965
-  large-placeable few =
+  pub room-low : given ≤ 65535
+  room-low = omega (arith, f .roomy, room-of-bytes (f .within) number)
+
+  abbrev pub many-placeable :
+      {entries : ℕ}
+      → given ≤ entries
+      → length (f .m .inputs) + gateCount (f .ms) number ≤ 4096
+      → Placeable image starts nets k number given entries 32965
+  many-placeable enough few =
       record {
         here = f;
         few = few;
-        enough = omega (arith, f .roomy, room-of-bytes (f .within) number);
+        enough = enough;
         long = flat-numbers-fit (f .ms) number (f .m) (f .accepted) (f .found) (f .within) few;
       }

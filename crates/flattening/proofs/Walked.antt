@@ -8,12 +8,12 @@ use lib.Seq.{take-at}
 use Rattle.meaning.specs.Lists.{All}
 use Rattle.meaning.specs.Ceilings.{Small}
 use Rattle.meaning.specs.Layout.{each, numberBytes}
-use Rattle.meaning.specs.Calls.{flatFile}
+use Rattle.meaning.specs.Calls.{flatFile, fitting}
 use Rattle.writer.specs.declared.answer.Writing.{Writing}
 use Rattle.flattener.specs.Flat.{flatNumbers, Flattenable, Flattened}
 use Rattle.flattener.specs.FlatNumbers.{bytes-of-flat-numbers, flat-numbers-small}
 use Rattle.writer.specs.Settled.{Settles}
-use Rattle.flattening.specs.Found.{fitting, Placeable}
+use Rattle.flattening.specs.Found.{Placeable}
 
 module _ {image starts nets : List ℕ} {k number given : ℕ} where
   abbrev pub flattenable :

@@ -3,39 +3,43 @@ use desk::seeking::Sought;
 use writer::Writing;
 ghost use Prim.Native.Nat.{_≤_};
 ghost use lib.ListN.{length};
-ghost use Rattle.meaning.specs.Calls.{flattening};
+ghost use Rattle.meaning.specs.Calls.{flattening, flatteningOn};
 ghost use Rattle.desk.specs.Prepared.{Space};
 ghost use Rattle.writer.specs.Settled.{Settles};
-ghost use Rattle.flattening.specs.Found.{Found, asked};
+ghost use Rattle.flattening.specs.Found.{Sized};
 
 mod answering;
 mod placing;
 
-// Refusals 24 and 21 in their order, then the walk: the module stands at position k of the image.
+// Refusals 24 and 21 in their order, then the walk: the module stands at position k of the image. Its expanded size is at least the
+// number of its gates, so that they are counted only where inputs plus size leave 24 open.
 fn flatten_at(
     image: &[u16],
     starts: &[usize],
     nets: &[usize],
     k: usize,
     number: u16,
+    size: usize,
     room: usize,
     scratch: &mut [u32],
     out: &mut [u8],
 ) -> Writing
-    requires { ⌜ Found (now image) (now starts) (now nets) k number room ⌝ }
+    requires { ⌜ Sized (now image) (now starts) (now nets) k number size room ⌝ }
     ensures { λ r.
-        ⌜ ((f : Found (now (image .entry)) (now (starts .entry)) (now (nets .entry)) k number room)
-        → Settles (asked number (length (now (scratch .entry))) (length (now (out .entry))) (f .ms) (f .m))
+        ⌜ ((s : Sized (now (image .entry)) (now (starts .entry)) (now (nets .entry)) k number size room)
+        → Settles (flatteningOn number (length (now (scratch .entry))) (length (now (out .entry))) (s .here .ms) (s .here .m))
         (now (scratch .entry)) (now (out .entry)) (now (scratch .exit)) (now (out .exit)) r) ⌝ }
 {
     let header = runner::places::module_at(image, starts[k]);
-    let gates = figures::tally::gates_of(figures::tally::tally_module(image, starts, k));
-    let flat_nets = header.inputs + gates as usize;
-    if 4096 < flat_nets {
-        return Writing::Refused {
-            number: 24,
-            place: 0,
-        };
+    let most_nets = header.inputs + size;
+    if 4096 < most_nets {
+        let gates = figures::tally::gates_of(figures::tally::tally_module(image, starts, k));
+        if 4096 < header.inputs + gates as usize {
+            return Writing::Refused {
+                number: 24,
+                place: 0,
+            };
+        }
     }
     if scratch.len() < room {
         return Writing::Refused {
@@ -43,10 +47,11 @@ fn flatten_at(
             place: 0,
         };
     }
-    if room <= 1024 {
-        if flat_nets <= 1024 {
-            return placing::place_small(image, starts, nets, k, number, room, scratch, out);
-        }
+    if room <= 1024 && most_nets <= 1024 {
+        return placing::place_small(image, starts, nets, k, number, room, scratch, out);
+    }
+    if room <= 4096 {
+        return placing::place_middle(image, starts, nets, k, number, room, scratch, out);
     }
     placing::place_large(image, starts, nets, k, number, room, scratch, out)
 }
@@ -72,8 +77,9 @@ fn flatten_in(
     match desk::seeking::seek(file, number, numbers, starts, image, nets, sizes, rooms) {
         Sought::Refused { number, place } => Writing::Refused { number, place },
         Sought::At(k) => {
+            let size = sizes[k] as usize;
             let room = rooms[k] as usize;
-            flatten_at(image, starts, nets, k, number, room, scratch, out)
+            flatten_at(image, starts, nets, k, number, size, room, scratch, out)
         }
     }
 }
@@ -85,9 +91,9 @@ fn flatten_short(file: &[u8], number: u16, scratch: &mut [u32], out: &mut [u8]) 
         ⌜ Settles (flattening (now (file .entry)) number (length (now (scratch .entry))) (length (now (out .entry))))
         (now (scratch .entry)) (now (out .entry)) (now (scratch .exit)) (now (out .exit)) r ⌝ }
 {
-    let mut numbers = [1u16; 1020];
+    let mut numbers = [0u16; 1020];
     let mut starts = [0usize; 128];
-    let mut image = [1u16; 1020];
+    let mut image = [0u16; 1020];
     let mut nets = [0usize; 128];
     let mut sizes = [0u32; 128];
     let mut rooms = [0u32; 128];

@@ -1,12 +1,12 @@
 // The walk. How many bytes a flattened file has is known only behind the walk, and a refusal changes nothing that was lent: so the
-// walk has entries of its own, and the lent scratch is cleared only when the call is sure to be answered. A module that is small gets
-// short lists, so that it does not pay for clearing long ones.
+// walk has entries of its own, of two bytes since they hold nets of the flattened module, and the lent scratch is cleared only when the
+// call is sure to be answered. A module that is small gets short lists, so that it does not pay for clearing long ones.
 use writer::Writing;
 ghost use Prim.Native.Nat.{_≤_};
 ghost use lib.ListN.{length};
-ghost use Rattle.meaning.specs.Calls.{flatFile};
+ghost use Rattle.meaning.specs.Calls.{flatFile, fitting};
 ghost use Rattle.writer.specs.Settled.{Settles};
-ghost use Rattle.flattening.specs.Found.{fitting, Placeable};
+ghost use Rattle.flattening.specs.Found.{Placeable};
 
 // The walk in given entries, then the answer.
 fn place_in(
@@ -16,7 +16,7 @@ fn place_in(
     k: usize,
     number: u16,
     room: usize,
-    entries: &mut [u32],
+    entries: &mut [u16],
     flat: &mut [u16],
     scratch: &mut [u32],
     out: &mut [u8],
@@ -52,7 +52,7 @@ pub(crate) fn place_small(
         → Settles (fitting (flatFile (p .here .ms) number (p .here .m)) room (length (now (out .entry))))
         (now (scratch .entry)) (now (out .entry)) (now (scratch .exit)) (now (out .exit)) r) ⌝ }
 {
-    let mut entries = [1u32; 1024];
+    let mut entries = [1u16; 1024];
     let mut flat = [1u16; 8389];
     place_in(
         image,
@@ -68,7 +68,41 @@ pub(crate) fn place_small(
     )
 }
 
-// Any module: its room is at most as many as the numbers of its file, and 4,096 nets have 32,965 numbers at most.
+// A module whose room is at most 4,096, as it is where nothing in it refers to another module. 4,096 nets have 32,965 numbers at most.
+pub(crate) fn place_middle(
+    image: &[u16],
+    starts: &[usize],
+    nets: &[usize],
+    k: usize,
+    number: u16,
+    room: usize,
+    scratch: &mut [u32],
+    out: &mut [u8],
+) -> Writing
+    requires { ⌜ Placeable (now image) (now starts) (now nets) k number room 4096 32965 ⌝ }
+    requires { ⌜ room ≤ length (now scratch) ⌝ }
+    ensures { λ r.
+        ⌜ ((p : Placeable (now (image .entry)) (now (starts .entry)) (now (nets .entry)) k number room 4096 32965)
+        → Settles (fitting (flatFile (p .here .ms) number (p .here .m)) room (length (now (out .entry))))
+        (now (scratch .entry)) (now (out .entry)) (now (scratch .exit)) (now (out .exit)) r) ⌝ }
+{
+    let mut entries = [1u16; 4096];
+    let mut flat = [1u16; 32965];
+    place_in(
+        image,
+        starts,
+        nets,
+        k,
+        number,
+        room,
+        &mut entries,
+        &mut flat,
+        scratch,
+        out,
+    )
+}
+
+// Any module: its room is at most as many as the numbers of its file.
 pub(crate) fn place_large(
     image: &[u16],
     starts: &[usize],
@@ -86,7 +120,7 @@ pub(crate) fn place_large(
         → Settles (fitting (flatFile (p .here .ms) number (p .here .m)) room (length (now (out .entry))))
         (now (scratch .entry)) (now (out .entry)) (now (scratch .exit)) (now (out .exit)) r) ⌝ }
 {
-    let mut entries = [1u32; 65535];
+    let mut entries = [1u16; 65535];
     let mut flat = [1u16; 32965];
     place_in(
         image,

@@ -8,11 +8,10 @@ use native.Mathlib.Omega.{arith}
 use lib.Dec.{leb}
 use Rattle.meaning.specs.Syntax.{Module}
 use Rattle.meaning.specs.Boxlist.{Found, box, F, assoc}
-use Rattle.meaning.specs.Calls.{Decision, refusal, answer, demand, onModule, Figures as Meant, counting}
+use Rattle.meaning.specs.Calls.{Decision, refusal, answer, demand, onModule, Figures as Meant, counting, figuresOn}
 use Rattle.meaning.specs.Figures.{room}
 use Rattle.meaning.specs.Listing.{line}
 use Rattle.counting.specs.Answers.{countedOf}
-use Rattle.counting.specs.Figuring.{figuresIn}
 use Rattle.counting.specs.declared.answers.Figures.{Figures}
 use Rattle.counting.specs.declared.answers.Counted.{Counted}
 use Rattle.text.specs.Pieces.{PutDown}
@@ -63,10 +62,10 @@ pub told-opened : {file : List ℕ} → Opened file → (number scratch : ℕ) �
 unfolding counting
 told-opened o number scratch =
     subst Told (sym (asks o (λ ms. onModule (assoc number ms) (asked ms))))
-    (on-module (assoc number (o .ms)) (asked (o .ms)) (λ m. demanded (leb (room (o .ms) number) scratch) (figuresIn (o .ms) number m)))
+    (on-module (assoc number (o .ms)) (asked (o .ms)) (λ m. demanded (leb (room (o .ms) number) scratch) (figuresOn number (o .ms) m)))
   where
     asked : List Module → Module → Decision Meant
-    asked ms m = demand 21 0 (leb (room ms number) scratch) (answer (figuresIn ms number m))
+    asked ms m = demand 21 0 (leb (room ms number) scratch) (answer (figuresOn number ms m))
 
     demanded : (b : Bool) (f : Meant) → Told (demand 21 0 b (answer f))
     demanded true f = omega arith

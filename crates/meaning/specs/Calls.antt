@@ -71,30 +71,36 @@ abbrev pub scratchAfter : {R : Type 0} → (cleared : R → ℕ) → Decision R 
 scratchAfter cleared (refusal number place) scratch = scratch
 scratchAfter cleared (answer r) scratch = replicate (cleared r) 0 ++ drop (cleared r) scratch
 
+-- 22: the output buffer is shorter than the bytes.
+abbrev pub fitting : (bytes : List ℕ) (cleared out : ℕ) → Decision Written
+fitting bytes cleared out = demand 22 0 (leb (length bytes) out) (answer (record { bytes = bytes; cleared = cleared }))
+
 -- Evaluation: 18; 19 count of values differs from the inputs; 20 a value above 2, place its index; 21 scratch has fewer entries than
 -- room; 22 the output buffer is shorter than the answer.
-unfoldable pub evaluation : (file : List ℕ) (number : ℕ) (values : List ℕ) (scratch out : ℕ) → Decision Written
-evaluation file number values scratch out =
-    onFile file λ ms.
-    onModule (assoc number ms) λ m.
+abbrev pub evaluationOn : (number : ℕ) (values : List ℕ) (scratch out : ℕ) (ms : List Module) → Module → Decision Written
+evaluationOn number values scratch out ms m =
     demand 19 0 (eqb (length values) (length (m .inputs)))
     (demand 20 (firstAbove values) (eqb (firstAbove values) (length values))
     (demand 21 0 (leb (room ms number) scratch)
     (demand 22 0 (leb (length (m .outputs)) out)
     (answer (record { bytes = map code (evaluate ms number (map value values)); cleared = room ms number })))))
 
+unfoldable pub evaluation : (file : List ℕ) (number : ℕ) (values : List ℕ) (scratch out : ℕ) → Decision Written
+evaluation file number values scratch out =
+    onFile file λ ms. onModule (assoc number ms) (evaluationOn number values scratch out ms)
+
 -- Flattening: 18; 24 it needs more than 4,096 nets (inputs plus gates); 21; 22.
 unfoldable pub flatFile : List Module → ℕ → Module → List ℕ
 flatFile ms number m = encode (flatModule ms number (length (m .inputs)) ∷ [])
 
-unfoldable pub flattening : (file : List ℕ) (number scratch out : ℕ) → Decision Written
-flattening file number scratch out =
-    onFile file λ ms.
-    onModule (assoc number ms) λ m.
+abbrev pub flatteningOn : (number scratch out : ℕ) (ms : List Module) → Module → Decision Written
+flatteningOn number scratch out ms m =
     demand 24 0 (leb (length (m .inputs) + gateCount ms number) 4096)
     (demand 21 0 (leb (room ms number) scratch)
-    (demand 22 0 (leb (length (flatFile ms number m)) out)
-    (answer (record { bytes = flatFile ms number m; cleared = room ms number }))))
+    (fitting (flatFile ms number m) (room ms number) out))
+
+unfoldable pub flattening : (file : List ℕ) (number scratch out : ℕ) → Decision Written
+flattening file number scratch out = onFile file λ ms. onModule (assoc number ms) (flatteningOn number scratch out ms)
 
 -- Counts: 18; 21. All figures are 0 on a refusal.
 pub record Figures : Type 0 where
@@ -107,13 +113,9 @@ pub record Figures : Type 0 where
   pub delay : ℕ
   pub load : ℕ
 
-unfoldable pub counting : (file : List ℕ) (number scratch : ℕ) → Decision Figures
-counting file number scratch =
-    onFile file λ ms.
-    onModule (assoc number ms) λ m.
-    demand 21 0 (leb (room ms number) scratch)
-    (answer
-    (record {
+abbrev pub figuresOn : (number : ℕ) (ms : List Module) → Module → Figures
+figuresOn number ms m =
+    record {
       inputs = length (m .inputs);
       outputs = length (m .outputs);
       tally = tally ms number;
@@ -122,12 +124,15 @@ counting file number scratch =
       room = room ms number;
       delay = delay ms number;
       load = largestLoad ms number;
-    }))
+    }
+
+unfoldable pub counting : (file : List ℕ) (number scratch : ℕ) → Decision Figures
+counting file number scratch =
+    onFile file λ ms. onModule (assoc number ms) λ m. demand 21 0 (leb (room ms number) scratch) (answer (figuresOn number ms m))
 
 -- Writers: 23 width outside 1 to 64, then 22.
 unfoldable pub writing : (modules : ℕ → List Module) → (width out : ℕ) → Decision Written
 writing modules width out =
     demand 23 0 (leb 1 width)
     (demand 23 0 (leb width 64)
-    (demand 22 0 (leb (length (encode (modules width))) out)
-    (answer (record { bytes = encode (modules width); cleared = 0 }))))
+    (fitting (encode (modules width)) 0 out))

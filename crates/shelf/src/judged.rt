@@ -40,8 +40,8 @@ fn check_short(file: &[u8]) -> Checked
     requires { ⌜ length (now file) ≤ 1020 ⌝ }
     ensures { λ r. ⌜ r ≡ checkOf (verdict (now (file .entry))) ⌝ }
 {
-    let mut numbers = [1u16; 1020];
-    let mut image = [1u16; 1020];
+    let mut numbers = [0u16; 1020];
+    let mut image = [0u16; 1020];
     let mut starts = [0usize; 128];
     let mut nets = [0usize; 128];
     let mut sizes = [0u32; 128];
@@ -57,21 +57,7 @@ fn check_short(file: &[u8]) -> Checked
     )
 }
 
-// Any file, in arrays that are long enough for it.
-fn check_long(
-    file: &[u8],
-    numbers: &mut [u16; 65535],
-    starts: &mut [usize; 128],
-    image: &mut [u16; 65535],
-    nets: &mut [usize; 128],
-    sizes: &mut [u32; 128],
-    rooms: &mut [u32; 128],
-) -> Checked
-    ensures { λ r. ⌜ r ≡ checkOf (verdict (now (file .entry))) ⌝ }
-{
-    check_in(file, numbers, starts, image, nets, sizes, rooms)
-}
-
+// Whether a file is accepted, and if not, the one refusal with its place.
 pub fn check(file: &[u8]) -> Checked
     ensures { λ r. ⌜ r ≡ checkOf (verdict (now (file .entry))) ⌝ }
 {
@@ -84,7 +70,7 @@ pub fn check(file: &[u8]) -> Checked
     let mut nets = [0usize; 128];
     let mut sizes = [0u32; 128];
     let mut rooms = [0u32; 128];
-    check_long(
+    check_in(
         file,
         &mut numbers,
         &mut starts,

@@ -7,11 +7,11 @@ use lib.ListN.{length, take}
 use borrow.Author.Tests.{le-leb, lt-leb}
 use Rattle.meaning.specs.Syntax.{Module}
 use Rattle.meaning.specs.Layout.{each, numberBytes, fileNumbers, encode}
-use Rattle.meaning.specs.Calls.{writing}
+use Rattle.meaning.specs.Calls.{writing, fitting}
 use Rattle.encoder.specs.Filled.{Filled}
 use Rattle.writer.specs.declared.answer.Writing.{Writing}
 use Rattle.writer.specs.declared.answer.Writing.the-variants.{Wrote, Refused}
-use Rattle.writer.specs.Answers.{Answers, fitting}
+use Rattle.writer.specs.Answers.{Answers}
 use Rattle.writer.proofs.Puts.{take-front}
 
 module _ (modules : ℕ → List Module) (width : ℕ) (before : List ℕ) where
@@ -25,24 +25,24 @@ module _ (modules : ℕ → List Module) (width : ℕ) (before : List ℕ) where
 
   -- From width 1 to 64 the room in the buffer decides.
   pub writing-fitting : 1 ≤ width → width ≤ 64
-      → writing modules width (length before) ≡ fitting (encode (modules width)) (length before)
+      → writing modules width (length before) ≡ fitting (encode (modules width)) 0 (length before)
   unfolding writing
   writing-fitting some most = rw (le-leb 1 width some, le-leb width 64 most)
 
   -- So it does for the bytes of the numbers that are laid out, which are the file's.
   pub answers-laid : {list numbers after : List ℕ} {count : ℕ} {result : Writing} → 1 ≤ width → width ≤ 64
       → Filled (fileNumbers (modules width)) list numbers count
-      → Answers (fitting (each numberBytes (take count numbers)) (length before)) before after result
+      → Answers (fitting (each numberBytes (take count numbers)) 0 (length before)) before after result
       → Answers (writing modules width (length before)) before after result
   unfolding encode
   answers-laid some most filled answers = rw (writing-fitting some most, ← take-front filled) answers
 
 module _ (bytes before : List ℕ) where
-  pub answers-short : length before < length bytes → Answers (fitting bytes (length before)) before before (Refused 22 0)
+  pub answers-short : length before < length bytes → Answers (fitting bytes 0 (length before)) before before (Refused 22 0)
   answers-short short = rw (lt-leb (length bytes) (length before) short) (record { is = refl; out = refl })
 
   pub answers-file : {after : List ℕ} {count : ℕ} → length bytes ≤ length before → Filled bytes before after count
-      → Answers (fitting bytes (length before)) before after (Wrote count)
+      → Answers (fitting bytes 0 (length before)) before after (Wrote count)
   answers-file room filled =
       rw (le-leb (length bytes) (length before) room)
       (record { is = ap Wrote (filled .size); out = rw (← filled .size) (filled .holds) })

@@ -2,9 +2,8 @@
 use Prim.Native.Nat.{ℕ}
 use mathlib.Core.Path.{_≡_, sym, _∙_}
 use mathlib.Core.List.{List}
-use lib.Dec.{leb}
 use lib.ListN.{length}
-use Rattle.meaning.specs.Calls.{Decision, refusal, answer, demand, Written, outAfter}
+use Rattle.meaning.specs.Calls.{Decision, refusal, answer, Written, outAfter}
 use Rattle.writer.specs.declared.answer.Writing.{Writing}
 use Rattle.writer.specs.declared.answer.Writing.the-variants.{Wrote, Refused}
 
@@ -12,10 +11,6 @@ use Rattle.writer.specs.declared.answer.Writing.the-variants.{Wrote, Ref
 abbrev pub writingOf : Decision Written → Writing
 writingOf (refusal number place) = Refused number place
 writingOf (answer w) = Wrote (length (w .bytes))
-
--- The last part of `writing`: 22 where the buffer is shorter than the bytes of the file.
-abbrev pub fitting : (bytes : List ℕ) (out : ℕ) → Decision Written
-fitting bytes out = demand 22 0 (leb (length bytes) out) (answer (record { bytes = bytes; cleared = 0 }))
 
 -- What a call comes to is answered, and the buffer is as it says.
 pub record Answers (decision : Decision Written) (before after : List ℕ) (result : Writing) : Type 0 where

@@ -3,7 +3,8 @@ ghost use lib.ListN.{length};
 ghost use Rattle.meaning.specs.Lists.{All};
 ghost use Rattle.meaning.specs.Ceilings.{Small};
 ghost use Rattle.meaning.specs.Layout.{each, numberBytes};
-ghost use Rattle.writer.specs.Answers.{Answers, fitting};
+ghost use Rattle.meaning.specs.Calls.{fitting};
+ghost use Rattle.writer.specs.Answers.{Answers};
 
 // The number of bytes written, or a refusal with its number and place.
 pub enum Writing {
@@ -14,13 +15,14 @@ pub enum Writing {
 // Writes the bytes of the numbers, or gives 22 where the buffer is shorter.
 pub fn answer(numbers: &[u16], out: &mut [u8]) -> Writing
     requires { ⌜ All Small (now numbers) ⌝ }
-    ensures { λ r. ⌜ Answers (fitting (each numberBytes (now (numbers .entry))) (length (now (out .entry)))) (now (out .entry)) (now (out .exit)) r ⌝ }
+    ensures { λ r. ⌜ Answers (fitting (each numberBytes (now (numbers .entry))) 0 (length (now (out .entry)))) (now (out .entry)) (now (out .exit)) r ⌝ }
 {
-    if out.len() < encoder::needed(numbers) {
-        return Writing::Refused {
+    if encoder::fits(numbers, out.len()) {
+        Writing::Wrote(encoder::write(numbers, out))
+    } else {
+        Writing::Refused {
             number: 22,
             place: 0,
-        };
+        }
     }
-    Writing::Wrote(encoder::write(numbers, out))
 }

@@ -22,7 +22,9 @@ sub-outputs : tie.Need-sub-outputs
 sub-outputs c = let is = outputs-are (c .before .before .before .before .before .before .before .before .before .pre) (c .before .module-at .ensures) in omega (arith, is)
 
 returns : tie.Need-returns
-returns c f = other-count f _ _ _ (λ e. c .if1 .taken (e ∙ sym (inputs-are f (c .before .before .before .module-at .ensures))))
+returns c f =
+    let start = c .before .before .before .before .before .before .before .before .before .before .before in
+    other-count f (start .args .values .now) _ _ (λ e. c .if1 .taken (e ∙ sym (inputs-are f (c .before .before .before .module-at .ensures))))
 
 first-above-requires : tie.Need-first-above-requires
 first-above-requires c κs = search needs

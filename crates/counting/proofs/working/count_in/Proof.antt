@@ -16,7 +16,7 @@ slice-read-room c =
     in-rooms (held _ _ _ _ _ _ _ _ (sought .result) (sought .ensures) _ (c .before .before .k .given .1))
 
 cast-if1 : tie.Need-cast-if1
-cast-if1 c = omega (arith, c .slice-known14 .given (c .before .before .k .given .0 .0))
+cast-if1 c = omega (arith, c .slice-known15 .given (c .before .before .k .given .0 .0))
 
 returns : tie.Need-returns
 returns c =
@@ -35,8 +35,10 @@ slice-read-figures-at c =
 
 figures-at-requires : tie.Need-figures-at-requires
 figures-at-requires c κs =
-    let sought = c .before .before .before .before .before .before .before .before .before .before .before .before .before .before .before .before .before .before .before .before .before .before .seek in
-    figurable (held _ _ _ _ _ _ _ _ (sought .result) (sought .ensures) _ (c .before .before .before .before .before .before .before .before .k .given .1)) _ (c .before .before .before .before .before .if1 .left)
+    let sought = c .before .before .before .before .before .before .before .before .before .before .before .before .before .before .before .before .before .before .before .before .before .before .before .seek in (
+      figurable (held _ _ _ _ _ _ _ _ (sought .result) (sought .ensures) _ (c .before .before .before .before .before .before .before .before .before .k .given .1)) _ (c .before .before .before .before .before .before .if1 .left),
+      omega (arith, sought .kept .1 .1 .1 .1 .0, c .before .before .before .before .before .before .before .before .before .before .before .before .before .before .before .before .before .before .before .before .before .before .before .before .before .before .before .before .before .before .before .before .before .before .before .before .before .before .before .pre .1),
+    )
 
 returns-2 : tie.Need-returns-2
 returns-2 c =
@@ -45,9 +47,9 @@ returns-2 c =
 
 returns-3 : tie.Need-returns-3
 returns-3 c =
-    let sought = c .before .before .before .before .before .before .before .before .before .before .before .before .before .before .before .before .before .before .before .before .before .before .before .before .before .seek in
-    answer-counts (held _ _ _ _ _ _ _ _ (sought .result) (sought .ensures) _ (c .before .before .before .before .before .before .before .before .before .before .before .k .given .1)) _ _
-    (c .before .before .before .before .before .before .before .before .if1 .left) (c .before .before .figures-at .result) (c .before .before .figures-at .ensures)
+    let sought = c .before .before .before .before .before .before .before .before .before .before .before .before .before .before .before .before .before .before .before .before .before .before .before .before .before .before .before .before .seek in
+    answer-counts (held _ _ _ _ _ _ _ _ (sought .result) (sought .ensures) _ (c .before .before .before .before .before .before .before .before .before .before .before .before .before .before .k .given .1)) _ _
+    (c .before .before .before .before .before .before .before .before .before .before .before .if1 .left) (c .before .before .before .before .figures-at .result) (c .before .before .before .before .figures-at .ensures)
 
 pub count-in-spec : {M : Type 1} → statement M
 count-in-spec =
@@ -78,6 +80,7 @@ count-in-spec =
     (λ c. search needs)
     (λ c. search needs)
     returns-2
+    (λ c. search needs)
     (λ c. search needs)
     (λ c. search needs)
     (λ c. search needs)

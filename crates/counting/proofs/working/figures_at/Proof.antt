@@ -6,49 +6,49 @@ use Rattle.counting.proofs.working.figures_at.Statement.{statement}
 use Rattle.counting.proofs.working.figures_at.Tie as tie
 
 mul-module-at : tie.Need-mul-module-at
-mul-module-at c = omega (arith, inside (c .before .before .before .before .pre), c .before .before .before .before .good)
+mul-module-at c = omega (arith, inside (c .before .before .before .before .before .pre .0), c .before .before .before .before .before .good)
 
 shared-slice-read-module-at : tie.Need-shared-slice-read-module-at
-shared-slice-read-module-at c = inside (c .before .before .before .before .before .pre)
+shared-slice-read-module-at c = inside (c .before .before .before .before .before .before .pre .0)
 
 module-at-requires : tie.Need-module-at-requires
-module-at-requires c κs = there (c .before .before .before .before .before .pre)
+module-at-requires c κs = there (c .before .before .before .before .before .before .pre .0)
 
 cast-inputs : tie.Need-cast-inputs
-cast-inputs c = omega (arith, inputs-are (c .before .before .before .before .before .before .before .pre) (c .before .module-at .ensures), c .before .before .before .before .before .before .before .pre .within .inputs .count)
+cast-inputs c = let s = c .before .before .before .before .before .before .before .before .pre .0 in omega (arith, inputs-are s (c .before .module-at .ensures), s .within .inputs .count)
 
 sub-outputs : tie.Need-sub-outputs
-sub-outputs c = ordered (c .before .before .before .before .before .before .before .before .pre) (c .before .before .module-at .ensures)
+sub-outputs c = ordered (c .before .before .before .before .before .before .before .before .before .pre .0) (c .before .before .module-at .ensures)
 
 cast-outputs : tie.Need-cast-outputs
-cast-outputs c = omega (arith, outputs-are (c .before .before .before .before .before .before .before .before .pre) (c .before .before .module-at .ensures), c .before .before .before .before .before .before .before .before .pre .within .outputs .count)
+cast-outputs c = let s = c .before .before .before .before .before .before .before .before .before .pre .0 in omega (arith, outputs-are s (c .before .before .module-at .ensures), s .within .outputs .count)
 
 tally-module-requires : tie.Need-tally-module-requires
-tally-module-requires c κs = countable (c .before .before .before .before .before .before .before .before .pre)
+tally-module-requires c κs = countable (c .before .before .before .before .before .before .before .before .before .pre .0)
 
 gates-of-requires : tie.Need-gates-of-requires
-gates-of-requires c κs = tally-fits (c .before .before .before .before .before .before .before .before .before .pre) (tally-is (c .before .before .before .before .before .before .before .before .before .pre) (c .tally-module .ensures))
+gates-of-requires c κs = let s = c .before .before .before .before .before .before .before .before .before .before .pre .0 in tally-fits s (tally-is s (c .tally-module .ensures))
 
 delay-requires : tie.Need-delay-requires
-delay-requires c κs = callable (c .before .before .before .before .before .before .before .before .before .before .before .pre)
+delay-requires c κs = callable (c .before .before .before .before .before .before .before .before .before .before .before .before .pre .0)
 
 largest-load-requires : tie.Need-largest-load-requires
-largest-load-requires c κs = (loadable (c .before .before .before .before .before .before .before .before .before .before .before .before .before .before .before .pre), search needs)
+largest-load-requires c κs = (loadable (c .before .before .before .before .before .before .before .before .before .before .before .before .before .before .before .before .before .pre .0), (search needs, c .before .before .before .before .before .before .before .before .before .before .before .before .before .before .before .before .before .pre .1))
 
 returns : tie.Need-returns
 returns c =
     λ s.
-    let tally = tally-is s (c .before .before .before .before .before .before .before .before .before .tally-module .ensures) in
-    let timed = c .before .before .before .before .before .before .delay .ensures in
-    let loaded = c .before .before .largest-load .ensures in
-    let header = c .before .before .before .before .before .before .before .before .before .before .before .before .module-at .ensures in
+    let tally = tally-is s (c .before .before .before .before .before .before .before .before .before .before .before .before .tally-module .ensures) in
+    let timed = c .before .before .before .before .before .before .before .before .before .delay .ensures in
+    let loaded = c .before .before .before .before .largest-load .ensures in
+    let header = c .before .before .before .before .before .before .before .before .before .before .before .before .before .before .before .module-at .ensures in
     record {
       is =
           figures-are s
           (inputs-are s header)
           (outputs-are s header)
           tally
-          (gates-are s tally (c .before .before .before .before .before .before .before .before .gates-of .ensures))
+          (gates-are s tally (c .before .before .before .before .before .before .before .before .before .before .before .gates-of .ensures))
           (delay-is s timed)
           (load-is s (loaded .0));
       clean = scratch-is s (delay-clears s timed) (loaded .1);
@@ -68,5 +68,6 @@ figures-at-spec =
     gates-of-requires
     delay-requires
     largest-load-requires
+    (λ c. search needs)
     (λ c. search needs)
     returns)

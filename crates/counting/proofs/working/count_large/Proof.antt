@@ -1,0 +1,23 @@
+-- The lists are long enough for any file, and there is a load for each number of the image.
+use native.Mathlib.Nat.{le-refl}
+use borrow.Author.Needs.{needs}
+use Rattle.counting.proofs.working.count_large.Statement.{statement}
+use Rattle.counting.proofs.working.count_large.Tie as tie
+
+count-in-requires : tie.Need-count-in-requires
+count-in-requires c κs = (search needs, le-refl _)
+
+pub count-large-spec : {M : Type 1} → statement M
+count-large-spec =
+    tie.close
+    (tie.spec
+    (λ c. search needs)
+    (λ c. search needs)
+    (λ c. search needs)
+    (λ c. search needs)
+    (λ c. search needs)
+    (λ c. search needs)
+    (λ c. search needs)
+    count-in-requires
+    (λ c. search needs)
+    (λ c. search needs))
