@@ -1,23 +1,33 @@
--- What preparing a file says of it is the library's answer.
-use mathlib.Core.Path.{_≡_, ap, sym, subst, _∙_}
-use mathlib.Core.List.{List}
+-- What counting a file's modules says of it is the check's answer.
 use Prim.Native.Nat.{ℕ}
-use Rattle.meaning.specs.Verdict.{good, verdict, verdictOf}
-use Rattle.desk.specs.declared.preparing.Prepared.{Prepared}
-use Rattle.desk.specs.declared.preparing.Prepared.the-variants.{Ready, Refused}
-use Rattle.desk.specs.Prepared.{Opened, Prepares}
+use mathlib.Core.Path.{_≡_, refl, sym, ap, _∙_}
+use mathlib.Core.List.{List}
+use lib.ListN.{length}
+use Rattle.meaning.specs.Reading.{File, holds, fails, read}
+use Rattle.meaning.specs.Verdict.{Verdict, good, refused, fileVerdict, verdictOf, verdict}
+use Rattle.meaning.specs.Calls.{answer, ifGood, onRead, onFile}
+use Rattle.counting.specs.Contents.{moduleCount, listedOf}
+use Rattle.counting.specs.declared.contents.Listed.{Listed}
+use Rattle.counting.specs.declared.contents.Listed.the-variants.{Modules, Refused}
 use Rattle.shelf.specs.Answers.{checkOf}
+use Rattle.shelf.specs.declared.judged.Checked.{Checked}
 use Rattle.shelf.specs.declared.judged.Checked.the-variants.{Good, Broken}
 
-module _ (file numbers starts image nets sizes rooms : List ℕ)
+abbrev pub judged : Listed → Checked
+judged (Modules count) = Good
+judged (Refused number place) = Broken number place
+
+counted-judged : (file : List ℕ) → judged (listedOf (moduleCount file)) ≡ checkOf (verdict file)
+unfolding moduleCount onFile verdict
+counted-judged file = go (read file)
   where
-    -- A file that was opened is good.
-    opened-good : {modules count : ℕ} → Opened file modules count numbers starts image nets sizes rooms → verdict file ≡ good
-    unfolding verdict
-    opened-good o = ap verdictOf (o .reads) ∙ o .desk .accepted
+    go : (f : File) → judged (listedOf (onRead f (λ ms. answer (length ms)))) ≡ checkOf (verdictOf f)
+    go (holds ms) = by-verdict (fileVerdict ms)
+      where
+        by-verdict : (v : Verdict) → judged (listedOf (ifGood v (answer (length ms)))) ≡ checkOf v
+        by-verdict good = refl
+        by-verdict (refused number place) = refl
+    go (fails number place) = refl
 
-    pub answers-good : (r : Prepared) (modules count : ℕ) → Prepares r file numbers starts image nets sizes rooms → r ≡ Ready modules count → Good ≡ checkOf (verdict file)
-    answers-good r modules count p e = sym (ap checkOf (opened-good (subst (λ s. Prepares s file numbers starts image nets sizes rooms) e p)))
-
-    pub answers-refused : (r : Prepared) (number place : ℕ) → Prepares r file numbers starts image nets sizes rooms → r ≡ Refused number place → Broken number place ≡ checkOf (verdict file)
-    answers-refused r number place p e = sym (ap checkOf (subst (λ s. Prepares s file numbers starts image nets sizes rooms) e p))
+pub judges : (file : List ℕ) (counted met : Listed) → counted ≡ listedOf (moduleCount file) → counted ≡ met → judged met ≡ checkOf (verdict file)
+judges file counted met is e = ap judged (sym e ∙ is) ∙ counted-judged file
