@@ -23,14 +23,14 @@ pub enum Kind {
     Module,
 }
 
+// In a family the count of arguments rises with the number: B-NOT is the first of the NANDs.
 pub fn kind_of(number: u16) -> Kind
     ensures { λ r. ⌜ r ≡ kindOf number ⌝ }
 {
     let n = number as usize;
     match n {
         0 => Kind::Gate(Rule::And, 1),
-        1 => Kind::Gate(Rule::Nand, 1),
-        2..=4 => Kind::Gate(Rule::Nand, n),
+        1..=4 => Kind::Gate(Rule::Nand, n),
         5..=7 => Kind::Gate(Rule::Or, n - 3),
         8 => Kind::Gate(Rule::Eqv, 2),
         9 => Kind::Gate(Rule::Xor, 2),

@@ -11,15 +11,20 @@ use Rattle.gates.specs.declared.Rule.the-variants.{Nand, Or, And, Nor}
 use Rattle.gates.proofs.kind_of.Statement.{statement}
 use Rattle.gates.proofs.kind_of.Tie as tie
 
--- What holds of three numbers in a row holds of each number in their range.
-family : (P : ℕ → Type 0) (k : ℕ) → P k → P (suc k) → P (suc (suc k)) → (n : ℕ) → k ≤ n → n < k + 3 → P n
-family P k p q r n low high = go (n - k) (omega arith)
+-- What holds of numbers in a row, from k on,
+abbrev Row : (ℕ → Type 0) → ℕ → ℕ → Type 0
+Row P zero k = Unit
+Row P (suc count) k = P k × Row P count (suc k)
+
+-- holds of each number in their range.
+family : (P : ℕ → Type 0) (count k : ℕ) → Row P count k → (n : ℕ) → k ≤ n → n < k + count → P n
+family P zero k row n low high = absurd (omega arith)
+family P (suc count) k row n low high =
+    go (n - k) (omega arith) (λ more. family P count (suc k) (row .1) n more (omega arith))
   where
-    go : (j : ℕ) → n ≡ k + j → P n
-    go zero e = let same : k ≡ n = omega arith in subst P same p
-    go (suc zero) e = let same : suc k ≡ n = omega arith in subst P same q
-    go (suc (suc zero)) e = let same : suc (suc k) ≡ n = omega arith in subst P same r
-    go (suc (suc (suc j))) e = absurd (omega arith)
+    go : (j : ℕ) → n ≡ k + j → (suc k ≤ n → P n) → P n
+    go zero e later = let same : k ≡ n = omega arith in subst P same (row .0)
+    go (suc j) e later = later (omega arith)
 
 pub kind-of-spec : {M : Type 1} → statement M
 unfolding kindOf rules gate gates
@@ -31,9 +36,8 @@ kind-of-spec =
     (λ c. rw (c .match .keys1))
     (λ c. rw (c .match .keys2))
     (λ c. rw (c .match .keys3))
-    (λ c. rw (c .match .keys4))
-    (λ c. family (λ n. Gate Nand n ≡ kindOf n) 2 refl refl refl _ (omega arith) (omega arith))
-    (λ c. family (λ n. Gate Or (n - 3) ≡ kindOf n) 5 refl refl refl _ (omega arith) (omega arith))
-    (λ c. family (λ n. Gate And (n - 8) ≡ kindOf n) 10 refl refl refl _ (omega arith) (omega arith))
-    (λ c. family (λ n. Gate Nor (n - 11) ≡ kindOf n) 13 refl refl refl _ (omega arith) (omega arith))
+    (λ c. family (λ n. Gate Nand n ≡ kindOf n) 4 1 (refl, (refl, (refl, (refl, tt)))) _ (omega arith) (omega arith))
+    (λ c. family (λ n. Gate Or (n - 3) ≡ kindOf n) 3 5 (refl, (refl, (refl, tt))) _ (omega arith) (omega arith))
+    (λ c. family (λ n. Gate And (n - 8) ≡ kindOf n) 3 10 (refl, (refl, (refl, tt))) _ (omega arith) (omega arith))
+    (λ c. family (λ n. Gate Nor (n - 11) ≡ kindOf n) 3 13 (refl, (refl, (refl, tt))) _ (omega arith) (omega arith))
     (λ c. simp (le-ltb _ 16 (c .if4 .left))))
