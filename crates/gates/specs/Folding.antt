@@ -1,121 +1,79 @@
--- What a rule gives to what is seen of a list of arguments is the rule's Boolean function by fillings. It holds for any number of
--- arguments: what is seen does not depend on their order, and each argument changes it as the gate of two arguments would.
+-- What a rule gives to a list of values is the rule's Boolean function by fillings. It holds for any number of arguments, as the operations
+-- of two arguments are associative on three values too.
 use Prim.Native.Nat.{ℕ}
-use mathlib.Core.Bool.{Bool, true, false, not}
-use mathlib.Core.List.{List, [], _∷_, map, foldr}
-use mathlib.Core.Path.{_≡_, refl, ap, sym, _∙_}
-use Rattle.meaning.specs.Values.{Val, known, un, value, byFillings}
-use Rattle.meaning.specs.Gates.{one, two, B-AND, B-OR, B-XOR}
+use mathlib.Core.Bool.{Bool, not}
+use mathlib.Core.List.{List, [], _∷_, foldr}
+use mathlib.Core.Path.{_≡_, ap, sym, _∙_}
+use borrow.Author.Needs.{needs}
+use Rattle.meaning.specs.Values.{Val, known, byFillings, value, code}
 use Rattle.laws.specs.Folds.{after, fold-step}
-use Rattle.gates.specs.Seen.{nothing, see, seeAll, settled, resultOf}
+use Rattle.gates.specs.ThreeValues.{each, each-three, stands-for}
+use Rattle.gates.specs.Folds.{operation, neutral, step, negation, foldOn, folded, resultOf}
 use Rattle.gates.specs.declared.Rule.{Rule}
 use Rattle.gates.specs.declared.Rule.the-variants.{And, Nand, Or, Nor, Xor, Eqv}
-use Rattle.gates.specs.declared.Seen.{Seen}
+use Rattle.gates.specs.declared.folds.Fold.{Fold}
+use Rattle.gates.specs.declared.folds.Fold.the-variants.{All, Any, Odd}
 
--- The Boolean function of a rule.
+-- The Boolean function of a fold,
+abbrev pub foldBools : Fold → List Bool → Bool
+foldBools fold bs = foldr (operation fold) (neutral fold) bs
+
+-- and of a rule.
 abbrev pub means : Rule → List Bool → Bool
-means And bs = foldr B-AND true bs
-means Nand bs = not (foldr B-AND true bs)
-means Or bs = foldr B-OR false bs
-means Nor bs = not (foldr B-OR false bs)
-means Xor bs = foldr B-XOR false bs
-means Eqv bs = not (foldr B-XOR false bs)
+means And bs = foldBools All bs
+means Nand bs = not (foldBools All bs)
+means Or bs = foldBools Any bs
+means Nor bs = not (foldBools Any bs)
+means Xor bs = foldBools Odd bs
+means Eqv bs = not (foldBools Odd bs)
 
--- Two arguments may be seen in either order,
-see-swap : (s : Seen) (v w : Val) → see (see s v) w ≡ see (see s w) v
-unfolding see
-see-swap s (known false) (known false) = refl
-see-swap s (known false) (known true) = refl
-see-swap s (known false) un = refl
-see-swap s (known true) (known false) = refl
-see-swap s (known true) (known true) = refl
-see-swap s (known true) un = refl
-see-swap s un (known false) = refl
-see-swap s un (known true) = refl
-see-swap s un un = refl
+-- The value that an operation begins with changes nothing, at either place.
+abbrev Neutral : Fold → Val → Type 0
+Neutral fold v = (step fold (known (neutral fold)) v ≡ v) × (step fold v (known (neutral fold)) ≡ v)
 
--- so the first may be seen last.
-see-late : (s : Seen) (v : Val) (xs : List ℕ) → seeAll (see s v) xs ≡ see (seeAll s xs) v
-unfolding seeAll
-see-late s v [] = refl
-see-late s v (x ∷ xs) = ap (λ t. seeAll t xs) (see-swap s v (value x)) ∙ see-late (see s (value x)) v xs
+pub neutral-both : (fold : Fold) (v : Val) → Neutral fold v
+unfolding step byFillings
+neutral-both All = each (Neutral All) (search needs)
+neutral-both Any = each (Neutral Any) (search needs)
+neutral-both Odd = each (Neutral Odd) (search needs)
 
--- What a rule gives to what is seen, after one argument more, is the gate of two on that argument and what it gave before.
-Steps : (Bool → Bool → Bool) → Rule → Seen → Type 0
-Steps f rule s =
-    (resultOf rule (see s (known false)) ≡ byFillings (two f .function) (known false ∷ resultOf rule s ∷ []))
-    × (resultOf rule (see s (known true)) ≡ byFillings (two f .function) (known true ∷ resultOf rule s ∷ []))
-    × (resultOf rule (see s un) ≡ byFillings (two f .function) (un ∷ resultOf rule s ∷ []))
+-- It does not matter which two of three arguments come first.
+abbrev Associates : Fold → Val → Val → Val → Type 0
+Associates fold u v w = step fold (step fold u v) w ≡ step fold u (step fold v w)
 
-abbrev seen : (zero one even unknown : Bool) → Seen
-seen z o e u = record { zero = z; one = o; even = e; unknown = u }
+associative : (fold : Fold) (u v w : Val) → Associates fold u v w
+unfolding step byFillings
+associative All = each-three (Associates All) (search needs)
+associative Any = each-three (Associates Any) (search needs)
+associative Odd = each-three (Associates Odd) (search needs)
 
-and-steps : (zero one even unknown : Bool) → Steps B-AND And (seen zero one even unknown)
-unfolding byFillings see settled resultOf Steps
-and-steps true one even unknown = (refl, refl, refl)
-and-steps false one even true = (refl, refl, refl)
-and-steps false one even false = (refl, refl, refl)
+-- Folding on from a value is its operation on that value and what folding gives to the rest.
+foldOn-is : (fold : Fold) (v : Val) (ws : List Val) → foldOn fold v ws ≡ step fold v (byFillings (foldBools fold) ws)
+unfolding step byFillings
+foldOn-is fold v [] = sym (neutral-both fold v .1)
+foldOn-is fold v (w ∷ ws) =
+    foldOn-is fold (step fold v w) ws
+    ∙ associative fold v w (byFillings (foldBools fold) ws)
+    ∙ ap (step fold v) (sym (fold-step (operation fold) (neutral fold) w ws))
 
-or-steps : (zero one even unknown : Bool) → Steps B-OR Or (seen zero one even unknown)
-unfolding byFillings see settled resultOf Steps
-or-steps zero true even unknown = (refl, refl, refl)
-or-steps zero false even true = (refl, refl, refl)
-or-steps zero false even false = (refl, refl, refl)
+folded-is : (fold : Fold) (vs : List Val) → folded fold vs ≡ byFillings (foldBools fold) vs
+unfolding folded
+folded-is fold vs = foldOn-is fold (known (neutral fold)) vs ∙ neutral-both fold _ .0
 
-xor-steps : (zero one even unknown : Bool) → Steps B-XOR Xor (seen zero one even unknown)
-unfolding byFillings see settled resultOf Steps
-xor-steps zero one even true = (refl, refl, refl)
-xor-steps zero one true false = (refl, refl, refl)
-xor-steps zero one false false = (refl, refl, refl)
+negated-is : (fold : Fold) (vs : List Val) → negation (folded fold vs) ≡ byFillings (λ bs. not (foldBools fold bs)) vs
+unfolding negation
+negated-is fold vs = ap negation (folded-is fold vs) ∙ sym (after not (foldBools fold) vs)
 
--- So it is the function of two folded over the arguments.
-folded : (f : Bool → Bool → Bool) (z : Bool) (rule : Rule) → resultOf rule nothing ≡ known z
-    → ((zero one even unknown : Bool) → Steps f rule (seen zero one even unknown))
-    → (xs : List ℕ) → resultOf rule (seeAll nothing xs) ≡ byFillings (foldr f z) (map value xs)
-unfolding byFillings seeAll Steps
-folded f z rule start steps [] = start
-folded f z rule start steps (x ∷ xs) =
-    ap (resultOf rule) (see-late nothing (value x) xs)
-    ∙ step (seeAll nothing xs) (value x)
-    ∙ ap (λ v. byFillings (two f .function) (value x ∷ v ∷ [])) (folded f z rule start steps xs)
-    ∙ sym (fold-step f z (value x) (map value xs))
-  where
-    step : (s : Seen) (v : Val) → resultOf rule (see s v) ≡ byFillings (two f .function) (v ∷ resultOf rule s ∷ [])
-    step s (known false) = steps (s .zero) (s .one) (s .even) (s .unknown) .0
-    step s (known true) = steps (s .zero) (s .one) (s .even) (s .unknown) .1
-    step s un = steps (s .zero) (s .one) (s .even) (s .unknown) .2
-
-and-folded : (xs : List ℕ) → resultOf And (seeAll nothing xs) ≡ byFillings (means And) (map value xs)
-unfolding settled resultOf
-and-folded = folded B-AND true And refl and-steps
-
-or-folded : (xs : List ℕ) → resultOf Or (seeAll nothing xs) ≡ byFillings (means Or) (map value xs)
-unfolding settled resultOf
-or-folded = folded B-OR false Or refl or-steps
-
-xor-folded : (xs : List ℕ) → resultOf Xor (seeAll nothing xs) ≡ byFillings (means Xor) (map value xs)
-unfolding settled resultOf
-xor-folded = folded B-XOR false Xor refl xor-steps
-
--- The opposite result is the negated function's.
-opposite : (forced unknown to : Bool) (f : List Bool → Bool) (vs : List Val)
-    → settled forced unknown to ≡ byFillings f vs → settled forced unknown (not to) ≡ byFillings (λ bs. not (f bs)) vs
-unfolding byFillings settled
-opposite forced unknown to f vs e =
-    go forced unknown ∙ ap (λ v. byFillings (one not .function) (v ∷ [])) e ∙ sym (after not f vs)
-  where
-    go : (forced unknown : Bool)
-        → settled forced unknown (not to) ≡ byFillings (one not .function) (settled forced unknown to ∷ [])
-    go true unknown = refl
-    go false true = refl
-    go false false = refl
-
--- The value of a rule on what is seen of a list is the rule's function by fillings.
-pub by-seeing : (rule : Rule) (xs : List ℕ) → resultOf rule (seeAll nothing xs) ≡ byFillings (means rule) (map value xs)
+-- The value of a rule on a list is the rule's function by fillings.
+pub by-folding : (rule : Rule) (vs : List Val) → resultOf rule vs ≡ byFillings (means rule) vs
 unfolding resultOf
-by-seeing And xs = and-folded xs
-by-seeing Nand xs = opposite _ _ _ (means And) (map value xs) (and-folded xs)
-by-seeing Or xs = or-folded xs
-by-seeing Nor xs = opposite _ _ _ (means Or) (map value xs) (or-folded xs)
-by-seeing Xor xs = xor-folded xs
-by-seeing Eqv xs = opposite _ _ _ (means Xor) (map value xs) (xor-folded xs)
+by-folding And vs = folded-is All vs
+by-folding Nand vs = negated-is All vs
+by-folding Or vs = folded-is Any vs
+by-folding Nor vs = negated-is Any vs
+by-folding Xor vs = folded-is Odd vs
+by-folding Eqv vs = negated-is Odd vs
+
+-- The negation of a number that is the code of a value.
+pub negated : (v : Val) {n m : ℕ} → n ≡ code v → m ≡ code (negation (value n)) → m ≡ code (negation v)
+negated v e k = k ∙ ap (λ u. code (negation u)) (stands-for v e)

@@ -1,4 +1,4 @@
--- The law that another crate cites: what the rule of a gate's number gives to what is seen of the arguments is the gate's value.
+-- The law that another crate cites: what the rule of a gate's number gives to the arguments is the gate's value.
 use Prim.Native.Nat.{ℕ, zero, suc, _≤_, _<_}
 use mathlib.Core.Bool.{Bool, true, false, cond}
 use mathlib.Core.List.{List, [], _∷_, map}
@@ -10,25 +10,25 @@ use Rattle.meaning.specs.Values.{known, value, code, byFillings}
 use Rattle.meaning.specs.Gates.{isGate, gate, gateValue, gateCode}
 use Rattle.laws.specs.Folds.{firsts, firsts-all, on-firsts}
 use Rattle.gates.specs.Kind.{rules, kindOf}
-use Rattle.gates.specs.Seen.{nothing, seeAll, resultOf}
-use Rattle.gates.specs.Folding.{means, by-seeing}
+use Rattle.gates.specs.Folds.{resultOf}
+use Rattle.gates.specs.Folding.{means, by-folding}
 use Rattle.gates.specs.Rules.{gate-computes}
 use Rattle.gates.specs.declared.Rule.{Rule}
 use Rattle.gates.specs.declared.Rule.the-variants.{And}
 use Rattle.gates.specs.declared.Kind.the-variants.{Gate, Module}
 
--- A number is that of a gate with this rule and this count of arguments: the rule gives the gate's value to what is seen of as many,
--- and a missing one counts as 0.
+-- A number is that of a gate with this rule and this count of arguments: the rule gives the gate's value to as many, and a
+-- missing one counts as 0.
 pub record GateIs (number : ℕ) (rule : Rule) (arity : ℕ) : Type 0 where
   pub below : number < 16
   pub arity-is : arity ≡ gate number .arity
-  pub value-is : (xs : List ℕ) → code (resultOf rule (seeAll nothing (firsts 0 arity xs))) ≡ gateCode number xs
+  pub value-is : (xs : List ℕ) → code (resultOf rule (map value (firsts 0 arity xs))) ≡ gateCode number xs
 
 -- The gate's value on exactly as many arguments as it takes.
 pub value-of-all : {number : ℕ} {rule : Rule} {arity : ℕ} → GateIs number rule arity → (xs : List ℕ) → length xs ≡ arity
-    → code (resultOf rule (seeAll nothing xs)) ≡ gateCode number xs
+    → code (resultOf rule (map value xs)) ≡ gateCode number xs
 value-of-all {rule = rule} g xs e =
-    ap (λ ys. code (resultOf rule (seeAll nothing ys))) (sym (firsts-all 0 xs) ∙ ap (λ n. firsts 0 n xs) e)
+    ap (λ ys. code (resultOf rule (map value ys))) (sym (firsts-all 0 xs) ∙ ap (λ n. firsts 0 n xs) e)
     ∙ g .value-is xs
 
 value-firsts : (n : ℕ) (xs : List ℕ) → map value (firsts 0 n xs) ≡ firsts (known false) n (map value xs)
@@ -41,10 +41,10 @@ unfolding gateCode gateValue
 gate-is number below = record { below = below; arity-is = refl; value-is = λ xs. ap code (by-rule xs) }
   where
     by-rule : (xs : List ℕ)
-        → resultOf (getD rules number And) (seeAll nothing (firsts 0 (gate number .arity) xs))
+        → resultOf (getD rules number And) (map value (firsts 0 (gate number .arity) xs))
         ≡ byFillings (gate number .function) (map value xs)
     by-rule xs =
-        by-seeing (getD rules number And) (firsts 0 (gate number .arity) xs)
+        by-folding (getD rules number And) (map value (firsts 0 (gate number .arity) xs))
         ∙ ap (byFillings (means (getD rules number And))) (value-firsts (gate number .arity) xs)
         ∙ sym (on-firsts (means (getD rules number And)) (gate number .arity) (map value xs))
         ∙ ap (λ f. byFillings f (map value xs)) (sym (fun-ext (gate-computes number below .computes)))

@@ -1,11 +1,15 @@
 // The sixteen gates: one decision over gate numbers, from which the count of arguments and the rule of the value come, and the value,
 // found by one look at each argument.
+use crate::folds::Fold;
 ghost use mathlib.Core.Path.{_≡_};
+ghost use mathlib.Core.List.{map};
 ghost use Rattle.meaning.specs.Values.{value, code};
 ghost use Rattle.meaning.specs.Gates.{gateCode};
 ghost use Rattle.laws.specs.Folds.{firsts};
 ghost use Rattle.gates.specs.Kind.{kindOf};
-ghost use Rattle.gates.specs.Seen.{nothing, see, seeAll, settled, resultOf};
+ghost use Rattle.gates.specs.Folds.{folded, resultOf};
+
+pub mod folds;
 
 // What a gate makes of its arguments, however many they are. With one argument B-BUF is an AND and B-NOT a NAND.
 pub enum Rule {
@@ -40,86 +44,30 @@ pub fn kind_of(number: u16) -> Kind
     }
 }
 
-// All that any rule asks of the arguments seen so far: whether a 0, a 1 or an unknown is among them, and whether the number of 1s is
-// even.
-pub struct Seen {
-    zero: bool,
-    one: bool,
-    even: bool,
-    unknown: bool,
-}
-
-impl Seen {
-    pub fn nothing() -> Self
-        ensures { λ r. ⌜ r ≡ nothing ⌝ }
-    {
-        Self {
-            zero: false,
-            one: false,
-            even: true,
-            unknown: false,
-        }
-    }
-
-    // One argument more. A value above 2 counts as unknown.
-    pub fn see(mut self, v: u32) -> Self
-        ensures { λ r. ⌜ r ≡ see self (value v) ⌝ }
-    {
-        match v {
-            0 => {
-                self.zero = true;
-            }
-            1 => {
-                self.one = true;
-                self.even = !self.even;
-            }
-            _ => {
-                self.unknown = true;
-            }
-        }
-        self
-    }
-
-    // The value that a rule gives to the arguments seen.
-    pub fn result(self, rule: Rule) -> u32
-        ensures { λ r. ⌜ r ≡ code (resultOf rule self) ⌝ }
-    {
-        match rule {
-            Rule::And => settled(self.zero, self.unknown, false),
-            Rule::Nand => settled(self.zero, self.unknown, true),
-            Rule::Or => settled(self.one, self.unknown, true),
-            Rule::Nor => settled(self.one, self.unknown, false),
-            Rule::Xor => settled(false, self.unknown, self.even),
-            Rule::Eqv => settled(false, self.unknown, !self.even),
-        }
-    }
-}
-
-const UNKNOWN: u32 = 2;
-
-// A result that one argument can force; where none did it is unknown with an unknown among them, and the opposite without.
-fn settled(forced: bool, unknown: bool, to: bool) -> u32
-    ensures { λ r. ⌜ r ≡ code (settled forced unknown to) ⌝ }
+// The first arguments folded into one value, a missing one read as 0.
+fn folded(fold: Fold, args: &[u8], arity: usize) -> u32
+    ensures { λ r. ⌜ r ≡ code (folded fold (map value (firsts 0 arity (now (args .entry))))) ⌝ }
 {
-    if forced {
-        to as u32
-    } else if unknown {
-        UNKNOWN
-    } else {
-        !to as u32
-    }
-}
-
-// What is seen of the first arguments, a missing one read as 0.
-fn look(args: &[u8], arity: usize) -> Seen
-    ensures { λ r. ⌜ r ≡ seeAll nothing (firsts 0 arity (now (args .entry))) ⌝ }
-{
-    let mut seen = Seen::nothing();
+    let mut v = fold.start();
     for i in 0..arity {
-        let v = if i < args.len() { args[i] } else { 0 };
-        seen = seen.see(v as u32);
+        let next = if i < args.len() { args[i] } else { 0 };
+        v = fold.step(v, next as u32);
     }
-    seen
+    v
+}
+
+// What a rule gives to them.
+fn result(rule: Rule, args: &[u8], arity: usize) -> u32
+    ensures { λ r. ⌜ r ≡ code (resultOf rule (map value (firsts 0 arity (now (args .entry))))) ⌝ }
+{
+    match rule {
+        Rule::And => folded(Fold::All, args, arity),
+        Rule::Nand => crate::folds::not(folded(Fold::All, args, arity)),
+        Rule::Or => folded(Fold::Any, args, arity),
+        Rule::Nor => crate::folds::not(folded(Fold::Any, args, arity)),
+        Rule::Xor => folded(Fold::Odd, args, arity),
+        Rule::Eqv => crate::folds::not(folded(Fold::Odd, args, arity)),
+    }
 }
 
 // A gate's value. A missing argument reads as 0 and one too many is not looked at; a number that is no gate's gives 0.
@@ -127,7 +75,7 @@ pub fn value(number: u16, args: &[u8]) -> u8
     ensures { λ r. ⌜ r ≡ gateCode number (now (args .entry)) ⌝ }
 {
     match kind_of(number) {
-        Kind::Gate(rule, arity) => look(args, arity).result(rule) as u8,
+        Kind::Gate(rule, arity) => result(rule, args, arity) as u8,
         Kind::Module => 0,
     }
 }

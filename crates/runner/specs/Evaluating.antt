@@ -1,13 +1,12 @@
 -- What `evaluate` answers on the resolved file is what the file means: the codes of the outputs' values.
-use Prim.Native.Nat.{ℕ, zero, suc, _≤_}
+use Prim.Native.Nat.{ℕ, _≤_}
 use mathlib.Core.Path.{_≡_, refl, sym, ap, ap₂, _∙_}
-use mathlib.Core.Bool.{true, false}
+use mathlib.Core.Bool.{false}
 use mathlib.Core.List.{List, [], _∷_, _++_, map, Forall₂·nil, Forall₂·cons}
-use native.Mathlib.Omega.{arith}
 use lib.ListN.{length, drop}
 use Rattle.meaning.specs.Lists.{All, none, more}
 use Rattle.meaning.specs.Syntax.{Module}
-use Rattle.meaning.specs.Values.{Val, known, un, value, code}
+use Rattle.meaning.specs.Values.{Val, known, value, code}
 use Rattle.meaning.specs.Gates.{gateValue, gateCode}
 use Rattle.meaning.specs.Boxlist.{box, assoc}
 use Rattle.meaning.specs.Evaluation.{run, gateOutputs, evaluate}
@@ -16,29 +15,19 @@ use Rattle.laws.specs.Related.{Respects}
 use Rattle.image.specs.Resolved.{positionOf, resolve}
 use Rattle.image.specs.Fitting.{accepted-fits}
 use Rattle.image.specs.FramesMean.{frames-mean}
+use Rattle.gates.specs.ThreeValues.{value-of-code, code-of-value}
 use Rattle.runner.specs.Job.{atGate, jobMeaning}
 use Rattle.runner.specs.Calls.{answers, Evaluated}
 use Rattle.runner.specs.Mapped.{Mapped, mapped-is, run-mapped}
 use Rattle.runner.specs.declared.gate.Job.the-variants.{Value}
 
-value-of-code : (vs : List Val) → map value (map code vs) ≡ vs
-value-of-code [] = refl
-value-of-code (v ∷ vs) = ap₂ _∷_ (one v) (value-of-code vs)
-  where
-    one : (v : Val) → value (code v) ≡ v
-    one (known false) = refl
-    one (known true) = refl
-    one un = refl
+values-of-codes : (vs : List Val) → map value (map code vs) ≡ vs
+values-of-codes [] = refl
+values-of-codes (v ∷ vs) = ap₂ _∷_ (value-of-code v) (values-of-codes vs)
 
-code-of-value : {xs : List ℕ} → All (λ x. x ≤ 2) xs → map code (map value xs) ≡ xs
-code-of-value none = refl
-code-of-value (more {x = x} h rest) = ap₂ _∷_ (one x h) (code-of-value rest)
-  where
-    one : (x : ℕ) → x ≤ 2 → code (value x) ≡ x
-    one zero h = refl
-    one (suc zero) h = refl
-    one (suc (suc zero)) h = refl
-    one (suc (suc (suc x))) h = absurd (omega arith)
+codes-of-values : {xs : List ℕ} → All (λ x. x ≤ 2) xs → map code (map value xs) ≡ xs
+codes-of-values none = refl
+codes-of-values (more {x = x} h rest) = ap₂ _∷_ (code-of-value x h) (codes-of-values rest)
 
 gates-coded : Respects (Mapped code) (jobMeaning Value) gateOutputs
 unfolding atGate gateCode
@@ -46,7 +35,7 @@ gates-coded =
     record {
       keeps = λ number {vs} {ws} related.
           Forall₂·cons
-          (ap (λ (l : List ℕ). gateCode number l) (mapped-is code related) ∙ ap (λ (l : List Val). code (gateValue number l)) (value-of-code ws))
+          (ap (λ (l : List ℕ). gateCode number l) (mapped-is code related) ∙ ap (λ (l : List Val). code (gateValue number l)) (values-of-codes ws))
           Forall₂·nil;
     }
 
@@ -63,7 +52,7 @@ pub evaluated :
 unfolding evaluate
 evaluated {ms} accepted number m found values count small =
     frames-mean 0 (jobMeaning Value) (λ kind xs h. refl) (accepted-fits accepted) number m found values count
-    ∙ ap (run 0 (jobMeaning Value) ms number) (sym (code-of-value small))
+    ∙ ap (run 0 (jobMeaning Value) ms number) (sym (codes-of-values small))
     ∙ run-mapped code (known false) gates-coded ms number (map value values)
 
 -- What is promised of the buffer, said of the file.

@@ -1,10 +1,12 @@
 // What happens at a gate: a decision on the job of the run.
 use gates::Rule;
-use gates::Seen;
+use gates::folds::Fold;
 ghost use mathlib.Core.Path.{_≡_};
+ghost use mathlib.Core.List.{map};
 ghost use lib.ListN.{length};
+ghost use Rattle.meaning.specs.Values.{value, code};
 ghost use Rattle.meaning.specs.Figures.{largest};
-ghost use Rattle.gates.specs.Seen.{nothing, seeAll};
+ghost use Rattle.gates.specs.Folds.{folded, resultOf};
 ghost use Rattle.runner.specs.Job.{byRule};
 ghost use Rattle.runner.specs.Slots.{Readable, valuesAt};
 
@@ -14,16 +16,31 @@ pub enum Job {
     Arrival,
 }
 
-// What is seen of the values at the slots.
-fn look(image: &[u16], from: usize, to: usize, scratch: &[u32]) -> Seen
+// The values at the slots folded into one.
+fn folded(fold: Fold, image: &[u16], from: usize, to: usize, scratch: &[u32]) -> u32
     requires { ⌜ Readable (now image) from to 0 (length (now scratch)) ⌝ }
-    ensures { λ r. ⌜ r ≡ seeAll nothing (valuesAt (now (image .entry)) from to 0 (now (scratch .entry))) ⌝ }
+    ensures { λ r. ⌜ r ≡ code (folded fold (map value (valuesAt (now (image .entry)) from to 0 (now (scratch .entry))))) ⌝ }
 {
-    let mut seen = Seen::nothing();
+    let mut v = fold.start();
     for i in from..to {
-        seen = seen.see(scratch[image::entry(image, i)]);
+        v = fold.step(v, scratch[image::entry(image, i)]);
     }
-    seen
+    v
+}
+
+// What a rule gives to the values at the slots. Each arm names its fold, so that the loop is compiled for each and decides nothing.
+fn result(rule: Rule, image: &[u16], from: usize, to: usize, scratch: &[u32]) -> u32
+    requires { ⌜ Readable (now image) from to 0 (length (now scratch)) ⌝ }
+    ensures { λ r. ⌜ r ≡ code (resultOf rule (map value (valuesAt (now (image .entry)) from to 0 (now (scratch .entry))))) ⌝ }
+{
+    match rule {
+        Rule::And => folded(Fold::All, image, from, to, scratch),
+        Rule::Nand => gates::folds::not(folded(Fold::All, image, from, to, scratch)),
+        Rule::Or => folded(Fold::Any, image, from, to, scratch),
+        Rule::Nor => gates::folds::not(folded(Fold::Any, image, from, to, scratch)),
+        Rule::Xor => folded(Fold::Odd, image, from, to, scratch),
+        Rule::Eqv => gates::folds::not(folded(Fold::Odd, image, from, to, scratch)),
+    }
 }
 
 // The largest of the values at the slots.
@@ -50,7 +67,7 @@ pub fn at_gate(job: Job, rule: Rule, image: &[u16], from: usize, to: usize, scra
     ensures { λ r. ⌜ r ≡ byRule job rule (valuesAt (now (image .entry)) from to 0 (now (scratch .entry))) ⌝ }
 {
     match job {
-        Job::Value => look(image, from, to, scratch).result(rule),
+        Job::Value => result(rule, image, from, to, scratch),
         Job::Arrival => {
             let most = largest(image, from, to, scratch);
             if most < LATEST { most + 1 } else { most }

@@ -3,9 +3,6 @@ use Prim.Native.Nat.{ℕ, _+_, min}
 use mathlib.Core.Path.{_≡_, sym, ap, _∙_}
 use native.Mathlib.Omega.{arith}
 use borrow.Author.Needs.{needs}
-use Rattle.meaning.specs.Values.{code}
-use Rattle.gates.specs.Seen.{resultOf}
-use Rattle.gates.specs.declared.Seen.{Seen}
 use Rattle.runner.specs.Job.{latest, byRule}
 use Rattle.runner.specs.Slots.{valuesAt}
 use Rattle.runner.specs.declared.gate.Job.{Job}
@@ -14,12 +11,7 @@ use Rattle.runner.proofs.gate.at_gate.Tie as tie
 
 returns : tie.Need-returns
 unfolding byRule
-returns c =
-    let a = c .before .before .before .before .before .before .args in
-    let xs = valuesAt (a .image .now) (a .from) (a .to) 0 (a .scratch .now) in
-    c .result .ensures
-    ∙ ap (λ (s : Seen). code (resultOf (a .rule) s)) (c .before .look .ensures)
-    ∙ sym (ap (λ (j : Job). byRule j (a .rule) xs) (c .before .before .enum-told .given .1))
+returns c = rw (c .before .enum-told .given .1) (c .result .ensures)
 
 -- What the rule of arrivals says where the largest is known.
 arrives :
@@ -44,7 +36,6 @@ at-gate-spec =
     tie.close
     (tie.spec
     (λ c. search needs)
-    (λ c κs. search needs)
     (λ c κs. search needs)
     (λ c. search needs)
     (λ c κs. search needs)

@@ -1,0 +1,49 @@
+-- `gates::result` meets its contract: each arm is its rule's case of the definition.
+use mathlib.Core.List.{map}
+use denote.Ref.{now}
+use borrow.Author.Needs.{needs}
+use Rattle.meaning.specs.Values.{Val, value}
+use Rattle.laws.specs.Folds.{firsts}
+use Rattle.gates.specs.Folds.{folded, resultOf}
+use Rattle.gates.specs.Folding.{negated}
+use Rattle.gates.specs.declared.folds.Fold.{Fold}
+use Rattle.gates.specs.declared.folds.Fold.the-variants.{All, Any, Odd}
+use Rattle.gates.proofs.result.Statement.{statement}
+use Rattle.gates.proofs.result.Tie as tie
+
+-- What a fold gives to the arguments.
+abbrev found : Fold → tie.Start → Val
+found fold start = folded fold (map value (firsts 0 (start .args .arity) (now (start .args .args))))
+
+pub result-spec : {M : Type 1} → statement M
+unfolding resultOf
+result-spec =
+    tie.close
+    (tie.spec
+    (λ c. search needs)
+    (λ c κs. search needs)
+    (λ c. search needs)
+    (λ c κs. search needs)
+    (λ c κs. search needs)
+    (λ c. search needs)
+    (λ c κs. search needs)
+    (λ c. search needs)
+    (λ c κs. search needs)
+    (λ c κs. search needs)
+    (λ c. search needs)
+    (λ c κs. search needs)
+    (λ c. search needs)
+    (λ c κs. search needs)
+    (λ c κs. search needs)
+    (λ c. rw (c .before .enum-told .given .1) (c .folded .ensures))
+    (λ c.
+    rw (c .before .before .enum-told2 .given .1)
+    (negated (found All (c .before .before .before .before .before)) (c .before .folded2 .ensures) (c .not .ensures)))
+    (λ c. rw (c .before .enum-told3 .given .1) (c .folded3 .ensures))
+    (λ c.
+    rw (c .before .before .enum-told4 .given .1)
+    (negated (found Any (c .before .before .before .before .before)) (c .before .folded4 .ensures) (c .not2 .ensures)))
+    (λ c. rw (c .before .enum-told5 .given .1) (c .folded5 .ensures))
+    (λ c.
+    rw (c .before .before .enum-told6 .given .1)
+    (negated (found Odd (c .before .before .before .before .before)) (c .before .folded6 .ensures) (c .not3 .ensures))))
