@@ -42,7 +42,7 @@ pub fn fits(numbers: &[u16], room: usize) -> bool
 }
 
 // Writes a number at a place, and gives the place behind it.
-fn put(n: u16, out: &mut [u8], at: usize) -> usize
+pub fn put(n: u16, out: &mut [u8], at: usize) -> usize
     requires { ⌜ Small n × (at + length (numberBytes n) ≤ length (now out)) ⌝ }
     ensures { λ r. ⌜ Put (numberBytes n) (now (out .entry)) at (now (out .exit)) r ⌝ }
 {

@@ -6,7 +6,7 @@ use mathlib.Core.List.{List}
 use lib.ListN.{length, take}
 use borrow.Author.Tests.{le-leb, lt-leb}
 use Rattle.meaning.specs.Syntax.{Module}
-use Rattle.meaning.specs.Layout.{each, numberBytes, fileNumbers, encode}
+use Rattle.meaning.specs.Layout.{encode}
 use Rattle.meaning.specs.Calls.{writing, fitting}
 use Rattle.encoder.specs.Filled.{Filled}
 use Rattle.writer.specs.declared.answer.Writing.{Writing}
@@ -29,14 +29,6 @@ module _ (modules : ℕ → List Module) (width : ℕ) (before : List ℕ) where
   unfolding writing
   writing-fitting some most = rw (le-leb 1 width some, le-leb width 64 most)
 
-  -- So it does for the bytes of the numbers that are laid out, which are the file's.
-  pub answers-laid : {list numbers after : List ℕ} {count : ℕ} {result : Writing} → 1 ≤ width → width ≤ 64
-      → Filled (fileNumbers (modules width)) list numbers count
-      → Answers (fitting (each numberBytes (take count numbers)) 0 (length before)) before after result
-      → Answers (writing modules width (length before)) before after result
-  unfolding encode
-  answers-laid some most filled answers = rw (writing-fitting some most, ← take-front filled) answers
-
 module _ (bytes before : List ℕ) where
   pub answers-short : length before < length bytes → Answers (fitting bytes 0 (length before)) before before (Refused 22 0)
   answers-short short = rw (lt-leb (length bytes) (length before) short) (record { is = refl; out = refl })
@@ -46,3 +38,9 @@ module _ (bytes before : List ℕ) where
   answers-file room filled =
       rw (le-leb (length bytes) (length before) room)
       (record { is = ap Wrote (filled .size); out = rw (← filled .size) (filled .holds) })
+
+  -- Bytes that stand at the front of another list are answered from there.
+  pub answers-laid : {list laid after : List ℕ} {count : ℕ} {result : Writing} → Filled bytes list laid count
+      → Answers (fitting (take count laid) 0 (length before)) before after result
+      → Answers (fitting bytes 0 (length before)) before after result
+  answers-laid filled answers = rw (← take-front filled) answers

@@ -1,8 +1,11 @@
--- What is left of the adder's cells once those of the first bits are laid: the numbers of a cell, and the cells behind it.
+-- What is left of the adder's cells once those of the first bits are laid: the numbers of a cell, which can be written, and the cells
+-- behind it.
 use Prim.Native.Nat.{ℕ, suc, _+_, _*_, _-_, _<_, _≤_}
 use native.Mathlib.Omega.{arith}
 use mathlib.Core.Path.{_≡_}
 use mathlib.Core.List.{List, [], _∷_, _++_}
+use Rattle.meaning.specs.Lists.{All, none, more}
+use Rattle.meaning.specs.Ceilings.{Small}
 use Rattle.laws.specs.Adder.Numbers.{cellsNumbers, numbers-of-cell, numbers-of-no-cell}
 
 -- The cells of an adder of width n from bit i on.
@@ -12,6 +15,15 @@ cellsFrom n i carryIn = cellsNumbers (1 + i) (n + 1 + i) (2 * n + 1 + i) (3 * n 
 -- The cell of bit i.
 abbrev pub cellOf : (n i carryIn : ℕ) → List ℕ
 cellOf n i carryIn = 2 ∷ (2 * n + 1 + i) ∷ (3 * n + 1 + i) ∷ 17 ∷ 3 ∷ (1 + i) ∷ (n + 1 + i) ∷ carryIn ∷ []
+
+pub small-cell : (n i carryIn : ℕ) → n ≤ 64 → i < n → carryIn ≤ 4 * n → All Small (cellOf n i carryIn)
+small-cell n i carryIn most inside low =
+    more {x = 2} (omega arith)
+    (more {x = 2 * n + 1 + i} (omega arith)
+    (more {x = 3 * n + 1 + i} (omega arith)
+    (more {x = 17} (omega arith)
+    (more {x = 3} (omega arith)
+    (more {x = 1 + i} (omega arith) (more {x = n + 1 + i} (omega arith) (more {x = carryIn} (omega arith) none)))))))
 
 pub all-cells : (n : ℕ) → cellsFrom n 0 0 ≡ cellsNumbers 1 (n + 1) (2 * n + 1) (3 * n + 1) 0 n
 all-cells n =

@@ -1,6 +1,7 @@
 -- Facts that the functions' proofs share.
 pub mod Puts
 pub mod Laying
+pub mod Encoding
 pub mod Runs
 pub mod Cells
 pub mod Modules
@@ -13,5 +14,4 @@ pub mod Running
 pub mod Parting
 pub mod CounterFile
 pub mod Answering
-pub mod Ordering
 pub mod Promise

@@ -1,4 +1,4 @@
--- Room for a piece in a list of numbers.
+-- Room for a piece in a list of bytes.
 use Prim.Native.Nat.{ℕ, _+_, _≤_}
 use mathlib.Core.List.{List}
 use lib.ListN.{length}

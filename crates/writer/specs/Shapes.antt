@@ -8,5 +8,5 @@ use Rattle.writer.specs.declared.counting.Shape.{Shape}
 pub record Shaped (width : ℕ) (shape : Shape) : Type 0 where
   pub occurrences : shape .occurrences ≡ length (counterModule width .occurrences)
   pub last : shape .last ≡ lastCount 0 0 width (digitsOf width)
-  pub nets : shape .last ≤ 256
+  pub nets : shape .last ≤ 211
   pub digits : shape .digits ≡ length (digitsOf width)

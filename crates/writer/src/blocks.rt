@@ -15,7 +15,7 @@ use crate::rows::head;
 use crate::rows::reference;
 
 // How many bits the block of a level counts.
-pub fn bits_of(level: u16) -> u16
+pub fn bits_of(level: u8) -> u8
     requires { ⌜ level ≤ 6 ⌝ }
     ensures { λ r. ⌜ (r ≡ 2 ^ level) × (r ≤ 64) ⌝ }
 {
@@ -23,7 +23,7 @@ pub fn bits_of(level: u16) -> u16
 }
 
 // The number that refers to the block of a level.
-pub fn block_number(level: u16) -> u16
+pub fn block_number(level: u8) -> u8
     requires { ⌜ level ≤ 6 ⌝ }
     ensures { λ r. ⌜ r ≡ blockNumber level ⌝ }
 {
@@ -31,20 +31,20 @@ pub fn block_number(level: u16) -> u16
 }
 
 // Module 33, the block of level 1: a pair of bits.
-fn pair_block(numbers: &mut [u16], at: usize) -> usize
-    requires { ⌜ Room (moduleNumbers pairBlock) (now numbers) at ⌝ }
-    ensures { λ r. ⌜ Put (moduleNumbers pairBlock) (now (numbers .entry)) at (now (numbers .exit)) r ⌝ }
+fn pair_block(bytes: &mut [u8], at: usize) -> usize
+    requires { ⌜ Room (moduleNumbers pairBlock) (now bytes) at ⌝ }
+    ensures { λ r. ⌜ Put (moduleNumbers pairBlock) (now (bytes .entry)) at (now (bytes .exit)) r ⌝ }
 {
-    let empty = head(33, 2, 2, 2, 2, numbers, at);
-    let count = gate(3, NOR, 0, 1, numbers, empty);
-    gate(2, NOR, 1, 3, numbers, count)
+    let empty = head(33, 2, 2, 2, 2, bytes, at);
+    let count = gate(3, NOR, 0, 1, bytes, empty);
+    gate(2, NOR, 1, 3, bytes, count)
 }
 
 // The block of level j + 1: one of level j on the low and one on the high half of its bits, the choice between their counts, and
 // the top count bit and "empty" over both.
-fn join_block(j: u16, numbers: &mut [u16], at: usize) -> usize
-    requires { ⌜ (j ≤ 5) × Room (moduleNumbers (joinBlock j)) (now numbers) at ⌝ }
-    ensures { λ r. ⌜ Put (moduleNumbers (joinBlock j)) (now (numbers .entry)) at (now (numbers .exit)) r ⌝ }
+fn join_block(j: u8, bytes: &mut [u8], at: usize) -> usize
+    requires { ⌜ (j ≤ 5) × Room (moduleNumbers (joinBlock j)) (now bytes) at ⌝ }
+    ensures { λ r. ⌜ Put (moduleNumbers (joinBlock j)) (now (bytes .entry)) at (now (bytes .exit)) r ⌝ }
 {
     let half = bits_of(j);
     let block = block_number(j);
@@ -56,35 +56,35 @@ fn join_block(j: u16, numbers: &mut [u16], at: usize) -> usize
     let ors = ands + j;
     let top = ors + j;
     let empty = top + 1;
-    let low_half = head(33 + j, low, ors, j + 2, 2 * j + 4, numbers, at);
-    let high_half = reference(low, j + 1, block, 0, half, numbers, low_half);
-    let choice = reference(high, j + 1, block, half, half, numbers, high_half);
-    let both = choose(high_empty, high, low, ands, ors, j, numbers, choice);
-    let top_bit = gate(empty, AND, high_empty, low_empty, numbers, both);
-    gate(top, XOR, high_empty, empty, numbers, top_bit)
+    let low_half = head(33 + j, low, ors, j + 2, 2 * j + 4, bytes, at);
+    let high_half = reference(low, j + 1, block, 0, half, bytes, low_half);
+    let choice = reference(high, j + 1, block, half, half, bytes, high_half);
+    let both = choose(high_empty, high, low, ands, ors, j, bytes, choice);
+    let top_bit = gate(empty, AND, high_empty, low_empty, bytes, both);
+    gate(top, XOR, high_empty, empty, bytes, top_bit)
 }
 
 // The block of level j + 1.
-fn block(j: u16, numbers: &mut [u16], at: usize) -> usize
-    requires { ⌜ (j ≤ 5) × Room (moduleNumbers (blockOf j)) (now numbers) at ⌝ }
-    ensures { λ r. ⌜ Put (moduleNumbers (blockOf j)) (now (numbers .entry)) at (now (numbers .exit)) r ⌝ }
+fn block(j: u8, bytes: &mut [u8], at: usize) -> usize
+    requires { ⌜ (j ≤ 5) × Room (moduleNumbers (blockOf j)) (now bytes) at ⌝ }
+    ensures { λ r. ⌜ Put (moduleNumbers (blockOf j)) (now (bytes .entry)) at (now (bytes .exit)) r ⌝ }
 {
     if j == 0 {
-        return pair_block(numbers, at);
+        return pair_block(bytes, at);
     }
-    join_block(j, numbers, at)
+    join_block(j, bytes, at)
 }
 
 // The blocks up to a level, the largest first.
-pub fn blocks(level: u16, numbers: &mut [u16], at: usize) -> usize
-    requires { ⌜ (level ≤ 6) × Room (each moduleNumbers (blocksOf level)) (now numbers) at ⌝ }
-    ensures { λ r. ⌜ Put (each moduleNumbers (blocksOf level)) (now (numbers .entry)) at (now (numbers .exit)) r ⌝ }
+pub fn blocks(level: u8, bytes: &mut [u8], at: usize) -> usize
+    requires { ⌜ (level ≤ 6) × Room (each moduleNumbers (blocksOf level)) (now bytes) at ⌝ }
+    ensures { λ r. ⌜ Put (each moduleNumbers (blocksOf level)) (now (bytes .entry)) at (now (bytes .exit)) r ⌝ }
 {
     let mut at = at;
     let mut left = level;
     while 0 < left {
         left -= 1;
-        at = block(left, numbers, at);
+        at = block(left, bytes, at);
     }
     at
 }

@@ -10,22 +10,22 @@ use crate::rows::gate;
 
 // For each bit an AND and an OR: the high part's bit or, where the high part is empty, the low one's.
 pub fn choose(
-    empty: u16,
-    high: u16,
-    low: u16,
-    ands: u16,
-    ors: u16,
-    count: u16,
-    numbers: &mut [u16],
+    empty: u8,
+    high: u8,
+    low: u8,
+    ands: u8,
+    ors: u8,
+    count: u8,
+    bytes: &mut [u8],
     at: usize,
 ) -> usize
-    requires { ⌜ (high + count ≤ 2 ^ 16) × (low + count ≤ 2 ^ 16) × (ands + count ≤ 2 ^ 16) × (ors + count ≤ 2 ^ 16) × Room (each occurrenceNumbers (chooseOf empty high low ands ors count)) (now numbers) at ⌝ }
-    ensures { λ r. ⌜ Put (each occurrenceNumbers (chooseOf empty high low ands ors count)) (now (numbers .entry)) at (now (numbers .exit)) r ⌝ }
+    requires { ⌜ (high + count ≤ 2 ^ 8) × (low + count ≤ 2 ^ 8) × (ands + count ≤ 2 ^ 8) × (ors + count ≤ 2 ^ 8) × Room (each occurrenceNumbers (chooseOf empty high low ands ors count)) (now bytes) at ⌝ }
+    ensures { λ r. ⌜ Put (each occurrenceNumbers (chooseOf empty high low ands ors count)) (now (bytes .entry)) at (now (bytes .exit)) r ⌝ }
 {
     let mut at = at;
     for i in 0..count {
-        let or = gate(ands + i, AND, empty, low + i, numbers, at);
-        at = gate(ors + i, OR, high + i, ands + i, numbers, or);
+        let or = gate(ands + i, AND, empty, low + i, bytes, at);
+        at = gate(ors + i, OR, high + i, ands + i, bytes, or);
     }
     at
 }

@@ -1,10 +1,10 @@
 // The gates that a counter is made of, by their numbers.
-pub const NOT: u16 = 1;
+pub const NOT: u8 = 1;
 
-pub const OR: u16 = 5;
+pub const OR: u8 = 5;
 
-pub const XOR: u16 = 9;
+pub const XOR: u8 = 9;
 
-pub const AND: u16 = 10;
+pub const AND: u8 = 10;
 
-pub const NOR: u16 = 13;
+pub const NOR: u8 = 13;

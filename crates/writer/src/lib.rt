@@ -1,5 +1,5 @@
-// Writers: code that writes modules to order. Each lays out the numbers of its file in a list of its own, then their bytes are
-// written into the lent buffer: nothing lent is touched before the call is sure to be answered.
+// Writers: code that writes modules to order. Nothing lent is touched before the call is sure to be answered: where
+// the buffer may be too short for the file, its bytes are written into a list of its own first.
 mod answer;
 mod blocks;
 mod choice;
@@ -9,6 +9,7 @@ mod order;
 mod pieces;
 mod ripple;
 mod rows;
+mod wide;
 
 pub use answer::Writing;
 pub use order::adder;

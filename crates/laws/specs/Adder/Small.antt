@@ -1,15 +1,13 @@
--- The numbers of a file within the ceilings are at most 16,383, so each can be written; so are those of the written adder.
+-- The numbers of a file within the ceilings are at most 16,383, so each can be written.
 use mathlib.Core.List.{List, _++_}
-use Prim.Native.Nat.{ℕ, _≤_}
+use Prim.Native.Nat.{ℕ}
 use native.Mathlib.Omega.{arith}
 use lib.ListN.{length}
 use Rattle.meaning.specs.Lists.{All, none, more}
 use Rattle.meaning.specs.Syntax.{Occurrence, Module}
 use Rattle.meaning.specs.Layout.{each, listNumbers, occurrenceNumbers, moduleNumbers, fileNumbers}
 use Rattle.meaning.specs.Ceilings.{Small, NetsWithin, OccurrenceWithin, ModuleWithin, ModulesWithin}
-use Rattle.meaning.specs.Adder.{adder}
 use Rattle.laws.specs.Lists.{all-map}
-use Rattle.laws.specs.Adder.File.{adder-within}
 
 all-append : {A : Type 0} {P : A → Type 0} {xs ys : List A} → All P xs → All P ys → All P (xs ++ ys)
 all-append none q = q
@@ -38,6 +36,3 @@ module-small m w =
 pub numbers-small : (ms : List Module) → ModulesWithin ms → All Small (fileNumbers ms)
 unfolding fileNumbers
 numbers-small ms w = more {x = length ms} (omega arith) (all-each (all-map module-small (w .modules)))
-
-pub adder-numbers-small : (n : ℕ) → 1 ≤ n → n ≤ 64 → All Small (fileNumbers (adder n))
-adder-numbers-small n some most = numbers-small (adder n) (adder-within n some most .modules)

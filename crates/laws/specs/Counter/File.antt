@@ -1,16 +1,17 @@
 -- The counter's file at each width from 1 to 64: the check accepts it; its numbers are few, and within the ceilings; so reading its
--- bytes gives it back, and the check accepts those.
-use Prim.Native.Nat.{ℕ, _≤_}
+-- bytes gives it back, and the check accepts those. No number passes 127, so that each has one byte, itself.
+use Prim.Native.Nat.{ℕ, _≤_, _<_}
 use mathlib.Core.Path.{_≡_, refl, ap, _∙_}
 use mathlib.Core.Bool.{Bool, true, false}
-use lib.Dec.{leb}
+use mathlib.Core.List.{List}
+use lib.Dec.{leb, ltb}
 use lib.ListN.{length}
-use borrow.Author.Tests.{leb-true}
-use Rattle.meaning.specs.Lists.{All}
+use borrow.Author.Tests.{leb-true, ltb-true}
+use Rattle.meaning.specs.Lists.{All, none, more}
 use Rattle.meaning.specs.Gates.{gate, gates}
 use Rattle.meaning.specs.Layout.{each, occurrenceNumbers, moduleNumbers, fileNumbers, numberBytes, encode}
 use Rattle.meaning.specs.Reading.{holds, read}
-use Rattle.meaning.specs.Ceilings.{Small, Within}
+use Rattle.meaning.specs.Ceilings.{Within}
 use Rattle.meaning.specs.Boxlist.{member, disjoint, duplicates, subset, assoc, arityOkp}
 use Rattle.meaning.specs.Limits.{driven, netCount, bodySize, expandedSize}
 use Rattle.meaning.specs.Verdict.{Verdict, good, refused, occurrenceVerdict, bodyVerdict, moduleVerdict, modulesVerdict, sizesVerdict, fileVerdict, verdictOf, verdict}
@@ -18,7 +19,8 @@ use Rattle.meaning.specs.Adder.{upFrom}
 use Rattle.meaning.specs.Counter.{choose, blockNumber, joinBlock, block, blocks, digitsWithin, digits, joinParts, lastCount, counterModule, counter}
 use Rattle.laws.specs.RoundTrip.{round-trip}
 use Rattle.laws.specs.WithinTests.{smallNumber, fewNets, smallOccurrence, smallModule, smallFile, file-within}
-use Rattle.laws.specs.Adder.Small.{numbers-small}
+use Rattle.laws.specs.Written.{bytes-of-low}
+use Rattle.laws.specs.Adder.ByTest.{every, all-by-test}
 use Rattle.laws.specs.Counter.Widths.{everyWidth, at-width}
 
 unfoldable isGood : Verdict → Bool
@@ -49,6 +51,12 @@ unfolding
     joinParts lastCount counterModule counter
 every-short = refl
 
+every-low : everyWidth (λ n. every (λ x. ltb x 128) (fileNumbers (counter n))) 64 ≡ true
+unfolding
+    everyWidth fileNumbers moduleNumbers occurrenceNumbers each upFrom choose blockNumber joinBlock block blocks digitsWithin digits
+    joinParts lastCount counterModule counter
+every-low = refl
+
 -- The check accepts the counter of each width from 1 to 64.
 pub counter-accepted : (n : ℕ) → 1 ≤ n → n ≤ 64 → fileVerdict (counter n) ≡ good
 counter-accepted n some most =
@@ -57,8 +65,18 @@ counter-accepted n some most =
 pub counter-within : (n : ℕ) → 1 ≤ n → n ≤ 64 → Within (counter n)
 counter-within n some most = file-within (counter n) (at-width (λ n. smallFile (counter n)) 64 every-within n some most)
 
-pub counter-numbers-small : (n : ℕ) → 1 ≤ n → n ≤ 64 → All Small (fileNumbers (counter n))
-counter-numbers-small n some most = numbers-small (counter n) (counter-within n some most .modules)
+-- Numbers below 128 are their own bytes, and so are those of the counter.
+low-bytes : {xs : List ℕ} → All (λ x. x < 128) xs → each numberBytes xs ≡ xs
+unfolding each
+low-bytes none = refl
+low-bytes (more {x = x} low h) = rw (bytes-of-low x low, low-bytes h)
+
+pub bytes-of-counter : (n : ℕ) → 1 ≤ n → n ≤ 64 → encode (counter n) ≡ fileNumbers (counter n)
+unfolding encode
+bytes-of-counter n some most =
+    low-bytes
+    (all-by-test (λ x. ltb x 128) (λ x. ltb-true x 128) (fileNumbers (counter n))
+    (at-width (λ n. every (λ x. ltb x 128) (fileNumbers (counter n))) 64 every-low n some most))
 
 pub counter-numbers-few : (n : ℕ) → 1 ≤ n → n ≤ 64 → length (fileNumbers (counter n)) ≤ 773
 counter-numbers-few n some most =

@@ -11,7 +11,7 @@ use Rattle.writer.proofs.blocks.bits_of.Tie as tie
 returns : tie.Need-returns
 returns c =
     let level = c .args .level in
-    let exact : (1 * 2 ^ level) % 2 ^ 16 ≡ 2 ^ level = shl-exact {a = 1} 1 level 16 (omega arith) (omega arith) ∙ one-mul (2 ^ level) in
+    let exact : (1 * 2 ^ level) % 2 ^ 8 ≡ 2 ^ level = shl-exact {a = 1} 1 level 8 (omega arith) (omega arith) ∙ one-mul (2 ^ level) in
     rw exact (refl, pow-mono {i = level} {j = 6} (omega arith))
 
 pub bits-of-spec : {M : Type 1} → statement M

@@ -11,16 +11,16 @@ use Rattle.writer.proofs.blocks.blocks.Statement.{statement}
 use Rattle.writer.proofs.blocks.blocks.Tie as tie
 
 abbrev Inv-loop : tie.InvT-loop
-Inv-loop level numbers₀ at at₀ left₀ numbers at' left =
-    (left ≤ 6) × Laying (each moduleNumbers (blocks level)) (each moduleNumbers (blocks left)) numbers₀ at numbers at'
+Inv-loop level bytes₀ at at₀ left₀ bytes at' left =
+    (left ≤ 6) × Laying (each moduleNumbers (blocks level)) (each moduleNumbers (blocks left)) bytes₀ at bytes at'
 
 abbrev μ-loop : tie.MeasureT-loop
-μ-loop level numbers₀ at at₀ left₀ numbers at' left = left
+μ-loop level bytes₀ at at₀ left₀ bytes at' left = left
 
 loop-holds : tie.Need-loop-holds Inv-loop μ-loop
 loop-holds c =
     let start = c .before in
-    (start .pre .0, laying-none (start .args .numbers .now) (start .args .at) refl (start .pre .1 .fits))
+    (start .pre .0, laying-none (start .args .bytes .now) (start .args .at) refl (start .pre .1 .fits))
 
 block-requires : tie.Need-block-requires Inv-loop μ-loop
 block-requires c κs =

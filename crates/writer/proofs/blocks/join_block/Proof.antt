@@ -22,7 +22,7 @@ behind-choice c = c .before .before .before .before
 
 room : (c : tie.After-block-number)
     → Room (joinNumbers (c .before .before .before .args .j) (c .before .bits-of .result) (c .block-number .result))
-    (c .before .before .before .args .numbers .now)
+    (c .before .before .before .args .bytes .now)
     (c .before .before .before .args .at)
 room c =
     let start = c .before .before .before in

@@ -12,23 +12,23 @@ use Rattle.writer.proofs.choice.choose.Statement.{statement}
 use Rattle.writer.proofs.choice.choose.Tie as tie
 
 abbrev Inv-loop : tie.InvT-loop
-Inv-loop empty high low ands ors count numbers₀ at at₀ i₀ numbers at' i =
-    Laying (choiceNumbers empty high low ands ors count) (choiceFrom empty high low ands ors count i) numbers₀ at numbers at'
+Inv-loop empty high low ands ors count bytes₀ at at₀ i₀ bytes at' i =
+    Laying (choiceNumbers empty high low ands ors count) (choiceFrom empty high low ands ors count i) bytes₀ at bytes at'
 
 abbrev μ-loop : tie.MeasureT-loop
-μ-loop empty high low ands ors count numbers₀ at at₀ i₀ numbers at' i = count - i
+μ-loop empty high low ands ors count bytes₀ at at₀ i₀ bytes at' i = count - i
 
 loop-holds : tie.Need-loop-holds Inv-loop μ-loop
 loop-holds c =
     let a = c .before .args in
-    laying-none (a .numbers .now) (a .at)
+    laying-none (a .bytes .now) (a .at)
     (whole-choice (a .empty) (a .high) (a .low) (a .ands) (a .ors) (a .count))
     (c .before .pre .4 .fits)
 
 -- In a turn the two gates of a bit are left, and there is room for them.
 room : (c : tie.In-loop Inv-loop μ-loop)
-    → (length (c .before .loop .numbers) ≡ length (c .before .before .before .args .numbers .now))
-    × (c .before .loop .at + 12 ≤ length (c .before .before .before .args .numbers .now))
+    → (length (c .before .loop .bytes) ≡ length (c .before .before .before .args .bytes .now))
+    × (c .before .loop .at + 12 ≤ length (c .before .before .before .args .bytes .now))
 unfolding occurrenceNumbers
 room c =
     let a = c .before .before .before .args in

@@ -17,7 +17,7 @@ room : (c : tie.Start)
     → Room
     (headNumbers 32 (upFrom 0 (c .args .width)) (upFrom (c .args .shape .last) (c .args .shape .digits)) (c .args .shape .occurrences)
     ++ each occurrenceNumbers (counterModule (c .args .width) .occurrences))
-    (c .args .numbers .now)
+    (c .args .bytes .now)
     (c .args .at)
 room c = rw (module-of-parts (c .args .width) (c .args .shape) (c .pre .1)) at (c .pre .2)
 

@@ -1,12 +1,12 @@
--- `counting::file` meets its contract: the count of modules and the modules, put one behind the other, are the file's numbers.
--- Assumes nothing.
+-- `counting::file` meets its contract: the count of modules and the modules, put one behind the other, are the file's numbers, which
+-- are its bytes. Assumes nothing.
 use Prim.Native.Nat.{_-_}
 use native.Mathlib.Omega.{arith}
 use borrow.Author.Needs.{needs}
 use mathlib.Core.List.{_∷_, _++_}
 use Rattle.meaning.specs.Layout.{each, moduleNumbers}
 use Rattle.meaning.specs.Counter.{blocks, counterModule}
-use Rattle.laws.specs.Counter.File.{counter-numbers-few}
+use Rattle.laws.specs.Counter.File.{counter-numbers-few, bytes-of-counter}
 use Rattle.writer.specs.Rooms.{Room}
 use Rattle.writer.proofs.Puts.{put-front}
 use Rattle.writer.proofs.Digits.{some-digit, few-digits}
@@ -29,7 +29,7 @@ room : (c : tie.After-shape-of)
     → Room
     (c .shape-of .result .digits
     ∷ (moduleNumbers (counterModule (start c .args .width)) ++ each moduleNumbers (blocks (c .shape-of .result .digits - 1))))
-    (start c .args .numbers .now)
+    (start c .args .bytes .now)
     0
 room c =
     let n = start c .args .width in
@@ -65,7 +65,11 @@ returns c =
     let count = behind-count first in
     let shape = shaped count in
     let one = laying-put (count .copy .ensures) (laying-start (room shape)) in
-    rw (file-of-counter (start shape .args .width) (shape .shape-of .result) (shape .shape-of .ensures) (start shape .pre .0))
+    let n = start shape .args .width in
+    rw (
+      bytes-of-counter n (start shape .pre .0) (start shape .pre .1),
+      file-of-counter n (shape .shape-of .result) (shape .shape-of .ensures) (start shape .pre .0),
+    )
     (put-front (laying-last (rest .blocks2 .ensures) (laying-put (first .counter-module .ensures) one)))
 
 pub file-spec : {M : Type 1} → statement M

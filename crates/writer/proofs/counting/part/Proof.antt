@@ -31,7 +31,7 @@ room : (c : tie.After-block-number)
     → Room
     (partNumbers (start c .args .level) (start c .args .bits) (start c .args .count) (start c .args .below)
     (c .before .bits-of .result) (c .block-number .result))
-    (start c .args .numbers .now)
+    (start c .args .bytes .now)
     (start c .args .at)
 room c =
     let a = start c .args in

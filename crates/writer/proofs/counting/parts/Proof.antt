@@ -12,11 +12,11 @@ use Rattle.writer.proofs.counting.parts.Statement.{statement}
 use Rattle.writer.proofs.counting.parts.Tie as tie
 
 abbrev Inv-loop : tie.InvT-loop
-Inv-loop width numbers₀ at at₀ left₀ level₀ bits₀ count₀ below₀ numbers at' left level bits count below =
-    Parting width left level bits count below numbers₀ at numbers at'
+Inv-loop width bytes₀ at at₀ left₀ level₀ bits₀ count₀ below₀ bytes at' left level bits count below =
+    Parting width left level bits count below bytes₀ at bytes at'
 
 abbrev μ-loop : tie.MeasureT-loop
-μ-loop width numbers₀ at at₀ left₀ level₀ bits₀ count₀ below₀ numbers at' left level bits count below = left
+μ-loop width bytes₀ at at₀ left₀ level₀ bits₀ count₀ below₀ bytes at' left level bits count below = left
 
 loop-holds : tie.Need-loop-holds Inv-loop μ-loop
 unfolding counterModule

@@ -10,18 +10,18 @@ use Rattle.writer.proofs.pieces.copy.Statement.{statement}
 use Rattle.writer.proofs.pieces.copy.Tie as tie
 
 abbrev Inv-loop : tie.InvT-loop
-Inv-loop piece numbers₀ at at₀ i₀ i-end numbers at' i = Laying piece (drop i piece) numbers₀ at numbers at'
+Inv-loop piece bytes₀ at at₀ i₀ i-end bytes at' i = Laying piece (drop i piece) bytes₀ at bytes at'
 
 abbrev μ-loop : tie.MeasureT-loop
-μ-loop piece numbers₀ at at₀ i₀ i-end numbers at' i = i-end - i
+μ-loop piece bytes₀ at at₀ i₀ i-end bytes at' i = i-end - i
 
 loop-holds : tie.Need-loop-holds Inv-loop μ-loop
-loop-holds c = laying-none (c .args .numbers .now) (c .args .at) refl (c .pre)
+loop-holds c = laying-none (c .args .bytes .now) (c .args .at) refl (c .pre)
 
 -- In a turn an entry is left, and there is room for it.
 room : (c : tie.In-loop Inv-loop μ-loop)
-    → (length (c .before .loop .numbers) ≡ length (c .before .before .args .numbers .now))
-    × (c .before .loop .at + 1 ≤ length (c .before .before .args .numbers .now))
+    → (length (c .before .loop .bytes) ≡ length (c .before .before .args .bytes .now))
+    × (c .before .loop .at + 1 ≤ length (c .before .before .args .bytes .now))
 room c =
     laying-room (c .before .loop .inv) (_ ∷ []) _
     (rest-of-list (c .before .before .args .piece .now) (c .before .loop .i) (c .loop-test .taken))
@@ -43,8 +43,6 @@ copy-spec =
     μ-loop
     loop-holds
     (λ c. omega arith)
-    (λ c. omega arith)
-    (λ c. omega (arith, room (c .before)))
     (λ c. omega (arith, room (c .before)))
     (λ c. omega (arith, room (c .before)))
     (λ c. omega arith)

@@ -12,22 +12,22 @@ use Rattle.writer.proofs.pieces.run.Statement.{statement}
 use Rattle.writer.proofs.pieces.run.Tie as tie
 
 abbrev Inv-loop : tie.InvT-loop
-Inv-loop first count numbers₀ at at₀ i₀ numbers at' i =
-    Laying (upFrom first count) (upFrom (first + i) (count - i)) numbers₀ at numbers at'
+Inv-loop first count bytes₀ at at₀ i₀ bytes at' i =
+    Laying (upFrom first count) (upFrom (first + i) (count - i)) bytes₀ at bytes at'
 
 abbrev μ-loop : tie.MeasureT-loop
-μ-loop first count numbers₀ at at₀ i₀ numbers at' i = count - i
+μ-loop first count bytes₀ at at₀ i₀ bytes at' i = count - i
 
 loop-holds : tie.Need-loop-holds Inv-loop μ-loop
 loop-holds c =
-    laying-none (c .args .numbers .now) (c .args .at)
+    laying-none (c .args .bytes .now) (c .args .at)
     (whole-run (c .args .first) (c .args .count))
     (omega (arith, length-upFrom (c .args .first) (c .args .count)))
 
 -- In a turn a number is left, and there is room for it.
 room : (c : tie.In-loop Inv-loop μ-loop)
-    → (length (c .before .loop .numbers) ≡ length (c .before .before .args .numbers .now))
-    × (c .before .loop .at + 1 ≤ length (c .before .before .args .numbers .now))
+    → (length (c .before .loop .bytes) ≡ length (c .before .before .args .bytes .now))
+    × (c .before .loop .at + 1 ≤ length (c .before .before .args .bytes .now))
 room c =
     let args = c .before .before .args in
     laying-room (c .before .loop .inv) (_ ∷ []) _
@@ -51,7 +51,6 @@ run-spec =
     μ-loop
     loop-holds
     (λ c. omega arith)
-    (λ c. omega (arith, room c))
     (λ c. omega (arith, room c))
     (λ c. omega (arith, room c))
     (λ c. omega arith)

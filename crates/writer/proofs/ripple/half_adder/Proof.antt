@@ -8,6 +8,18 @@ use Rattle.writer.proofs.Puts.{put-more}
 use Rattle.writer.proofs.ripple.half_adder.Statement.{statement}
 use Rattle.writer.proofs.ripple.half_adder.Tie as tie
 
+copy-requires : tie.Need-copy-requires
+unfolding moduleNumbers occurrenceNumbers each
+copy-requires c κs = omega arith
+
+copy-requires-2 : tie.Need-copy-requires-2
+unfolding moduleNumbers occurrenceNumbers each
+copy-requires-2 c κs = omega arith
+
+copy-requires-3 : tie.Need-copy-requires-3
+unfolding moduleNumbers occurrenceNumbers each
+copy-requires-3 c κs = omega arith
+
 returns : tie.Need-returns
 unfolding moduleNumbers occurrenceNumbers each
 returns c =
@@ -15,7 +27,7 @@ returns c =
     let second = third .before .before .before .before .before in
     let first = second .before .before .before .before .before in
     let start = first .before .before .before .before in
-    let fits : start .args .at ≤ length (start .args .numbers .now) = omega (arith, start .pre) in
+    let fits : start .args .at ≤ length (start .args .bytes .now) = omega (arith, start .pre) in
     put-more (put-more (first .copy .ensures) fits (second .copy2 .ensures)) fits (third .copy3 .ensures)
 
 pub half-adder-spec : {M : Type 1} → statement M
@@ -23,10 +35,10 @@ half-adder-spec =
     tie.close
     (tie.spec
     (λ c. search needs)
-    (λ c κs. omega arith)
+    copy-requires
     (λ c. search needs)
-    (λ c κs. omega arith)
+    copy-requires-2
     (λ c. search needs)
-    (λ c κs. omega arith)
+    copy-requires-3
     (λ c. search needs)
     returns)
