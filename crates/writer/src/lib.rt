@@ -1,5 +1,5 @@
-// Writers: code that writes modules to order. Nothing lent is touched before the call is sure to be answered: where
-// the buffer may be too short for the file, its bytes are written into a list of its own first.
+// Writers: code that writes modules to order. Nothing lent is touched before the call is sure to be answered: where the buffer may be
+// too short for the file, its bytes are written into a list of the writer's own first.
 mod answer;
 mod blocks;
 mod choice;

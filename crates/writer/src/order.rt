@@ -34,7 +34,7 @@ fn file(order: Order, width: usize, bytes: &mut [u8]) -> usize
 }
 
 // Writes straight into a buffer that has room for any file. Of a shorter one nothing may be touched before the file is sure to fit: its
-// bytes are written into a list of its own first.
+// bytes are written into a list of the writer's own first.
 fn deliver(order: Order, width: usize, out: &mut [u8]) -> Writing
     requires { ⌜ (1 ≤ width) × (width ≤ 64) ⌝ }
     ensures { λ r. ⌜ Answers (fitting (encode (modulesOf order width)) 0 (length (now (out .entry)))) (now (out .entry)) (now (out .exit)) r ⌝ }

@@ -1,4 +1,4 @@
-// Pieces of a list of bytes, each laid out at a place; the answer is the place behind it.
+// Pieces of a file whose numbers have one byte each, written at a place; the answer is the place behind the piece.
 ghost use Prim.Native.Nat.{_+_, _≤_, _^_};
 ghost use lib.ListN.{length};
 ghost use Rattle.meaning.specs.Adder.{upFrom};
