@@ -1,49 +1,50 @@
--- Once the plan of flattening is carried out: the numbers in front of the gates can be written, and with them the numbers are those of
--- the flattened file.
-use Prim.Native.Nat.{ℕ, _+_, _-_, _≤_}
-use mathlib.Core.Path.{_≡_, sym, ap, _∙_}
+-- Once the plan of flattening is carried out: what stands in front of the gates can be written behind them, and with it the bytes are
+-- those of the flattened file.
+use Prim.Native.Nat.{ℕ, _+_, _-_, zero-le}
+use mathlib.Core.Path.{_≡_, sym, ap, subst, _∙_}
 use mathlib.Core.List.{List, _++_}
 use native.Mathlib.Omega.{arith}
-use lib.ListN.{length, getD, take, drop, replicate}
-use Rattle.meaning.specs.Layout.{each, occurrenceNumbers}
+use lib.ListN.{length, getD, take}
+use Rattle.meaning.specs.Syntax.{Occurrence, Module}
+use Rattle.meaning.specs.Layout.{each}
 use Rattle.meaning.specs.Limits.{netCount}
-use Rattle.meaning.specs.Flattening.{Placed}
+use Rattle.meaning.specs.Flattening.{Placed, flatModule}
 use Rattle.meaning.specs.Adder.{upFrom}
-use Rattle.laws.specs.Adder.Nets.{length-upFrom}
-use Rattle.image.specs.Frames.{readSlots, Filled}
-use Rattle.image.specs.Laid.{laid, length-laid}
+use Rattle.laws.specs.Written.{occurrenceBytes}
+use Rattle.encoder.specs.Filled.{Put, Filled}
+use Rattle.encoder.specs.Puts.{put-more, put-front, length-put}
+use Rattle.image.specs.Frames.{readSlots}
+use Rattle.image.specs.Frames as frames
+use Rattle.image.specs.Laid.{laid}
 use Rattle.flattener.specs.Slots.{Readable, netsAt}
 use Rattle.flattener.specs.Front.{Frontable, Fronted}
 use Rattle.flattener.specs.FlatFrames.{inputs-filled}
 use Rattle.flattener.specs.Places.{ListThere, HeaderOf}
 use Rattle.flattener.specs.Plan.{Done}
-use Rattle.flattener.specs.Flat.{Flattenable, Flattened, flatNumbers}
+use Rattle.flattener.specs.Flat.{Flattenable, Flattened, gatesOf, frontOf}
 use Rattle.flattener.specs.declared.gates.Pen.{Pen}
 use Rattle.flattener.specs.declared.places.Header.{Header}
 use Rattle.flattener.proofs.Nets.{read-front}
-use Rattle.flattener.proofs.Parts.{laid-both, drop-behind}
-use Rattle.flattener.proofs.SubPlan.{inputs-within}
-use Rattle.flattener.proofs.FlatPlan.{position, frame-ok, head, flat, plan, walked, walk-is, front, flat-parts, front-long, flat-long}
-use Rattle.flattener.proofs.FlatPlan.{inputs-fit, numbered-long, planned-is}
+use Rattle.flattener.proofs.FlatPlan.{position, frame-ok, head, flat, flat-is, flat-within, flat-long, gates-few, plan, walked, walk-is}
+use Rattle.flattener.proofs.FlatPlan.{numbered-long, planned-is}
 
 module _
-    {image starts nets : List ℕ} {k number wide : ℕ} {scratch numbers : List ℕ}
-    (f : Flattenable image starts nets k number wide scratch numbers)
+    {image starts nets : List ℕ} {k number : ℕ} {scratch bytes : List ℕ} (f : Flattenable image starts nets k number scratch bytes)
     {header : Header} (of : HeaderOf image (getD starts k 0) header)
     {numbered : List ℕ} (e : numbered ≡ laid scratch 0 (upFrom 0 (header .inputs)))
-    {scratch′ numbers′ : List ℕ} {last : Pen} (done : Done (plan f of) numbered scratch′ last numbers′)
+    {scratch′ bytes′ : List ℕ} {last : Pen} (done : Done (plan f of) numbered scratch′ last bytes′)
   where
     abbrev frame : List ℕ
     frame = walked f of .nets
 
-    pub scratch-long : length scratch′ ≡ length scratch
+    scratch-long : length scratch′ ≡ length scratch
     scratch-long = done .size ∙ numbered-long f of e
 
     frame-is : take (netCount (position f .r)) scratch′ ≡ frame
     frame-is = done .frame ∙ ap (λ (q : Placed). q .nets) (planned-is f of e)
 
     -- A list of slots of the module is read from its frame.
-    module _ {list : ℕ} {slots : List ℕ} (there : ListThere image list slots) (filled : Filled (netCount (position f .r)) slots) where
+    module _ {list : ℕ} {slots : List ℕ} (there : ListThere image list slots) (filled : frames.Filled (netCount (position f .r)) slots) where
       nets-are : netsAt image list scratch′ ≡ readSlots 0 frame slots
       nets-are =
           ap (readSlots 0 scratch′) (there .is)
@@ -54,10 +55,10 @@ module _
       readable =
           record {
             listed = there .listed;
-            slots = rw (there .is) (record { slot = λ i h. omega (arith, filled .slot i h, position f .room, f .wide, f .enough, scratch-long) });
+            slots = rw (there .is) (record { slot = λ i h. omega (arith, filled .slot i h, position f .room, f .wide, scratch-long) });
           }
 
-    inputs-filled-here : Filled (netCount (position f .r)) (position f .r .inputs)
+    inputs-filled-here : frames.Filled (netCount (position f .r)) (position f .r .inputs)
     inputs-filled-here = inputs-filled (frame-ok f)
 
     ins : netsAt image (getD starts k 0 + 1) scratch′ ≡ flat f of .inputs
@@ -66,63 +67,44 @@ module _
     outs : netsAt image (header .outputs) scratch′ ≡ flat f of .outputs
     outs = nets-are (head f of .outputList) (frame-ok f .answered) ∙ walk-is f of .outs
 
-    -- The gates are those of the flattened module, and all of its numbers have places.
-    gates-are : numbers′ ≡ laid numbers (plan f of .base) (each occurrenceNumbers (flat f of .occurrences))
-    gates-are =
-        done .written .holds
-        ∙ ap (λ (q : Placed). laid numbers (plan f of .base) (each occurrenceNumbers (q .board .gates))) (planned-is f of e)
-        ∙ rw (walk-is f of .gates)
+    -- The gates are those of the flattened module.
+    gates-put : Put (gatesOf (flat f of)) bytes 0 bytes′ (last .at)
+    gates-put =
+        subst (λ (os : List Occurrence). Put (each occurrenceBytes os) bytes 0 bytes′ (last .at))
+        (ap (λ (q : Placed). q .board .gates) (planned-is f of e) ∙ walk-is f of .gates) (done .written .put)
 
-    all-fit : plan f of .base + length (each occurrenceNumbers (flat f of .occurrences)) ≤ length numbers
-    all-fit = omega (arith, f .long, flat-long f of)
-
-    numbers-long : length numbers′ ≡ length numbers
-    numbers-long = ap length gates-are ∙ length-laid numbers (plan f of .base) (each occurrenceNumbers (flat f of .occurrences)) all-fit
-
-    pub frontable : Frontable image (getD starts k 0 + 1) (header .outputs) scratch′ numbers′
-    frontable =
-        record {
-          ins = readable (head f of .inputList) inputs-filled-here;
-          outs = readable (head f of .outputList) (frame-ok f .answered);
-          room = omega (arith, head f of .inputList .count, head f of .outputList .count, head f of .inputs, all-fit, numbers-long);
-        }
+    bytes-long : length bytes′ ≡ length bytes
+    bytes-long = length-put gates-put zero-le (omega (arith, gates-put .place, flat-long f of))
 
     pub last-next : last .next ≡ header .inputs + length (flat f of .occurrences)
     last-next = done .written .next ∙ ap (λ (q : Placed). q .board .next) (planned-is f of e) ∙ walk-is f of .next
 
-    last-at : last .at ≡ length (flatNumbers (f .ms) number (f .m))
-    last-at =
-        done .written .place
-        ∙ ap (λ (q : Placed). plan f of .base + length (each occurrenceNumbers (q .board .gates))) (planned-is f of e)
-        ∙ rw (walk-is f of .gates) (sym (flat-long f of))
+    module _ {gates : ℕ} (counted : gates ≡ last .next - header .inputs) where
+      count-is : gates ≡ length (flat f of .occurrences)
+      count-is = omega (arith, counted, last-next)
 
-    whole :
-        {gates : ℕ} {after : List ℕ}
-        → gates ≡ last .next - header .inputs
-        → Fronted image (getD starts k 0 + 1) (header .outputs) number gates scratch′ numbers′ after
-        → after ≡ flatNumbers (f .ms) number (f .m) ++ drop (length (flatNumbers (f .ms) number (f .m))) numbers
-    whole {gates} g h =
-        let count : gates ≡ length (flat f of .occurrences) = omega (arith, last-next) in
-        let body = each occurrenceNumbers (flat f of .occurrences) in
-        h
-        ∙ rw (ins, outs, count, gates-are)
-        (laid-both numbers (front f of) body (plan f of .base) (sym (front-long f of)) (omega (arith, all-fit, front-long f of))
-        ∙ ap (λ (l : List ℕ). l ++ drop (length l) numbers) (sym (flat-parts f of)))
+      pub frontable : Frontable image (getD starts k 0 + 1) (header .outputs) number gates scratch′ bytes′ (last .at)
+      unfolding flatModule
+      frontable =
+          record {
+            own = flat-within f of .number;
+            counted = omega (arith, count-is, gates-few f of);
+            ins = readable (head f of .inputList) inputs-filled-here;
+            insWithin = rw ins (flat-within f of .inputs);
+            outs = readable (head f of .outputList) (frame-ok f .answered);
+            outsWithin = rw outs (flat-within f of .outputs);
+            room = rw (ins, outs, count-is) (omega (arith, gates-put .place, flat-long f of, bytes-long));
+          }
 
-    pub flattened :
-        {gates : ℕ} {after cleared : List ℕ}
-        → gates ≡ last .next - header .inputs
-        → Fronted image (getD starts k 0 + 1) (header .outputs) number gates scratch′ numbers′ after
-        → cleared ≡ replicate wide 0 ++ drop wide scratch′
-        → Flattened (f .ms) number (f .m) wide scratch numbers cleared after (last .at)
-    flattened g h clean =
-        record {
-          size = last-at;
-          holds = whole g h;
-          clean = clean ∙ ap (λ (rest : List ℕ). replicate wide 0 ++ rest) (done .kept ∙ ap (drop wide) e ∙ behind);
-        }
-      where
-        behind : drop wide (laid scratch 0 (upFrom 0 (header .inputs))) ≡ drop wide scratch
-        behind =
-            drop-behind scratch 0 (upFrom 0 (header .inputs)) (inputs-fit f of e) wide
-            (omega (arith, length-upFrom 0 (header .inputs), head f of .inputs, inputs-within (position f .r), position f .room, f .wide))
+      pub flattened :
+          {after : List ℕ} {whole : ℕ}
+          → Fronted image (getD starts k 0 + 1) (header .outputs) number gates scratch′ bytes′ (last .at) after whole
+          → Flattened (f .ms) number (f .m) bytes after (record { gates = last .at; whole = whole })
+      unfolding flatModule
+      flattened {after} {whole} front =
+          let all : Put (gatesOf (flat f of) ++ frontOf (flat f of)) bytes 0 after whole =
+          put-more gates-put zero-le (rw (ins, outs, count-is) at front) in
+          record {
+            gates = omega (arith, gates-put .place, ap (λ (m : Module). length (gatesOf m)) (flat-is f of));
+            filled = subst (λ (m : Module). Filled (gatesOf m ++ frontOf m) bytes after whole) (flat-is f of) (put-front all);
+          }

@@ -1,95 +1,126 @@
--- An occurrence that refers to a gate: the gate can be set down, and with its net in the next slot the occurrence is placed.
+-- An occurrence that refers to a gate: the gate can be written, and with its net in the next slot the occurrence is placed.
 use Prim.Native.Nat.{ℕ, _+_, _≤_}
-use mathlib.Core.Path.{_≡_, sym, ap, _∙_}
+use mathlib.Core.Path.{_≡_, refl, sym, ap, _∙_}
 use mathlib.Core.Bool.{true, true≢false}
 use mathlib.Core.List.{List, [], _∷_}
 use native.Mathlib.Omega.{arith}
 use native.Mathlib.Numerals.{add-one}
 use lib.ListN.{length, getD, take, set, length-set, length-append}
-use lib.Seq.{take-suc-set, drop-set-lt}
+use lib.Seq.{take-suc-set}
+use Rattle.meaning.specs.Lists.{All, more}
 use Rattle.meaning.specs.Syntax.{Occurrence, Module}
 use Rattle.meaning.specs.Gates.{isGate}
 use Rattle.meaning.specs.Layout.{each, occurrenceNumbers}
+use Rattle.meaning.specs.Limits.{mostModuleNets}
+use Rattle.meaning.specs.Ceilings.{OccurrenceWithin}
 use Rattle.meaning.specs.Flattening.{placeGate}
+use Rattle.laws.specs.Lists.{all-behind}
+use Rattle.laws.specs.Written.{occurrenceBytes}
 use Rattle.laws.specs.WellFormed.{Reference, toGate, toModule}
+use Rattle.encoder.specs.Filled.{Put}
+use Rattle.image.specs.Pieces.{OccurrenceAt, occurrence-at}
 use Rattle.image.specs.Frames.{readSlots}
-use Rattle.image.specs.FrameLengths.{length-of-readSlots}
-use Rattle.flattener.specs.Slots.{Laid}
-use Rattle.flattener.specs.Gates.{Settable, Set, each-snoc, gate-written}
-use Rattle.flattener.specs.Places.{PlaceIs}
+use Rattle.flattener.specs.Gates.{Settable, gateAt, each-snoc, gate-written}
+use Rattle.flattener.specs.Places.{OneNet, ListThere, list-there}
 use Rattle.flattener.specs.Plan.{Plan, Ready}
 use Rattle.flattener.specs.declared.gates.Pen.{Pen}
-use Rattle.flattener.specs.declared.places.Place.{Place}
 use Rattle.flattener.proofs.Progress.{Progress, Current}
 use Rattle.flattener.proofs.Lengths.{long-now}
 use Rattle.flattener.proofs.Stepping.{placed, within, arguments, in-frame, Stepped}
 
-one-net : {later : List Module} {o : Occurrence} → Reference later o → isGate (o .refers) ≡ true → length (o .drives) ≡ 1
+pub one-net : {later : List Module} {o : Occurrence} → Reference later o → OneNet o
 one-net (toGate h arity drives) gate = sym drives
 one-net (toModule m h e takes drives) gate = absurd (true≢false (sym gate ∙ h))
 
 module _
-    {p : Plan} {image scratch₀ : List ℕ} {frame count : ℕ} {scratch numbers : List ℕ} {pen : Pen} {at filled i : ℕ}
-    (g : Progress p image scratch₀ frame count scratch numbers pen at filled i) (c : Current p image (g .left) at filled)
-    {place : Place} (is : PlaceIs image at (c .o) place) (gate : isGate (c .o .refers) ≡ true)
-    {starts nets : List ℕ} {k : ℕ} {pen₀ : Pen} {numbers₀ : List ℕ} (ready : Ready p image starts nets k pen₀ scratch₀ numbers₀)
+    {p : Plan} {image scratch₀ : List ℕ} {frame count : ℕ} {scratch bytes : List ℕ} {pen : Pen} {at filled i : ℕ}
+    (g : Progress p image scratch₀ frame count scratch bytes pen at filled i) (c : Current p image (g .left) at filled)
+    (gate : isGate (c .o .refers) ≡ true)
+    {starts nets : List ℕ} {k : ℕ} {pen₀ : Pen} {bytes₀ : List ℕ} (ready : Ready p image starts nets k pen₀ scratch₀ bytes₀)
   where
-    -- The gate with its arguments' nets.
-    abbrev args : List ℕ
-    args = readSlots 0 (take filled scratch) (c .o .takes)
+    -- Where its parts stand: it drives one net.
+    one : length (c .o .drives) ≡ 1
+    one = one-net (c .reference) gate
 
-    set-down : placed g c ≡ placeGate (c .o .refers) args (g .board)
+    there : OccurrenceAt image at (c .o)
+    there = occurrence-at (c .o) (c .standing)
+
+    listed : ListThere image (at + 3) (c .o .takes)
+    listed =
+        list-there (there .takenCount (at + 3) (omega (arith, one))) (there .takes (at + 3 + 1) (omega (arith, one)))
+
+    pub inside : at + 4 + getD image (at + 3) 0 ≤ length image
+    inside = omega (arith, listed .listed)
+
+    pub next-place : {count : ℕ} → count ≡ getD image (at + 3) 0 → at + (4 + count) ≡ at + length (occurrenceNumbers (c .o))
+    next-place e = omega (arith, e, listed .count, one, there .long)
+
+    -- The gate that drives a net, with its arguments' nets.
+    abbrev driving : (net : ℕ) → Occurrence
+    driving net = record { drives = net ∷ []; refers = c .o .refers; takes = readSlots 0 (take filled scratch) (c .o .takes) }
+
+    gate-is : gateAt image at (pen .next) scratch ≡ driving (pen .next)
+    gate-is = rw (arguments g c listed, there .refers (at + 2) (omega (arith, one)))
+
+    abbrev new : Occurrence
+    new = driving (g .board .next)
+
+    new-is : gateAt image at (pen .next) scratch ≡ new
+    new-is = gate-is ∙ ap driving (g .written .next)
+
+    set-down : placed g c ≡ placeGate (new .refers) (new .takes) (g .board)
     set-down = rw gate
 
     -- One slot is free for its net.
     pub free : filled + 1 ≤ frame
-    free = omega (arith, in-frame g c, one-net (c .reference) gate)
+    free = omega (arith, in-frame g c, one)
 
     in-scratch : frame ≤ length scratch
-    in-scratch = omega (arith, g .wide, g .room, g .size, ready .reached)
+    in-scratch = omega (arith, g .wide, g .room)
 
-    fits : p .base + length (each occurrenceNumbers (placeGate (c .o .refers) args (g .board) .board .gates)) ≤ length (p .around)
-    fits = rw set-down at (within g c ready .long)
+    new-within : OccurrenceWithin new
+    new-within = go (all-behind (g .board .gates) (rw set-down at (within g c ready .within)))
+      where
+        go : All OccurrenceWithin (new ∷ []) → OccurrenceWithin new
+        go (more w rest) = w
 
-    -- How many numbers the gate has.
-    numbers-of-gate :
-        length (each occurrenceNumbers (placeGate (c .o .refers) args (g .board) .board .gates))
-        ≡ length (each occurrenceNumbers (g .board .gates)) + (4 + getD image (place .takes) 0)
-    unfolding occurrenceNumbers
-    numbers-of-gate =
-        ap length (each-snoc (g .board .gates) _)
-        ∙ length-append (each occurrenceNumbers (g .board .gates)) _
-        ∙ omega (arith, length-of-readSlots 0 (take filled scratch) (c .o .takes), is .takeList .count)
+    fits : pen .at + length (occurrenceBytes new) ≤ length bytes
+    fits =
+        let all = rw set-down at (within g c ready .long) in
+        let gates = each occurrenceBytes (g .board .gates) in
+        omega (
+          arith,
+          all,
+          ap length (each-snoc occurrenceBytes (g .board .gates) new),
+          length-append gates (occurrenceBytes new),
+          g .written .put .place,
+          long-now ready g,
+        )
 
-    pub settable : Settable image (place .refers) (place .takes) pen scratch numbers
+    pub numbered : pen .next + 1 ≤ mostModuleNets
+    numbered = omega (arith, g .written .next, rw set-down at (within g c ready .few))
+
+    pub settable : Settable image at (pen .next) scratch bytes (pen .at)
     settable =
         record {
-          kind = is .inside;
-          arguments =
+          readable =
               record {
-                readable =
-                    record {
-                      listed = is .takeList .listed;
-                      slots = rw (is .takeList .is) (record { slot = λ j h. omega (arith, c .slots .slot j h, free, in-scratch) });
-                    };
-                room = omega (arith, fits, numbers-of-gate, g .written .place, long-now ready g);
+                listed = listed .listed;
+                slots = rw (listed .is) (record { slot = λ j h. omega (arith, c .slots .slot j h, free, in-scratch) });
               };
-          number = omega (arith, g .written .next, rw set-down at (within g c ready .few));
+          within = rw new-is new-within;
+          room = rw new-is fits;
         }
 
     pub gate-stepped :
-        {numbers′ : List ℕ} {r : Pen}
-        → Set image (place .refers) (place .takes) pen scratch numbers numbers′ r
-        → Stepped g c (set scratch filled (pen .next)) numbers′ r
-    gate-stepped {numbers′} {r} s =
+        {bytes′ : List ℕ} {to : ℕ}
+        → Put (occurrenceBytes (gateAt image at (pen .next) scratch)) bytes (pen .at) bytes′ to
+        → Stepped g c (set scratch filled (pen .next)) bytes′ (record { next = pen .next + 1; at = to })
+    gate-stepped put =
         record {
           front =
-              rw (set-down, one-net (c .reference) gate, add-one filled, ← g .written .next)
+              rw (set-down, one, add-one filled, ← g .written .next)
               (take-suc-set scratch filled (pen .next) (omega (arith, free, in-scratch)));
           size = length-set scratch filled (pen .next);
-          kept = drop-set-lt (p .reach) scratch filled (pen .next) (omega (arith, free, g .wide, g .room));
-          written = rw set-down (gate-written (c .o .refers) args (g .written) fits gate-is (s .next));
+          written = rw set-down (gate-written (new .refers) (new .takes) (g .written) (rw gate-is at put) refl);
         }
-      where
-        gate-is : Laid (occurrenceNumbers (record { drives = pen .next ∷ []; refers = c .o .refers; takes = args })) numbers (pen .at) numbers′ (r .at)
-        gate-is = rw (← is .refers, ← arguments g c is) (s .gate)

@@ -1,6 +1,6 @@
 -- An occurrence that refers to a module, once that module is placed: its outputs can be copied to the next slots, and with them there
 -- the occurrence is placed.
-use Prim.Native.Nat.{ℕ, _+_, _-_, _≤_, _<_}
+use Prim.Native.Nat.{ℕ, _+_, _≤_, _<_}
 use mathlib.Core.Path.{_≡_, sym, ap, ap₂, subst, _∙_}
 use mathlib.Core.Bool.{false}
 use mathlib.Core.List.{List, _++_}
@@ -22,10 +22,10 @@ use Rattle.flattener.specs.declared.gates.Pen.{Pen}
 use Rattle.flattener.specs.declared.places.Place.{Place}
 use Rattle.flattener.specs.declared.places.Header.{Header}
 use Rattle.flattener.proofs.Nets.{read-front}
-use Rattle.flattener.proofs.Parts.{drop-by, take-before, take-through, drop-behind}
+use Rattle.flattener.proofs.Parts.{take-before, take-through}
 use Rattle.flattener.proofs.Progress.{Progress, Current}
 use Rattle.flattener.proofs.Stepping.{in-frame, Stepped}
-use Rattle.flattener.proofs.SubPlan.{inputs-within, target, args, count-of-args, sub, lent, roomy, fits, board-is, nets-are}
+use Rattle.flattener.proofs.SubPlan.{target, args, sub, lent, roomy, fits, board-is, nets-are}
 
 -- A part of a list was lent from a place on, and is in the list again.
 pub record Returned (frame : ℕ) (lent part back : List ℕ) : Type 0 where
@@ -34,12 +34,12 @@ pub record Returned (frame : ℕ) (lent part back : List ℕ) : Type 0 where
   pub size : length back ≡ length lent
 
 module _
-    {p : Plan} {image scratch₀ : List ℕ} {frame count : ℕ} {scratch numbers : List ℕ} {pen : Pen} {at filled i : ℕ}
-    (g : Progress p image scratch₀ frame count scratch numbers pen at filled i) (c : Current p image (g .left) at filled)
+    {p : Plan} {image scratch₀ : List ℕ} {frame count : ℕ} {scratch bytes : List ℕ} {pen : Pen} {at filled i : ℕ}
+    (g : Progress p image scratch₀ frame count scratch bytes pen at filled i) (c : Current p image (g .left) at filled)
     {place : Place} (is : PlaceIs image at (c .o) place) (other : isGate (c .o .refers) ≡ false)
-    {starts nets : List ℕ} {k : ℕ} {pen₀ : Pen} {numbers₀ : List ℕ} (ready : Ready p image starts nets k pen₀ scratch₀ numbers₀)
-    {part : List ℕ} {pen′ : Pen} {numbers′ : List ℕ}
-    (finished : Done (sub g c is other ready) (drop frame (lent g c is other ready)) part pen′ numbers′)
+    {starts nets : List ℕ} {k : ℕ} {pen₀ : Pen} {bytes₀ : List ℕ} (ready : Ready p image starts nets k pen₀ scratch₀ bytes₀)
+    {part : List ℕ} {pen′ : Pen} {bytes′ : List ℕ}
+    (finished : Done (sub g c is other ready) (drop frame (lent g c is other ready)) part pen′ bytes′)
     {back : List ℕ} (returned : Returned frame (lent g c is other ready) part back)
     {header : Header} (head : HeaderIs image (getD starts (target g c is other ready .j) 0) (target g c is other ready .m) header)
   where
@@ -60,9 +60,9 @@ module _
     copyable-out =
         record {
           listed = head .outputList .listed;
-          slots = λ j h. omega (arith, slot j h, roomy g c is other ready, ready .reached, g .size, size-is);
+          slots = λ j h. omega (arith, slot j h, roomy g c is other ready, size-is);
           apart = λ j h. behind (omega (arith, in-frame g c, count-is));
-          room = omega (arith, in-frame g c, count-is, roomy g c is other ready, ready .reached, g .size, size-is);
+          room = omega (arith, in-frame g c, count-is, roomy g c is other ready, size-is);
         }
       where
         slot : (j : ℕ) → j < getD image (header .outputs) 0 → getD (listAt image (header .outputs)) j 0 < netCount (callee .m)
@@ -83,33 +83,19 @@ module _
         omega (arith, ap length outs-are, length-of-readSlots 0 nets (callee .m .outputs), callee .drives)
 
     inside : filled + length outs ≤ length back
-    inside = omega (arith, long, in-frame g c, roomy g c is other ready, ready .reached, g .size, size-is)
+    inside = omega (arith, long, in-frame g c, roomy g c is other ready, size-is)
 
-    pub module-stepped : Stepped g c (laid back filled outs) numbers′ pen′
+    pub module-stepped : Stepped g c (laid back filled outs) bytes′ pen′
     module-stepped =
         record {
           front =
               take-through back filled outs inside (filled + length (c .o .drives)) (sym long)
               ∙ ap₂ _++_ front-kept (outs-are ∙ nets-are g c is other ready);
           size = length-laid back filled outs inside ∙ size-is;
-          kept =
-              drop-behind back filled outs inside (p .reach) (omega (arith, long, in-frame g c, reach))
-              ∙ drop-by (p .reach) frame back reach
-              ∙ ap (drop (p .reach - frame)) (returned .rear)
-              ∙ finished .kept
-              ∙ sym (drop-by (p .reach) frame (lent g c is other ready) reach)
-              ∙ drop-behind scratch frame (args g c is other ready) (fits g c is other ready) (p .reach) (omega (arith, covered));
           written =
-              subst (λ (b : Board). Written (p .around) (p .base) b pen′ numbers′) (board-is g c is other ready) (finished .written);
+              subst (λ (b : Board). Written (p .around) b pen′ bytes′) (board-is g c is other ready) (finished .written);
         }
       where
-        reach : frame ≤ p .reach
-        reach = omega (arith, roomy g c is other ready)
-
-        covered : frame + length (args g c is other ready) ≤ p .reach
-        covered =
-            omega (arith, count-of-args g c is other ready, inputs-within (callee .m), roomy g c is other ready)
-
         front-kept : take filled back ≡ take filled scratch
         front-kept =
             sym (take-take filled frame back (omega (arith, in-frame g c)))

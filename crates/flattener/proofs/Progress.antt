@@ -3,7 +3,7 @@ use Prim.Native.Nat.{ℕ, _+_, _≤_, _<_}
 use mathlib.Core.Path.{_≡_, refl, sym, ap, subst, _∙_}
 use mathlib.Core.List.{List, [], _∷_}
 use native.Mathlib.Omega.{arith}
-use lib.ListN.{length, getD, take, drop}
+use lib.ListN.{length, getD, take}
 use Rattle.meaning.specs.Syntax.{Occurrence}
 use Rattle.meaning.specs.Layout.{each, occurrenceNumbers}
 use Rattle.meaning.specs.Limits.{driven, netCount}
@@ -21,29 +21,28 @@ use Rattle.flattener.specs.declared.gates.Pen.{Pen}
 use Rattle.flattener.specs.declared.places.Header.{Header}
 
 pub record Progress
-    (p : Plan) (image scratch₀ : List ℕ) (frame count : ℕ) (scratch numbers : List ℕ) (pen : Pen) (at filled i : ℕ) : Type 0 where
+    (p : Plan) (image scratch₀ : List ℕ) (frame count : ℕ) (scratch bytes : List ℕ) (pen : Pen) (at filled i : ℕ) : Type 0 where
   pub left : List Occurrence
   pub turns : i + length left ≡ count
   pub stands : Stands image at (each occurrenceNumbers left)
   pub framed : Framed (p .later) filled left
   pub wide : frame ≡ netCount (p .m)
   pub ends : filled + length (driven left) ≡ netCount (p .m)
-  pub room : netCount (p .m) + largestReferred (room (p .later)) left ≤ p .reach
+  pub room : netCount (p .m) + largestReferred (room (p .later)) left ≤ length scratch
   pub board : Board
-  pub written : Written (p .around) (p .base) board pen numbers
+  pub written : Written (p .around) board pen bytes
   pub same : walkPlaced (placeFrames (p .later)) left (take filled scratch) board ≡ planned p scratch₀
   pub size : length scratch ≡ length scratch₀
-  pub kept : drop (p .reach) scratch ≡ drop (p .reach) scratch₀
 
 -- Before the first occurrence.
 pub begin :
-    {p : Plan} {image starts nets : List ℕ} {k : ℕ} {pen : Pen} {scratch numbers : List ℕ} {h : Header}
-    → Ready p image starts nets k pen scratch numbers
+    {p : Plan} {image starts nets : List ℕ} {k : ℕ} {pen : Pen} {scratch bytes : List ℕ} {h : Header}
+    → Ready p image starts nets k pen scratch bytes
     → HeaderIs image (getD starts k 0) (p .m) h
     → (frame count : ℕ)
     → frame ≡ getD nets k 0
     → count ≡ getD image (h .body) 0
-    → Progress p image scratch frame count scratch numbers pen (h .body + 1) (h .inputs) 0
+    → Progress p image scratch frame count scratch bytes pen (h .body + 1) (h .inputs) 0
 unfolding netCount
 begin {p} {k = k} {scratch = scratch} {h = h} ready header frame count e f =
     let ok = frame-at (ready .imaged .frames) k (ready .here) in
@@ -59,7 +58,6 @@ begin {p} {k = k} {scratch = scratch} {h = h} ready header frame count e f =
       written = ready .written;
       same = ap (λ (n : ℕ). walkPlaced (placeFrames (p .later)) (p .m .occurrences) (take n scratch) (p .board)) (header .inputs);
       size = refl;
-      kept = refl;
     }
 
 -- The occurrence whose turn it is, and those behind it.
@@ -74,8 +72,8 @@ pub record Current (p : Plan) (image : List ℕ) (left : List Occurrence) (at fi
   pub framed : Framed (p .later) (filled + length (o .drives)) rest
 
 module _
-    {p : Plan} {image scratch₀ : List ℕ} {frame count : ℕ} {scratch numbers : List ℕ} {pen : Pen} {at filled i : ℕ}
-    (g : Progress p image scratch₀ frame count scratch numbers pen at filled i)
+    {p : Plan} {image scratch₀ : List ℕ} {frame count : ℕ} {scratch bytes : List ℕ} {pen : Pen} {at filled i : ℕ}
+    (g : Progress p image scratch₀ frame count scratch bytes pen at filled i)
   where
     pub current : i < count → Current p image (g .left) at filled
     unfolding each
@@ -101,7 +99,7 @@ module _
             }
 
     -- Behind the last occurrence.
-    pub finish : count ≤ i → Done p scratch₀ scratch pen numbers
+    pub finish : count ≤ i → Done p scratch₀ scratch pen bytes
     unfolding walkPlaced driven
     finish h = go (g .left) (g .turns) (g .ends) (g .same)
       where
@@ -110,7 +108,7 @@ module _
             → i + length left ≡ count
             → filled + length (driven left) ≡ netCount (p .m)
             → walkPlaced (placeFrames (p .later)) left (take filled scratch) (g .board) ≡ planned p scratch₀
-            → Done p scratch₀ scratch pen numbers
+            → Done p scratch₀ scratch pen bytes
         go (o ∷ rest) e d same = absurd (omega arith)
         go [] e d same =
             let whole : filled ≡ netCount (p .m) = omega arith in
@@ -118,6 +116,5 @@ module _
             record {
               size = g .size;
               frame = ap (λ (n : ℕ). take n scratch) (sym whole) ∙ nets;
-              kept = g .kept;
-              written = subst (λ (b : Board). Written (p .around) (p .base) b pen numbers) (ap (λ (q : Placed). q .board) same) (g .written);
+              written = subst (λ (b : Board). Written (p .around) b pen bytes) (ap (λ (q : Placed). q .board) same) (g .written);
             }

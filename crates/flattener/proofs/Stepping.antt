@@ -3,28 +3,30 @@ use Prim.Native.Nat.{ℕ, _+_, _≤_}
 use mathlib.Core.Path.{_≡_, sym, ap, subst, _∙_}
 use mathlib.Core.List.{List, _++_}
 use native.Mathlib.Omega.{arith}
-use lib.ListN.{length, take, drop, length-append}
+use lib.ListN.{length, take, length-append}
+use Rattle.meaning.specs.Lists.{All}
 use Rattle.meaning.specs.Syntax.{Occurrence}
 use Rattle.meaning.specs.Layout.{each, occurrenceNumbers}
+use Rattle.meaning.specs.Ceilings.{OccurrenceWithin}
 use Rattle.meaning.specs.Limits.{driven, mostModuleNets}
 use Rattle.meaning.specs.Figures.{largestReferred, room}
 use Rattle.meaning.specs.Flattening.{Placed, placeReferred}
+use Rattle.laws.specs.Written.{occurrenceBytes}
 use Rattle.image.specs.Pieces.{moved}
 use Rattle.image.specs.Frames.{readSlots}
 use Rattle.flattener.specs.Placing.{walkPlaced, placeFrames}
-use Rattle.flattener.specs.Growing.{Grows, board-grows, numbers-grow}
+use Rattle.flattener.specs.Growing.{Grows, board-grows, pieces-grow, all-before}
 use Rattle.flattener.specs.Slots.{netsAt}
 use Rattle.flattener.specs.Gates.{Written}
-use Rattle.flattener.specs.Places.{PlaceIs}
+use Rattle.flattener.specs.Places.{ListThere}
 use Rattle.flattener.specs.Plan.{Plan, Ready, planned}
 use Rattle.flattener.specs.declared.gates.Pen.{Pen}
-use Rattle.flattener.specs.declared.places.Place.{Place}
 use Rattle.flattener.proofs.Nets.{read-front}
 use Rattle.flattener.proofs.Progress.{Progress, Current}
 
 module _
-    {p : Plan} {image scratch₀ : List ℕ} {frame count : ℕ} {scratch numbers : List ℕ} {pen : Pen} {at filled i : ℕ}
-    (g : Progress p image scratch₀ frame count scratch numbers pen at filled i) (c : Current p image (g .left) at filled)
+    {p : Plan} {image scratch₀ : List ℕ} {frame count : ℕ} {scratch bytes : List ℕ} {pen : Pen} {at filled i : ℕ}
+    (g : Progress p image scratch₀ frame count scratch bytes pen at filled i) (c : Current p image (g .left) at filled)
   where
     -- What the occurrence places.
     abbrev pub placed : Placed
@@ -36,29 +38,31 @@ module _
     rest-is =
         sym (ap (λ (os : List Occurrence). walkPlaced (placeFrames (p .later)) os (take filled scratch) (g .board)) (c .is)) ∙ g .same
 
-    -- The occurrence's gates have numbers and places.
+    -- The occurrence's gates have numbers, can be written, and have places.
     pub record Within : Type 0 where
       pub few : placed .board .next ≤ mostModuleNets
-      pub long : p .base + length (each occurrenceNumbers (placed .board .gates)) ≤ length (p .around)
+      pub within : All OccurrenceWithin (placed .board .gates)
+      pub long : length (each occurrenceBytes (placed .board .gates)) ≤ length (p .around)
 
     pub within :
-        {starts nets : List ℕ} {k : ℕ} {pen₀ : Pen} {numbers₀ : List ℕ}
-        → Ready p image starts nets k pen₀ scratch₀ numbers₀
+        {starts nets : List ℕ} {k : ℕ} {pen₀ : Pen} {bytes₀ : List ℕ}
+        → Ready p image starts nets k pen₀ scratch₀ bytes₀
         → Within
     within ready =
         let grows = board-grows (p .later) (c .rest) (take filled scratch ++ placed .nets) (placed .board) in
         let planned-grows = subst (λ (q : Placed). Grows (placed .board) (q .board)) rest-is grows in
         record {
           few = omega (arith, ready .few, planned-grows .next);
-          long = omega (arith, ready .long, numbers-grow planned-grows);
+          within = all-before planned-grows (ready .within);
+          long = omega (arith, ready .long, pieces-grow occurrenceBytes planned-grows);
         }
 
     -- Its arguments are read from the front of the scratch.
     pub arguments :
-        {place : Place}
-        → PlaceIs image at (c .o) place
-        → netsAt image (place .takes) scratch ≡ readSlots 0 (take filled scratch) (c .o .takes)
-    arguments is = ap (readSlots 0 scratch) (is .takeList .is) ∙ sym (read-front filled scratch (c .o .takes) (c .slots))
+        {list : ℕ}
+        → ListThere image list (c .o .takes)
+        → netsAt image list scratch ≡ readSlots 0 (take filled scratch) (c .o .takes)
+    arguments there = ap (readSlots 0 scratch) (there .is) ∙ sym (read-front filled scratch (c .o .takes) (c .slots))
 
     -- The nets that it drives lie in the module's frame.
     pub in-frame : filled + length (c .o .drives) ≤ frame
@@ -73,19 +77,18 @@ module _
         )
 
     -- It is placed: its nets stand in their slots, and its gates are written.
-    pub record Stepped (scratch′ numbers′ : List ℕ) (pen′ : Pen) : Type 0 where
+    pub record Stepped (scratch′ bytes′ : List ℕ) (pen′ : Pen) : Type 0 where
       pub front : take (filled + length (c .o .drives)) scratch′ ≡ take filled scratch ++ placed .nets
       pub size : length scratch′ ≡ length scratch
-      pub kept : drop (p .reach) scratch′ ≡ drop (p .reach) scratch
-      pub written : Written (p .around) (p .base) (placed .board) pen′ numbers′
+      pub written : Written (p .around) (placed .board) pen′ bytes′
 
     pub advance :
-        {scratch′ numbers′ : List ℕ} {pen′ : Pen} {at′ filled′ i′ : ℕ}
-        → Stepped scratch′ numbers′ pen′
+        {scratch′ bytes′ : List ℕ} {pen′ : Pen} {at′ filled′ i′ : ℕ}
+        → Stepped scratch′ bytes′ pen′
         → at′ ≡ at + length (occurrenceNumbers (c .o))
         → filled′ ≡ filled + length (c .o .drives)
         → i′ ≡ i + 1
-        → Progress p image scratch₀ frame count scratch′ numbers′ pen′ at′ filled′ i′
+        → Progress p image scratch₀ frame count scratch′ bytes′ pen′ at′ filled′ i′
     unfolding driven largestReferred
     advance {scratch′} s e f n =
         let front = ap (λ (m : ℕ). take m scratch′) f ∙ s .front in
@@ -102,11 +105,10 @@ module _
                 ap (λ (os : List Occurrence). length (driven os)) (c .is),
                 length-append (c .o .drives) (driven (c .rest)),
               );
-          room = omega (arith, g .room, ap (largestReferred (room (p .later))) (c .is));
+          room = omega (arith, g .room, s .size, ap (largestReferred (room (p .later))) (c .is));
           board = placed .board;
           written = s .written;
           same =
               ap (λ (frame : List ℕ). walkPlaced (placeFrames (p .later)) (c .rest) frame (placed .board)) front ∙ rest-is;
           size = s .size ∙ g .size;
-          kept = s .kept ∙ g .kept;
         }

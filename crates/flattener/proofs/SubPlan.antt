@@ -1,6 +1,6 @@
 -- An occurrence that refers to a module: the plan for that module, which works behind the frame of the module that is walked, with the
 -- occurrence's arguments at the front of that part.
-use Prim.Native.Nat.{ℕ, _+_, _-_, _≤_, _<_}
+use Prim.Native.Nat.{ℕ, _+_, _≤_, _<_}
 use mathlib.Core.Path.{_≡_, sym, ap, _∙_}
 use mathlib.Core.Bool.{false}
 use mathlib.Core.List.{List}
@@ -34,10 +34,10 @@ unfolding netCount
 inputs-within m = omega arith
 
 module _
-    {p : Plan} {image scratch₀ : List ℕ} {frame count : ℕ} {scratch numbers : List ℕ} {pen : Pen} {at filled i : ℕ}
-    (g : Progress p image scratch₀ frame count scratch numbers pen at filled i) (c : Current p image (g .left) at filled)
+    {p : Plan} {image scratch₀ : List ℕ} {frame count : ℕ} {scratch bytes : List ℕ} {pen : Pen} {at filled i : ℕ}
+    (g : Progress p image scratch₀ frame count scratch bytes pen at filled i) (c : Current p image (g .left) at filled)
     {place : Place} (is : PlaceIs image at (c .o) place) (other : isGate (c .o .refers) ≡ false)
-    {starts nets : List ℕ} {k : ℕ} {pen₀ : Pen} {numbers₀ : List ℕ} (ready : Ready p image starts nets k pen₀ scratch₀ numbers₀)
+    {starts nets : List ℕ} {k : ℕ} {pen₀ : Pen} {bytes₀ : List ℕ} (ready : Ready p image starts nets k pen₀ scratch₀ bytes₀)
   where
     -- The module that it refers to.
     pub target : Referred (p .rs) k (c .o)
@@ -46,7 +46,7 @@ module _
     abbrev pub args : List ℕ
     args = readSlots 0 (take filled scratch) (c .o .takes)
 
-    pub count-of-args : length args ≡ length (target .m .inputs)
+    count-of-args : length args ≡ length (target .m .inputs)
     count-of-args = length-of-readSlots 0 (take filled scratch) (c .o .takes) ∙ target .takes
 
     abbrev pub sub : Plan
@@ -57,8 +57,6 @@ module _
           later = target .later;
           board = g .board;
           around = p .around;
-          base = p .base;
-          reach = p .reach - frame;
         }
 
     -- What the later modules say of the number referred to, they say of that module.
@@ -70,7 +68,7 @@ module _
         ∙ says-from search (k + 1) (target .j) (frames-numbered (ready .imaged .frames)) (omega (arith, target .after)) (target .here)
 
     -- Its room is there, behind the frame.
-    pub roomy : frame + (netCount (target .m) + largestReferred (room (target .later)) (target .m .occurrences)) ≤ p .reach
+    pub roomy : frame + (netCount (target .m) + largestReferred (room (target .later)) (target .m .occurrences)) ≤ length scratch
     unfolding largestReferred
     roomy =
         let first = rw other at (ap (largestReferred (room (p .later))) (c .is)) in
@@ -84,9 +82,9 @@ module _
     copyable-in =
         record {
           listed = is .takeList .listed;
-          slots = λ j h. omega (arith, slot j h, in-frame g c, roomy, ready .reached, g .size);
+          slots = λ j h. omega (arith, slot j h, in-frame g c, roomy);
           apart = λ j h. before (omega (arith, slot j h, in-frame g c));
-          room = omega (arith, is .takeList .count, target .takes, inputs-within (target .m), roomy, ready .reached, g .size);
+          room = omega (arith, is .takeList .count, target .takes, inputs-within (target .m), roomy);
         }
       where
         slot : (j : ℕ) → j < getD image (place .takes) 0 → getD (listAt image (place .takes)) j 0 < filled
@@ -97,7 +95,7 @@ module _
     lent = laid scratch frame args
 
     pub fits : frame + length args ≤ length scratch
-    fits = omega (arith, count-of-args, inputs-within (target .m), roomy, ready .reached, g .size)
+    fits = omega (arith, count-of-args, inputs-within (target .m), roomy)
 
     given-is : given sub (drop frame lent) ≡ args
     given-is = ap (take (length (target .m .inputs))) (from-laid scratch frame args fits) ∙ take-at args _ _ count-of-args
@@ -115,14 +113,14 @@ module _
     nets-are =
         ap (λ (q : Placed). readSlots 0 (q .nets) (target .m .outputs)) planned-is ∙ sym (ap (λ (q : Placed). q .nets) placed-is)
 
-    pub sub-ready : Ready sub image starts nets (target .j) pen (drop frame lent) numbers
+    pub sub-ready : Ready sub image starts nets (target .j) pen (drop frame lent) bytes
     sub-ready =
         record {
           imaged = ready .imaged;
           here = target .here;
-          room = omega (arith, roomy);
-          reached = omega (arith, ready .reached, g .size, length-drop frame lent, length-laid scratch frame args fits);
+          room = omega (arith, roomy, length-drop frame lent, length-laid scratch frame args fits);
           written = g .written;
           few = rw board-is (within g c ready .few);
+          within = rw board-is (within g c ready .within);
           long = rw board-is (within g c ready .long);
         }

@@ -1,12 +1,11 @@
 -- The walk over the module at its position, from nets 0, 1, 2 and so on for its inputs, gives the flattened module.
 use Prim.Native.Nat.{ℕ, _+_, _≤_}
 use mathlib.Core.Path.{_≡_, sym, ap, _∙_}
-use mathlib.Core.List.{List, [], _∷_, _++_, append-assoc, append-nil}
+use mathlib.Core.List.{List, [], _∷_, _++_}
 use native.Mathlib.Omega.{arith}
 use lib.ListN.{length, getD, take, length-append, length-take}
 use lib.Seq.{take-take, take-length, take-append-seam}
 use Rattle.meaning.specs.Syntax.{Occurrence, Module}
-use Rattle.meaning.specs.Layout.{each, occurrenceNumbers, moduleNumbers, fileNumbers}
 use Rattle.meaning.specs.Limits.{netCount}
 use Rattle.meaning.specs.Flattening.{Board, Placed, Placing, placeReferred, place, flatModule}
 use Rattle.meaning.specs.Adder.{upFrom}
@@ -16,7 +15,6 @@ use Rattle.image.specs.Frames.{readSlots, Filled, FrameOk}
 use Rattle.flattener.specs.Placing.{walkPlaced, placeFrame, placeFrames}
 use Rattle.flattener.specs.Growing.{Grows, board-grows}
 use Rattle.flattener.specs.Runs.{run-at, take-run, read-run}
-use Rattle.flattener.specs.Front.{frontNumbers}
 use Rattle.flattener.specs.AtPosition.{AtPosition}
 
 -- A walk keeps what stood at the front of the frame.
@@ -48,14 +46,6 @@ inputs-filled {r = r} ok =
           let is = ap (λ (xs : List ℕ). getD xs i 0) (own-inputs ok) ∙ run-at 0 count i h in
           omega (arith, is);
     }
-
--- The numbers of a file of one module, those in front of its gates first.
-pub file-of-one :
-    (f : Module)
-    → fileNumbers (f ∷ [])
-    ≡ frontNumbers (f .number) (f .inputs) (f .outputs) (length (f .occurrences)) ++ each occurrenceNumbers (f .occurrences)
-unfolding fileNumbers moduleNumbers each
-file-of-one f = simp (append-assoc, append-nil)
 
 -- What the walk comes to.
 pub record FlatWalk (r : Module) (f : Module) (inputs : ℕ) (w : Placed) : Type 0 where

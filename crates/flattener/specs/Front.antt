@@ -1,27 +1,28 @@
--- The numbers in front of the gates in a file of one module, whose lists of inputs and outputs stand in an image.
+-- The bytes in front of the gates in a file of one module, whose lists of inputs and outputs stand in an image.
 use Prim.Native.Nat.{ℕ, _+_, _≤_}
-use mathlib.Core.Path.{_≡_}
-use mathlib.Core.List.{List, [], _∷_, _++_}
-use native.Mathlib.Omega.{arith}
-use lib.ListN.{length, getD, length-append}
-use Rattle.meaning.specs.Layout.{listNumbers}
-use Rattle.image.specs.Laid.{laid}
+use mathlib.Core.List.{List, _++_}
+use lib.ListN.{length}
+use Rattle.meaning.specs.Layout.{numberBytes}
+use Rattle.meaning.specs.Ceilings.{Small, NetsWithin}
+use Rattle.laws.specs.Written.{netsBytes}
+use Rattle.encoder.specs.Filled.{Put}
 use Rattle.flattener.specs.Slots.{Readable, netsAt}
 
-abbrev pub frontNumbers : (number : ℕ) (inputs outputs : List ℕ) (gates : ℕ) → List ℕ
-frontNumbers number inputs outputs gates = 1 ∷ number ∷ (listNumbers inputs ++ (listNumbers outputs ++ (gates ∷ [])))
+abbrev pub frontBytes : (number : ℕ) (inputs outputs : List ℕ) (gates : ℕ) → List ℕ
+frontBytes number inputs outputs gates =
+    numberBytes 1 ++ (numberBytes number ++ (netsBytes inputs ++ (netsBytes outputs ++ numberBytes gates)))
 
-pub length-of-front :
-    (number : ℕ) (inputs outputs : List ℕ) (gates : ℕ)
-    → length (frontNumbers number inputs outputs gates) ≡ 5 + length inputs + length outputs
-length-of-front number inputs outputs gates = simp length-append (omega arith)
-
--- Both lists can be read, and there is room for all.
-pub record Frontable (image : List ℕ) (inputs outputs : ℕ) (scratch numbers : List ℕ) : Type 0 where
+-- Both lists can be read, all numbers can be written, and there is room for them.
+pub record Frontable (image : List ℕ) (inputs outputs number gates : ℕ) (scratch bytes : List ℕ) (at : ℕ) : Type 0 where
+  pub own : Small number
+  pub counted : Small gates
   pub ins : Readable image inputs scratch
+  pub insWithin : NetsWithin (netsAt image inputs scratch)
   pub outs : Readable image outputs scratch
-  pub room : 5 + getD image inputs 0 + getD image outputs 0 ≤ length numbers
+  pub outsWithin : NetsWithin (netsAt image outputs scratch)
+  pub room : at + length (frontBytes number (netsAt image inputs scratch) (netsAt image outputs scratch) gates) ≤ length bytes
 
-abbrev pub Fronted : (image : List ℕ) (inputs outputs number gates : ℕ) (scratch before after : List ℕ) → Type 0
-Fronted image inputs outputs number gates scratch before after =
-    after ≡ laid before 0 (frontNumbers number (netsAt image inputs scratch) (netsAt image outputs scratch) gates)
+abbrev pub Fronted :
+    (image : List ℕ) (inputs outputs number gates : ℕ) (scratch before : List ℕ) (at : ℕ) (after : List ℕ) (r : ℕ) → Type 0
+Fronted image inputs outputs number gates scratch before at after r =
+    Put (frontBytes number (netsAt image inputs scratch) (netsAt image outputs scratch) gates) before at after r

@@ -1,72 +1,49 @@
--- The gates of the new module as numbers in a lent list: what setting down one more asks and does.
-use Prim.Native.Nat.{ℕ, _+_, _≤_, _<_}
-use mathlib.Core.Path.{_≡_, sym, ap, _∙_}
+-- The gates of the new module as bytes in a lent list: what writing one more asks and does.
+use Prim.Native.Nat.{ℕ, _+_, _≤_, zero-le}
+use mathlib.Core.Path.{_≡_, _∙_}
 use mathlib.Core.List.{List, [], _∷_, _++_, append-nil}
 use native.Mathlib.Omega.{arith}
-use lib.ListN.{length, getD, length-append}
+use lib.ListN.{length, getD}
 use Rattle.meaning.specs.Syntax.{Occurrence}
-use Rattle.meaning.specs.Layout.{each, occurrenceNumbers}
+use Rattle.meaning.specs.Layout.{each}
+use Rattle.meaning.specs.Ceilings.{OccurrenceWithin}
 use Rattle.meaning.specs.Flattening.{Board, placeGate}
 use Rattle.laws.specs.Lists.{each-append}
-use Rattle.image.specs.Laid.{laid, laid-after}
-use Rattle.flattener.specs.Slots.{Listable, Laid, netsAt}
+use Rattle.laws.specs.Written.{occurrenceBytes}
+use Rattle.encoder.specs.Filled.{Put}
+use Rattle.encoder.specs.Puts.{put-more}
+use Rattle.flattener.specs.Slots.{Readable, netsAt}
 use Rattle.flattener.specs.declared.gates.Pen.{Pen}
 
--- The gate whose kind stands at a place of the image and whose argument slots at another.
-abbrev pub gateAt : (image : List ℕ) (refers takes net : ℕ) (scratch : List ℕ) → Occurrence
-gateAt image refers takes net scratch =
-    record { drives = net ∷ []; refers = getD image refers 0; takes = netsAt image takes scratch }
+-- The gate whose occurrence stands at a place of the image: it drives one net, so that its kind is the third number, and its list of
+-- argument slots comes behind that.
+abbrev pub gateAt : (image : List ℕ) (place net : ℕ) (scratch : List ℕ) → Occurrence
+gateAt image place net scratch =
+    record { drives = net ∷ []; refers = getD image (place + 2) 0; takes = netsAt image (place + 3) scratch }
 
-pub record Settable (image : List ℕ) (refers takes : ℕ) (pen : Pen) (scratch numbers : List ℕ) : Type 0 where
-  pub kind : refers < length image
-  pub arguments : Listable image takes scratch numbers (pen .at + 3)
-  pub number : pen .next < 65535
+pub record Settable (image : List ℕ) (place net : ℕ) (scratch bytes : List ℕ) (at : ℕ) : Type 0 where
+  pub readable : Readable image (place + 3) scratch
+  pub within : OccurrenceWithin (gateAt image place net scratch)
+  pub room : at + length (occurrenceBytes (gateAt image place net scratch)) ≤ length bytes
 
-pub record Set (image : List ℕ) (refers takes : ℕ) (pen : Pen) (scratch before after : List ℕ) (r : Pen) : Type 0 where
-  pub gate : Laid (occurrenceNumbers (gateAt image refers takes (pen .next) scratch)) before (pen .at) after (r .at)
-  pub next : r .next ≡ pen .next + 1
-
--- The gates of a board stand in the list from a place on, which was otherwise as `around`.
-pub record Written (around : List ℕ) (base : ℕ) (b : Board) (pen : Pen) (numbers : List ℕ) : Type 0 where
+-- The gates of a board stand at the front of the list, which was otherwise as `around`.
+pub record Written (around : List ℕ) (b : Board) (pen : Pen) (bytes : List ℕ) : Type 0 where
   pub next : pen .next ≡ b .next
-  pub place : pen .at ≡ base + length (each occurrenceNumbers (b .gates))
-  pub holds : numbers ≡ laid around base (each occurrenceNumbers (b .gates))
+  pub put : Put (each occurrenceBytes (b .gates)) around 0 bytes (pen .at)
 
-pub each-snoc :
-    (os : List Occurrence) (o : Occurrence)
-    → each occurrenceNumbers (os ++ (o ∷ [])) ≡ each occurrenceNumbers os ++ occurrenceNumbers o
+pub each-snoc : (f : Occurrence → List ℕ) (os : List Occurrence) (o : Occurrence) → each f (os ++ (o ∷ [])) ≡ each f os ++ f o
 unfolding each
-each-snoc os o = each-append occurrenceNumbers os (o ∷ []) ∙ rw append-nil
+each-snoc f os o = each-append f os (o ∷ []) ∙ rw append-nil
 
--- Setting down a gate is placing it.
+-- Writing a gate is placing it.
 pub gate-written :
-    {around : List ℕ} {base : ℕ} {b : Board} {pen : Pen} {before : List ℕ} (kind : ℕ) (nets : List ℕ) {after : List ℕ} {r : Pen}
-    → Written around base b pen before
-    → base + length (each occurrenceNumbers (placeGate kind nets b .board .gates)) ≤ length around
-    → Laid (occurrenceNumbers (record { drives = pen .next ∷ []; refers = kind; takes = nets })) before (pen .at) after (r .at)
+    {around : List ℕ} {b : Board} {pen : Pen} {before : List ℕ} (kind : ℕ) (nets : List ℕ) {after : List ℕ} {r : Pen}
+    → Written around b pen before
+    → Put (occurrenceBytes (record { drives = pen .next ∷ []; refers = kind; takes = nets })) before (pen .at) after (r .at)
     → r .next ≡ pen .next + 1
-    → Written around base (placeGate kind nets b .board) r after
-gate-written {around} {base} {b} {pen} {before} kind nets {after} {r} w fits set next =
+    → Written around (placeGate kind nets b .board) r after
+gate-written {b = b} kind nets w put next =
     record {
       next = next ∙ omega (arith, w .next);
-      place = set .place ∙ omega (arith, w .place, ap length same, long);
-      holds =
-          set .holds
-          ∙ rw (w .holds, w .place, same)
-          (laid-after around base gates one (omega (arith, long)) ∙ ap (laid around base) (sym (each-snoc (b .gates) new)));
+      put = rw (each-snoc occurrenceBytes (b .gates), ← w .next) (put-more (w .put) zero-le put);
     }
-  where
-    new : Occurrence
-    new = record { drives = b .next ∷ []; refers = kind; takes = nets }
-
-    gates : List ℕ
-    gates = each occurrenceNumbers (b .gates)
-
-    one : List ℕ
-    one = occurrenceNumbers new
-
-    same : occurrenceNumbers (record { drives = pen .next ∷ []; refers = kind; takes = nets }) ≡ one
-    same = ap (λ (n : ℕ). occurrenceNumbers (record { drives = n ∷ []; refers = kind; takes = nets })) (w .next)
-
-    long : length (each occurrenceNumbers (b .gates ++ (new ∷ []))) ≡ length gates + length one
-    long = ap length (each-snoc (b .gates) new) ∙ length-append gates one

@@ -6,9 +6,10 @@ use mathlib.Core.List.{List, [], _∷_, _++_, append-nil, append-assoc}
 use native.Mathlib.Omega.{arith}
 use lib.Dec.{eqb}
 use lib.ListN.{length, length-append}
+use Rattle.meaning.specs.Lists.{All, none, more}
 use Rattle.meaning.specs.Syntax.{Occurrence, Module}
 use Rattle.meaning.specs.Gates.{isGate}
-use Rattle.meaning.specs.Layout.{each, occurrenceNumbers}
+use Rattle.meaning.specs.Layout.{each}
 use Rattle.meaning.specs.Flattening.{Board, Placed, Placing, placeGate, placeReferred}
 use Rattle.laws.specs.Lists.{each-append}
 use Rattle.image.specs.Frames.{readSlots}
@@ -72,8 +73,15 @@ pub board-grows :
     → Grows a (walkPlaced (placeFrames ms) os frame a .board)
 board-grows ms = walk-grows (places-grow ms)
 
--- How many numbers the gates have.
-pub numbers-grow :
-    {a b : Board} → Grows a b → length (each occurrenceNumbers (a .gates)) ≤ length (each occurrenceNumbers (b .gates))
-numbers-grow {a} g =
-    rw (g .gates, each-append occurrenceNumbers (a .gates) (g .more), length-append) (omega arith)
+-- What the gates have in all, as their bytes.
+pub pieces-grow :
+    (f : Occurrence → List ℕ) {a b : Board} → Grows a b → length (each f (a .gates)) ≤ length (each f (b .gates))
+pieces-grow f {a} g = rw (g .gates, each-append f (a .gates) (g .more), length-append) (omega arith)
+
+-- What holds of all gates held of those before.
+all-front : {P : Occurrence → Type 0} (os rest : List Occurrence) → All P (os ++ rest) → All P os
+all-front [] rest h = none
+all-front (o ∷ os) rest (more p h) = more p (all-front os rest h)
+
+pub all-before : {P : Occurrence → Type 0} {a b : Board} → Grows a b → All P (b .gates) → All P (a .gates)
+all-before {a = a} g h = all-front (a .gates) (g .more) (rw (g .gates) at h)

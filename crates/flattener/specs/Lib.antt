@@ -11,5 +11,5 @@ pub mod Places
 pub mod Gates
 pub mod Plan
 pub mod Flat
-pub mod FlatNumbers
+pub mod FlatBytes
 pub mod Imaging

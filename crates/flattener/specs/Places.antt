@@ -1,10 +1,12 @@
 -- Where the parts of a module and of an occurrence stand in an image, and what stands there.
 use Prim.Native.Nat.{ℕ, _+_, _≤_, _<_}
 use mathlib.Core.Path.{_≡_, ap, _∙_}
+use mathlib.Core.Bool.{Bool, true}
 use mathlib.Core.List.{List}
 use native.Mathlib.Omega.{arith}
 use lib.ListN.{length, getD, take, drop}
 use Rattle.meaning.specs.Syntax.{Occurrence, Module}
+use Rattle.meaning.specs.Gates.{isGate}
 use Rattle.meaning.specs.Layout.{each, occurrenceNumbers, moduleNumbers}
 use Rattle.image.specs.Stands.{Stands, stands-part}
 use Rattle.flattener.specs.Slots.{listAt}
@@ -60,3 +62,16 @@ pub record PlaceIs (image : List ℕ) (at : ℕ) (o : Occurrence) (p : Place) : 
 
 abbrev pub PlaceOf : (image : List ℕ) (at : ℕ) (p : Place) → Type 0
 PlaceOf image at p = (o : Occurrence) → Stands image at (occurrenceNumbers o) → PlaceIs image at o p
+
+-- Some occurrence's numbers stand at a place, and if it refers to a gate it drives one net. Whether it does is the same of all that
+-- could stand there.
+abbrev pub OneNet : Occurrence → Type 0
+OneNet o = isGate (o .refers) ≡ true → length (o .drives) ≡ 1
+
+pub record ReferenceThere (image : List ℕ) (at : ℕ) : Type 0 where
+  pub o : Occurrence
+  pub standing : Stands image at (occurrenceNumbers o)
+  pub one : OneNet o
+
+abbrev pub GateOf : (image : List ℕ) (at : ℕ) (r : Bool) → Type 0
+GateOf image at r = (o : Occurrence) → Stands image at (occurrenceNumbers o) → OneNet o → r ≡ isGate (o .refers)

@@ -3,11 +3,14 @@ use Prim.Native.Nat.{ℕ, _+_, _≤_}
 use mathlib.Core.Path.{_≡_}
 use mathlib.Core.List.{List, _∷_}
 use lib.ListN.{length, getD, take, drop}
+use Rattle.meaning.specs.Lists.{All}
 use Rattle.meaning.specs.Syntax.{Module}
-use Rattle.meaning.specs.Layout.{each, occurrenceNumbers, moduleNumbers}
+use Rattle.meaning.specs.Layout.{each, moduleNumbers}
+use Rattle.meaning.specs.Ceilings.{OccurrenceWithin}
 use Rattle.meaning.specs.Limits.{netCount, mostModuleNets}
 use Rattle.meaning.specs.Figures.{largestReferred, room}
 use Rattle.meaning.specs.Flattening.{Board, Placed}
+use Rattle.laws.specs.Written.{occurrenceBytes}
 use Rattle.image.specs.Stands.{Stands}
 use Rattle.image.specs.Frames.{FramesOk}
 use Rattle.flattener.specs.Placing.{walkPlaced, placeFrames}
@@ -23,16 +26,13 @@ pub record Imaged (image starts nets : List ℕ) (rs : List Module) : Type 0 whe
   pub started : length rs ≤ length starts
   pub tabled : length rs ≤ length nets
 
--- What is placed: a module of the file, in front of the later ones, on a board whose gates stand in `around` from `base` on. Entries of
--- the scratch from `reach` on are none of its own.
+-- What is placed: a module of the file, in front of the later ones, on a board whose gates stand at the front of `around`.
 pub record Plan : Type 0 where
   pub rs : List Module
   pub m : Module
   pub later : List Module
   pub board : Board
   pub around : List ℕ
-  pub base : ℕ
-  pub reach : ℕ
 
 -- All that the module's walk gives, if the nets of its inputs stand at the front of the scratch.
 abbrev pub given : Plan → (scratch : List ℕ) → List ℕ
@@ -41,23 +41,22 @@ given p scratch = take (length (p .m .inputs)) scratch
 abbrev pub planned : Plan → (scratch : List ℕ) → Placed
 planned p scratch = walkPlaced (placeFrames (p .later)) (p .m .occurrences) (given p scratch) (p .board)
 
--- The plan can be carried out: its room is there, and its gates have numbers and places.
-pub record Ready (p : Plan) (image starts nets : List ℕ) (k : ℕ) (pen : Pen) (scratch numbers : List ℕ) : Type 0 where
+-- The plan can be carried out: its room is there, and its gates have numbers, can be written, and have places.
+pub record Ready (p : Plan) (image starts nets : List ℕ) (k : ℕ) (pen : Pen) (scratch bytes : List ℕ) : Type 0 where
   pub imaged : Imaged image starts nets (p .rs)
   pub here : drop k (p .rs) ≡ p .m ∷ p .later
-  pub room : netCount (p .m) + largestReferred (room (p .later)) (p .m .occurrences) ≤ p .reach
-  pub reached : p .reach ≤ length scratch
-  pub written : Written (p .around) (p .base) (p .board) pen numbers
+  pub room : netCount (p .m) + largestReferred (room (p .later)) (p .m .occurrences) ≤ length scratch
+  pub written : Written (p .around) (p .board) pen bytes
   pub few : planned p scratch .board .next ≤ mostModuleNets
-  pub long : p .base + length (each occurrenceNumbers (planned p scratch .board .gates)) ≤ length (p .around)
+  pub within : All OccurrenceWithin (planned p scratch .board .gates)
+  pub long : length (each occurrenceBytes (planned p scratch .board .gates)) ≤ length (p .around)
 
-pub record SomeReady (image starts nets : List ℕ) (k : ℕ) (pen : Pen) (scratch numbers : List ℕ) : Type 0 where
+pub record SomeReady (image starts nets : List ℕ) (k : ℕ) (pen : Pen) (scratch bytes : List ℕ) : Type 0 where
   pub plan : Plan
-  pub ready : Ready plan image starts nets k pen scratch numbers
+  pub ready : Ready plan image starts nets k pen scratch bytes
 
 -- It is carried out: the module's nets stand at the front of the scratch, and its gates are written.
-pub record Done (p : Plan) (before after : List ℕ) (pen : Pen) (numbers : List ℕ) : Type 0 where
+pub record Done (p : Plan) (before after : List ℕ) (pen : Pen) (bytes : List ℕ) : Type 0 where
   pub size : length after ≡ length before
   pub frame : take (netCount (p .m)) after ≡ planned p before .nets
-  pub kept : drop (p .reach) after ≡ drop (p .reach) before
-  pub written : Written (p .around) (p .base) (planned p before .board) pen numbers
+  pub written : Written (p .around) (planned p before .board) pen bytes

@@ -3,8 +3,9 @@ use Prim.Native.Nat.{ℕ, _+_, _≤_, _<_}
 use mathlib.Core.Path.{_≡_}
 use mathlib.Core.List.{List}
 use lib.ListN.{length, getD, take, drop}
+use Rattle.meaning.specs.Ceilings.{NetsWithin}
+use Rattle.laws.specs.Written.{netsBytes}
 use Rattle.image.specs.Frames.{readSlots, Filled}
-use Rattle.image.specs.Laid.{laid}
 
 -- The list whose count stands at a place.
 abbrev pub listAt : (image : List ℕ) (list : ℕ) → List ℕ
@@ -30,12 +31,9 @@ pub record Readable (image : List ℕ) (list : ℕ) (scratch : List ℕ) : Type 
   pub listed : list + 1 + getD image list 0 ≤ length image
   pub slots : Filled (length scratch) (listAt image list)
 
--- They can be written as a list of a file: there is room for their count and them.
-pub record Listable (image : List ℕ) (list : ℕ) (scratch numbers : List ℕ) (at : ℕ) : Type 0 where
+-- They can be written as a list of a file: its count is known, and there is room for the bytes.
+pub record Listable (image : List ℕ) (list count : ℕ) (scratch bytes : List ℕ) (at : ℕ) : Type 0 where
+  pub counted : count ≡ getD image list 0
   pub readable : Readable image list scratch
-  pub room : at + 1 + getD image list 0 ≤ length numbers
-
--- Numbers laid at a place, and the place behind them.
-pub record Laid (numbers before : List ℕ) (at : ℕ) (after : List ℕ) (next : ℕ) : Type 0 where
-  pub place : next ≡ at + length numbers
-  pub holds : after ≡ laid before at numbers
+  pub within : NetsWithin (netsAt image list scratch)
+  pub room : at + length (netsBytes (netsAt image list scratch)) ≤ length bytes

@@ -2,7 +2,7 @@
 ghost use Rattle.flattener.specs.Front.{Frontable, Fronted};
 
 // Count of modules, the module's number, the nets of its inputs and of its outputs, and the count of gates. The lists of inputs and
-// outputs stand in the image.
+// outputs stand in the image. Answers the place behind them.
 pub(crate) fn set_front(
     image: &[u16],
     inputs: usize,
@@ -10,14 +10,15 @@ pub(crate) fn set_front(
     number: u16,
     gates: u16,
     scratch: &[u16],
-    numbers: &mut [u16],
-)
-    requires { ⌜ Frontable (now image) inputs outputs (now scratch) (now numbers) ⌝ }
-    ensures { λ _. ⌜ Fronted (now (image .entry)) inputs outputs number gates (now (scratch .entry)) (now (numbers .entry)) (now (numbers .exit)) ⌝ }
+    bytes: &mut [u8],
+    at: usize,
+) -> usize
+    requires { ⌜ Frontable (now image) inputs outputs number gates (now scratch) (now bytes) at ⌝ }
+    ensures { λ r. ⌜ Fronted (now (image .entry)) inputs outputs number gates (now (scratch .entry)) (now (bytes .entry)) at (now (bytes .exit)) r ⌝ }
 {
-    numbers[0] = 1;
-    numbers[1] = number;
-    let at = crate::slots::put(image, inputs, scratch, numbers, 2);
-    let end = crate::slots::put(image, outputs, scratch, numbers, at);
-    numbers[end] = gates;
+    let own = encoder::put(1, bytes, at);
+    let first = encoder::put(number, bytes, own);
+    let second = crate::slots::put(image, inputs, image[inputs], scratch, bytes, first);
+    let third = crate::slots::put(image, outputs, image[outputs], scratch, bytes, second);
+    encoder::put(gates, bytes, third)
 }

@@ -1,32 +1,41 @@
 // The gates of the new module, written one behind the other.
-ghost use Rattle.flattener.specs.Gates.{Settable, Set};
+ghost use Rattle.laws.specs.Written.{occurrenceBytes};
+ghost use Rattle.encoder.specs.Filled.{Put};
+ghost use Rattle.flattener.specs.Places.{ReferenceThere, GateOf};
+ghost use Rattle.flattener.specs.Gates.{Settable, gateAt};
 
-// How far the new module has come: the number that the next gate drives, and the place behind the gates so far.
+// How far the new module has come: the number that the next gate drives, and the place behind the bytes of the gates so far.
 pub(crate) struct Pen {
     pub(crate) next: u16,
     pub(crate) at: usize,
 }
 
-// Writes a gate: the kind that stands at the place `refers`, on the nets at the slots of its list of arguments.
+// Whether the occurrence at a place of the image refers to a gate. A gate drives one net, so that its kind is the third number: an
+// occurrence that drives more is known without looking further.
+pub(crate) fn is_gate(image: &[u16], place: usize) -> bool
+    requires { ⌜ ReferenceThere (now image) place ⌝ }
+    ensures { λ r. ⌜ GateOf (now (image .entry)) place r ⌝ }
+{
+    image[place] == 1 && image[place + 2] < 16
+}
+
+// Writes the gate at a place of the image, with the net that it drives and the nets at the slots of its arguments. Answers the place
+// behind it.
 pub(crate) fn set_gate(
     image: &[u16],
-    refers: usize,
-    takes: usize,
-    pen: Pen,
+    place: usize,
+    net: u16,
     scratch: &[u16],
-    numbers: &mut [u16],
-) -> Pen
-    requires { ⌜ Settable (now image) refers takes pen (now scratch) (now numbers) ⌝ }
-    ensures { λ r. ⌜ Set (now (image .entry)) refers takes pen (now (scratch .entry)) (now (numbers .entry)) (now (numbers .exit)) r ⌝ }
+    bytes: &mut [u8],
+    at: usize,
+) -> usize
+    requires { ⌜ Settable (now image) place net (now scratch) (now bytes) at ⌝ }
+    ensures { λ r. ⌜ Put (occurrenceBytes (gateAt (now (image .entry)) place net (now (scratch .entry)))) (now (bytes .entry)) at (now (bytes .exit)) r ⌝ }
 {
-    let next = pen.next;
-    let at = pen.at;
-    numbers[at] = 1;
-    numbers[at + 1] = next;
-    numbers[at + 2] = image[refers];
-    let end = crate::slots::put(image, takes, scratch, numbers, at + 3);
-    Pen {
-        next: next + 1,
-        at: end,
-    }
+    let kind = image[place + 2];
+    let count = image[place + 3];
+    let drives = encoder::put(1, bytes, at);
+    let refers = encoder::put(net, bytes, drives);
+    let takes = encoder::put(kind, bytes, refers);
+    crate::slots::put(image, place + 3, count, scratch, bytes, takes)
 }

@@ -8,21 +8,26 @@ mod places;
 mod slots;
 mod walk;
 
-// The module at position k, flattened under its number: writes the numbers of the file that holds it alone to the front of `numbers`,
-// and answers how many they are. The gates come first, at the place that they have in the end, since the nets of the outputs are known
-// only behind them. The first `room` entries of scratch are 0 afterwards.
+// Where the gates of a flattened file end, and where all of its bytes do.
+pub struct Ends {
+    pub gates: usize,
+    pub whole: usize,
+}
+
+// The module at position k, flattened under its number: writes the bytes of the file that holds it alone to the front of `bytes`. The
+// gates come first, and behind them what stands in front of them in the file, since the nets of the outputs are known only behind the
+// gates. The scratch is left as the walk left it.
 pub fn flatten(
     image: &[u16],
     starts: &[usize],
     nets: &[usize],
     k: usize,
     number: u16,
-    room: usize,
     scratch: &mut [u16],
-    numbers: &mut [u16],
-) -> usize
-    requires { ⌜ Flattenable (now image) (now starts) (now nets) k number room (now scratch) (now numbers) ⌝ }
-    ensures { λ r. ⌜ ((f : Flattenable (now (image .entry)) (now (starts .entry)) (now (nets .entry)) k number room (now (scratch .entry)) (now (numbers .entry))) → Flattened (f .ms) number (f .m) room (now (scratch .entry)) (now (numbers .entry)) (now (scratch .exit)) (now (numbers .exit)) r) ⌝ }
+    bytes: &mut [u8],
+) -> Ends
+    requires { ⌜ Flattenable (now image) (now starts) (now nets) k number (now scratch) (now bytes) ⌝ }
+    ensures { λ r. ⌜ ((f : Flattenable (now (image .entry)) (now (starts .entry)) (now (nets .entry)) k number (now (scratch .entry)) (now (bytes .entry))) → Flattened (f .ms) number (f .m) (now (bytes .entry)) (now (bytes .exit)) r) ⌝ }
 {
     let start = starts[k];
     let header = crate::places::header_at(image, start);
@@ -30,18 +35,19 @@ pub fn flatten(
     crate::slots::number_inputs(inputs, scratch);
     let first = Pen {
         next: inputs as u16,
-        at: header.body - start + 2,
+        at: 0,
     };
-    let last = crate::walk::place_module(image, starts, nets, k, first, scratch, numbers);
-    crate::front::set_front(
+    let last = crate::walk::place_module(image, starts, nets, k, first, scratch, bytes);
+    let gates = last.at;
+    let whole = crate::front::set_front(
         image,
         start + 1,
         header.outputs,
         number,
         last.next - first.next,
         scratch,
-        numbers,
+        bytes,
+        gates,
     );
-    crate::slots::clear(room, scratch);
-    last.at
+    Ends { gates, whole }
 }

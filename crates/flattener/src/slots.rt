@@ -1,12 +1,12 @@
-// Lists of slots in the image, each behind its count: the nets that the scratch has there are copied within it, or written down.
+// Lists of slots in the image, each behind its count: the nets that the scratch has there are copied within it, or written as bytes.
 ghost use mathlib.Core.Path.{_≡_};
-ghost use mathlib.Core.List.{_++_};
 ghost use Prim.Native.Nat.{_≤_};
-ghost use lib.ListN.{length, drop, replicate};
+ghost use lib.ListN.{length, drop};
 ghost use Rattle.meaning.specs.Adder.{upFrom};
-ghost use Rattle.meaning.specs.Layout.{listNumbers};
+ghost use Rattle.laws.specs.Written.{netsBytes};
 ghost use Rattle.image.specs.Laid.{laid};
-ghost use Rattle.flattener.specs.Slots.{Copyable, Listable, Laid, netsAt};
+ghost use Rattle.encoder.specs.Filled.{Put};
+ghost use Rattle.flattener.specs.Slots.{Copyable, Listable, netsAt};
 
 // The nets at the slots of a list, counted from `source` on, to the places from `target` on.
 pub(crate) fn copy(image: &[u16], list: usize, source: usize, target: usize, scratch: &mut [u16])
@@ -25,21 +25,22 @@ pub(crate) fn copy(image: &[u16], list: usize, source: usize, target: usize, scr
 pub(crate) fn put(
     image: &[u16],
     list: usize,
+    count: u16,
     scratch: &[u16],
-    numbers: &mut [u16],
+    bytes: &mut [u8],
     at: usize,
 ) -> usize
-    requires { ⌜ Listable (now image) list (now scratch) (now numbers) at ⌝ }
-    ensures { λ r. ⌜ Laid (listNumbers (netsAt (now (image .entry)) list (now (scratch .entry)))) (now (numbers .entry)) at (now (numbers .exit)) r ⌝ }
+    requires { ⌜ Listable (now image) list count (now scratch) (now bytes) at ⌝ }
+    ensures { λ r. ⌜ Put (netsBytes (netsAt (now (image .entry)) list (now (scratch .entry)))) (now (bytes .entry)) at (now (bytes .exit)) r ⌝ }
 {
-    let count = image::entry(image, list);
-    numbers[at] = image[list];
+    let last = count as usize;
+    let mut end = encoder::put(count, bytes, at);
     let mut i = 0;
-    while i < count {
-        numbers[at + 1 + i] = scratch[image::entry(image, list + 1 + i)];
+    while i < last {
+        end = encoder::put(scratch[image::entry(image, list + 1 + i)], bytes, end);
         i += 1;
     }
-    at + 1 + count
+    end
 }
 
 // The nets of the new module's inputs, 0, 1, 2 and so on, in the first slots.
@@ -53,18 +54,6 @@ pub(crate) fn number_inputs(count: usize, scratch: &mut [u16])
     while i < count {
         scratch[i] = net;
         net += 1;
-        i += 1;
-    }
-}
-
-// Puts the first entries back to 0.
-pub(crate) fn clear(room: usize, scratch: &mut [u16])
-    requires { ⌜ room ≤ length (now scratch) ⌝ }
-    ensures { λ _. ⌜ now (scratch .exit) ≡ replicate room 0 ++ drop room (now (scratch .entry)) ⌝ }
-{
-    let mut i = 0;
-    while i < room {
-        scratch[i] = 0;
         i += 1;
     }
 }

@@ -14,13 +14,13 @@ pub(crate) fn place_module(
     k: usize,
     pen: Pen,
     scratch: &mut [u16],
-    numbers: &mut [u16],
+    bytes: &mut [u8],
 ) -> Pen
-    requires { ⌜ SomeReady (now image) (now starts) (now nets) k pen (now scratch) (now numbers) ⌝ }
-    ensures { λ r. ⌜ ((p : Plan) → Ready p (now (image .entry)) (now (starts .entry)) (now (nets .entry)) k pen (now (scratch .entry)) (now (numbers .entry)) → Done p (now (scratch .entry)) (now (scratch .exit)) r (now (numbers .exit))) ⌝ }
+    requires { ⌜ SomeReady (now image) (now starts) (now nets) k pen (now scratch) (now bytes) ⌝ }
+    ensures { λ r. ⌜ ((p : Plan) → Ready p (now (image .entry)) (now (starts .entry)) (now (nets .entry)) k pen (now (scratch .entry)) (now (bytes .entry)) → Done p (now (scratch .entry)) (now (scratch .exit)) r (now (bytes .exit))) ⌝ }
 {
     let header = crate::places::header_at(image, starts[k]);
-    walk(image, starts, nets, k, header, pen, scratch, numbers)
+    walk(image, starts, nets, k, header, pen, scratch, bytes)
 }
 
 // Its occurrences, from first to last. A module that one refers to works behind the slots of this one: its arguments are copied to the
@@ -33,37 +33,43 @@ fn walk(
     header: Header,
     pen: Pen,
     scratch: &mut [u16],
-    numbers: &mut [u16],
+    bytes: &mut [u8],
 ) -> Pen
-    requires { ⌜ SomeReady (now image) (now starts) (now nets) k pen (now scratch) (now numbers) ⌝ }
+    requires { ⌜ SomeReady (now image) (now starts) (now nets) k pen (now scratch) (now bytes) ⌝ }
     requires { ⌜ HeaderOf (now image) (getD (now starts) k 0) header ⌝ }
-    ensures { λ r. ⌜ ((p : Plan) → Ready p (now (image .entry)) (now (starts .entry)) (now (nets .entry)) k pen (now (scratch .entry)) (now (numbers .entry)) → Done p (now (scratch .entry)) (now (scratch .exit)) r (now (numbers .exit))) ⌝ }
+    ensures { λ r. ⌜ ((p : Plan) → Ready p (now (image .entry)) (now (starts .entry)) (now (nets .entry)) k pen (now (scratch .entry)) (now (bytes .entry)) → Done p (now (scratch .entry)) (now (scratch .exit)) r (now (bytes .exit))) ⌝ }
 {
     let frame = nets[k];
     let body = header.body;
     let count = image::entry(image, body);
-    let mut pen = pen;
+    // The pen's numbers by themselves, since a struct that is lent on is kept in memory.
+    let mut next = pen.next;
+    let mut to = pen.at;
     let mut at = body + 1;
     let mut filled = header.inputs;
     let mut i = 0;
     while i < count {
-        let place = crate::places::occurrence_at(image, at);
-        let refers = image::entry(image, place.refers);
-        let here = filled;
-        at = place.next;
-        filled += place.drives;
         i += 1;
-        if refers < 16 {
-            let net = pen.next;
-            pen = crate::gates::set_gate(image, place.refers, place.takes, pen, scratch, numbers);
-            scratch[here] = net;
+        if crate::gates::is_gate(image, at) {
+            let arguments = image::entry(image, at + 3);
+            to = crate::gates::set_gate(image, at, next, scratch, bytes, to);
+            scratch[filled] = next;
+            next += 1;
+            filled += 1;
+            at += 4 + arguments;
         } else {
-            let j = refers - 16;
+            let place = crate::places::occurrence_at(image, at);
+            let j = image::entry(image, place.refers) - 16;
             crate::slots::copy(image, place.takes, 0, frame, scratch);
-            pen = place_module(image, starts, nets, j, pen, &mut scratch[frame..], numbers);
+            let pen = Pen { next, at: to };
+            let pen = place_module(image, starts, nets, j, pen, &mut scratch[frame..], bytes);
+            next = pen.next;
+            to = pen.at;
             let referred = crate::places::header_at(image, starts[j]);
-            crate::slots::copy(image, referred.outputs, frame, here, scratch);
+            crate::slots::copy(image, referred.outputs, frame, filled, scratch);
+            filled += place.drives;
+            at = place.next;
         }
     }
-    pen
+    Pen { next, at: to }
 }

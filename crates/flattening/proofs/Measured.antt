@@ -1,6 +1,6 @@
 -- A module that is found in the image: where its header stands, how many nets it has when it is flat, and which lists are long enough
 -- for it.
-use Prim.Native.Nat.{ℕ, suc, _+_, _<_, _≤_, _^_}
+use Prim.Native.Nat.{ℕ, suc, _+_, _*_, _<_, _≤_, _^_}
 use mathlib.Core.Path.{_≡_, sym, ap, ap₂, subst, _∙_}
 use mathlib.Core.List.{List, _∷_}
 use native.Mathlib.Nat.{le-refl}
@@ -9,13 +9,16 @@ use lib.ListN.{length, getD, drop, length-drop}
 use Rattle.meaning.specs.Syntax.{Module}
 use Rattle.meaning.specs.Layout.{moduleNumbers}
 use Rattle.meaning.specs.Limits.{expandedSize, mostSize}
+use Rattle.meaning.specs.Reading.{mostNets}
 use Rattle.meaning.specs.Figures.{gateCount, tally}
+use Rattle.meaning.specs.Calls.{flatFile}
 use Rattle.laws.specs.WellFormed.{Accepted}
 use Rattle.laws.specs.Accepted.{good-accepted}
 use Rattle.laws.specs.Acceptable.{size-within}
 use Rattle.laws.specs.Bounds.{weight-size, gates-within}
 use Rattle.laws.specs.Figures.Bounds.{found-within}
 use Rattle.laws.specs.Figures.Tally.{total}
+use Rattle.laws.specs.Flatten.Bytes.{bytes-of-flat}
 use Rattle.image.specs.Stands.{Stands}
 use Rattle.image.specs.Resolved.{referTo, resolveModule, resolve}
 use Rattle.image.specs.Positions.{found-at}
@@ -26,7 +29,6 @@ use Rattle.runner.specs.declared.places.Header.{Header}
 use Rattle.figures.specs.Scene.{Imaged}
 use Rattle.figures.specs.Tallies.{Countable}
 use Rattle.figures.specs.Answers.{countable, tallied, tally-fits, gates-counted}
-use Rattle.flattener.specs.FlatNumbers.{count-of-flat-numbers, flat-numbers-fit}
 use Rattle.flattening.specs.Found.{Found, Placeable}
 use Rattle.flattening.proofs.RoomBound.{room-of-bytes}
 
@@ -101,21 +103,29 @@ module _ {image starts nets : List ℕ} {k number given : ℕ} (f : Found image 
     unfolding gateCount
     nets-below = omega (arith, inputs-counted headed, weight-size (λ kind. 1) (λ kind. le-refl 1) (f .ms) number)
 
+  -- At most 13 bytes for each net, two for each output, and nine more.
+  pub bytes-low :
+      {places : ℕ}
+      → 9 + 2 * mostNets + 13 * (length (f .m .inputs) + gateCount (f .ms) number) ≤ places
+      → length (flatFile (f .ms) number (f .m)) ≤ places
+  unfolding flatFile
+  bytes-low enough =
+      omega (
+        arith,
+        bytes-of-flat (f .ms) number (f .m) (f .accepted) (f .found),
+        found-within number (f .m) (f .within) (f .found) .outputs .count,
+      )
+
   abbrev pub small-placeable :
       given ≤ 1024
       → length (f .m .inputs) + gateCount (f .ms) number ≤ 1024
-      → Placeable image starts nets k number given 1024 8389
+      → Placeable image starts nets k number given 1024 13705
   small-placeable narrow few =
       record {
         here = f;
         few = omega arith;
         enough = narrow;
-        long =
-            omega (
-              arith,
-              count-of-flat-numbers (f .ms) number (f .m) (f .accepted) (f .found),
-              found-within number (f .m) (f .within) (f .found) .outputs .count,
-            );
+        long = bytes-low (omega arith);
       }
 
   pub room-low : given ≤ 65535
@@ -125,11 +135,11 @@ module _ {image starts nets : List ℕ} {k number given : ℕ} (f : Found image 
       {entries : ℕ}
       → given ≤ entries
       → length (f .m .inputs) + gateCount (f .ms) number ≤ 4096
-      → Placeable image starts nets k number given entries 32965
+      → Placeable image starts nets k number given entries 53641
   many-placeable enough few =
       record {
         here = f;
         few = few;
         enough = enough;
-        long = flat-numbers-fit (f .ms) number (f .m) (f .accepted) (f .found) (f .within) few;
+        long = bytes-low (omega arith);
       }

@@ -17,7 +17,7 @@ fn place_in(
     number: u16,
     room: usize,
     entries: &mut [u16],
-    flat: &mut [u16],
+    flat: &mut [u8],
     scratch: &mut [u32],
     out: &mut [u8],
 ) -> Writing
@@ -29,12 +29,12 @@ fn place_in(
         → Settles (fitting (flatFile (p .here .ms) number (p .here .m)) room (length (now (out .entry))))
         (now (scratch .entry)) (now (out .entry)) (now (scratch .exit)) (now (out .exit)) r) ⌝ }
 {
-    let count = flattener::flatten(image, starts, nets, k, number, room, entries, flat);
-    crate::answering::answer(&flat[..count], room, scratch, out)
+    let ends = flattener::flatten(image, starts, nets, k, number, entries, flat);
+    crate::answering::answer(flat, ends.gates, ends.whole, room, scratch, out)
 }
 
-// A module whose room is at most 1,024 and that has at most 1,024 nets when it is flat: eight numbers for each, 192 outputs and five
-// more.
+// A module whose room is at most 1,024 and that has at most 1,024 nets when it is flat: thirteen bytes for each, two for each of 192
+// outputs, and nine more.
 pub(crate) fn place_small(
     image: &[u16],
     starts: &[usize],
@@ -45,15 +45,15 @@ pub(crate) fn place_small(
     scratch: &mut [u32],
     out: &mut [u8],
 ) -> Writing
-    requires { ⌜ Placeable (now image) (now starts) (now nets) k number room 1024 8389 ⌝ }
+    requires { ⌜ Placeable (now image) (now starts) (now nets) k number room 1024 13705 ⌝ }
     requires { ⌜ room ≤ length (now scratch) ⌝ }
     ensures { λ r.
-        ⌜ ((p : Placeable (now (image .entry)) (now (starts .entry)) (now (nets .entry)) k number room 1024 8389)
+        ⌜ ((p : Placeable (now (image .entry)) (now (starts .entry)) (now (nets .entry)) k number room 1024 13705)
         → Settles (fitting (flatFile (p .here .ms) number (p .here .m)) room (length (now (out .entry))))
         (now (scratch .entry)) (now (out .entry)) (now (scratch .exit)) (now (out .exit)) r) ⌝ }
 {
-    let mut entries = [1u16; 1024];
-    let mut flat = [1u16; 8389];
+    let mut entries = [0u16; 1024];
+    let mut flat = [0u8; 13705];
     place_in(
         image,
         starts,
@@ -68,7 +68,7 @@ pub(crate) fn place_small(
     )
 }
 
-// A module whose room is at most 4,096, as it is where nothing in it refers to another module. 4,096 nets have 32,965 numbers at most.
+// A module whose room is at most 4,096, as it is where nothing in it refers to another module. 4,096 nets have 53,641 bytes at most.
 pub(crate) fn place_middle(
     image: &[u16],
     starts: &[usize],
@@ -79,15 +79,15 @@ pub(crate) fn place_middle(
     scratch: &mut [u32],
     out: &mut [u8],
 ) -> Writing
-    requires { ⌜ Placeable (now image) (now starts) (now nets) k number room 4096 32965 ⌝ }
+    requires { ⌜ Placeable (now image) (now starts) (now nets) k number room 4096 53641 ⌝ }
     requires { ⌜ room ≤ length (now scratch) ⌝ }
     ensures { λ r.
-        ⌜ ((p : Placeable (now (image .entry)) (now (starts .entry)) (now (nets .entry)) k number room 4096 32965)
+        ⌜ ((p : Placeable (now (image .entry)) (now (starts .entry)) (now (nets .entry)) k number room 4096 53641)
         → Settles (fitting (flatFile (p .here .ms) number (p .here .m)) room (length (now (out .entry))))
         (now (scratch .entry)) (now (out .entry)) (now (scratch .exit)) (now (out .exit)) r) ⌝ }
 {
-    let mut entries = [1u16; 4096];
-    let mut flat = [1u16; 32965];
+    let mut entries = [0u16; 4096];
+    let mut flat = [0u8; 53641];
     place_in(
         image,
         starts,
@@ -113,15 +113,15 @@ pub(crate) fn place_large(
     scratch: &mut [u32],
     out: &mut [u8],
 ) -> Writing
-    requires { ⌜ Placeable (now image) (now starts) (now nets) k number room 65535 32965 ⌝ }
+    requires { ⌜ Placeable (now image) (now starts) (now nets) k number room 65535 53641 ⌝ }
     requires { ⌜ room ≤ length (now scratch) ⌝ }
     ensures { λ r.
-        ⌜ ((p : Placeable (now (image .entry)) (now (starts .entry)) (now (nets .entry)) k number room 65535 32965)
+        ⌜ ((p : Placeable (now (image .entry)) (now (starts .entry)) (now (nets .entry)) k number room 65535 53641)
         → Settles (fitting (flatFile (p .here .ms) number (p .here .m)) room (length (now (out .entry))))
         (now (scratch .entry)) (now (out .entry)) (now (scratch .exit)) (now (out .exit)) r) ⌝ }
 {
-    let mut entries = [1u16; 65535];
-    let mut flat = [1u16; 32965];
+    let mut entries = [0u16; 65535];
+    let mut flat = [0u8; 53641];
     place_in(
         image,
         starts,

@@ -4,7 +4,7 @@ use borrow.Author.Needs.{needs}
 use mathlib.Core.Path.{sym, ap}
 use borrow.Author.Tests.{le-leb}
 use lib.Dec.{leb}
-use Rattle.encoder.proofs.Sizes.{at-most-double}
+use Rattle.encoder.specs.Sizes.{at-most-double}
 use Rattle.encoder.proofs.fits.Statement.{statement}
 use Rattle.encoder.proofs.fits.Tie as tie
 

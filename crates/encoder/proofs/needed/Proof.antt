@@ -5,7 +5,7 @@ use borrow.Author.Needs.{needs}
 use native.Mathlib.Omega.{arith}
 use mathlib.Core.Path.{ap}
 use lib.ListN.{length}
-use Rattle.encoder.proofs.Sizes.{Sized, sized-none, sized-more, sized-part, sized-all, at-most-double}
+use Rattle.encoder.specs.Sizes.{Sized, sized-none, sized-more, sized-part, sized-all, at-most-double}
 use Rattle.encoder.proofs.needed.Statement.{statement}
 use Rattle.encoder.proofs.needed.Tie as tie
 

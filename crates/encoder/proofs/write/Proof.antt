@@ -3,18 +3,21 @@ use Prim.Native.Nat.{_-_, _<_}
 use native.Mathlib.Omega.{arith}
 use lib.ListN.{length}
 use Rattle.laws.specs.Lists.{all-at}
-use Rattle.encoder.proofs.Writing.{Writing, writing-none, writing-length, writing-room, writing-more, writing-all}
+use Rattle.encoder.specs.Puts.{put-front}
+use Rattle.encoder.specs.Writing.{Writing, writing-none, writing-length, writing-room, writing-more, writing-all}
 use Rattle.encoder.proofs.write.Statement.{statement}
 use Rattle.encoder.proofs.write.Tie as tie
 
 abbrev Inv-loop : tie.InvT-loop
-Inv-loop numbers out₀ at₀ i₀ out at i = Writing numbers out₀ out at i
+Inv-loop numbers out₀ at₀ i₀ out at i = Writing numbers out₀ 0 out at i
 
 abbrev μ-loop : tie.MeasureT-loop
 μ-loop numbers out₀ at₀ i₀ out at i = length numbers - i
 
 loop-holds : tie.Need-loop-holds Inv-loop μ-loop
-loop-holds c = writing-none (c .before .before .args .numbers .now) (c .before .before .args .out .now)
+loop-holds c =
+    let start = c .before .before in
+    writing-none (start .args .numbers .now) (start .args .out .now) 0 (omega (arith, start .pre .room))
 
 mul-put : tie.Need-mul-put Inv-loop μ-loop
 mul-put c = omega arith
@@ -27,7 +30,7 @@ put-requires c κs =
     let start : tie.Start Inv-loop μ-loop = c .before .before .before .before .before .before in
     let head : tie.At-loop Inv-loop μ-loop = c .before .before .before in
     let inside : head .loop .i < length (start .args .numbers .now) = c .before .before .loop-test .taken in
-    (all-at (start .pre .small) (head .loop .i) 0 inside, writing-room (head .loop .inv) (start .pre) inside)
+    (all-at (start .pre .small) (head .loop .i) 0 inside, writing-room (head .loop .inv) inside)
 
 add-i : tie.Need-add-i Inv-loop μ-loop
 add-i c = omega arith
@@ -42,10 +45,10 @@ loop-again c =
     (c .before .before .put .ensures)
 
 same-length : tie.Need-same-length Inv-loop μ-loop
-same-length c = writing-length (c .before .loop .inv) (c .before .before .before .before .pre)
+same-length c = writing-length (c .before .loop .inv)
 
 returns : tie.Need-returns Inv-loop μ-loop
-returns c = writing-all (c .before .loop .inv) (c .loop-test .left)
+returns c = put-front (writing-all (c .before .loop .inv) (c .loop-test .left))
 
 pub write-spec : {M : Type 1} → statement M
 write-spec =

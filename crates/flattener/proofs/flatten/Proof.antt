@@ -1,5 +1,5 @@
--- `flattener::flatten` meets its contract: the plan of the module at its position is carried out behind the place of the numbers in
--- front of the gates, and then those are written. Assumes nothing.
+-- `flattener::flatten` meets its contract: the plan of the module at its position is carried out at the front of the bytes, and then what
+-- stands in front of the gates is written behind them. Assumes nothing.
 use borrow.Author.Needs.{needs}
 use native.Mathlib.Omega.{arith}
 use mathlib.Core.Path.{_≡_, refl}
@@ -10,7 +10,7 @@ use Rattle.flattener.specs.Places.{HeaderOf}
 use Rattle.flattener.specs.Plan.{Done}
 use Rattle.flattener.specs.Flat.{Flattenable}
 use Rattle.flattener.proofs.FlatPlan.{in-starts, module-there, head, plan, gates-few, inputs-inside, ready}
-use Rattle.flattener.proofs.FlatDone.{frontable, last-next, flattened, scratch-long}
+use Rattle.flattener.proofs.FlatDone.{last-next, frontable, flattened}
 use Rattle.flattener.proofs.flatten.Statement.{statement}
 use Rattle.flattener.proofs.flatten.Tie as tie
 
@@ -21,76 +21,57 @@ number-inputs-requires c κs =
     let of = c .before .header-at .ensures in
     (inputs-inside f of, omega (arith, gates-few f of))
 
-add-set-front : tie.Need-add-set-front
-add-set-front c =
-    let headed = c .before .before .before .before .before in
-    let start = headed .before .before .before .before .before .before .before in
-    omega (arith, head (start .pre) (headed .header-at .ensures) .occurrences .within, start .good .0)
-
 place-module-requires : tie.Need-place-module-requires
 place-module-requires c κs =
-    let headed = c .before .before .before .before .before .before .before in
-    let start = headed .before .before .before .before .before .before .before in
-    record { plan = _; ready = ready (start .pre) (headed .header-at .ensures) (c .before .before .before .before .before .number-inputs .ensures) refl refl }
+    record { plan = _; ready = ready (c .before .before .before .before .before .before .before .before .before .before .before .before .before .pre) (c .before .before .before .before .before .before .header-at .ensures) (c .before .before .before .before .number-inputs .ensures) refl refl }
 
 -- Where the module is placed: the header, the scratch with the nets of the inputs, and that the plan is carried out, of any file that
 -- could be flattened and of the caller's.
 of :
     (c : tie.After-place-module)
-    → (let args = c .before .before .before .before .before .before .before .before .before .before .before .before .before .before .before .args in
-    HeaderOf (args .image .now) (getD (args .starts .now) (args .k) 0) (c .before .before .before .before .before .before .before .before .header-at .result))
-of c = c .before .before .before .before .before .before .before .before .header-at .ensures
+    → (let args = c .before .before .before .before .before .before .before .before .before .before .before .before .before .before .args in
+    HeaderOf (args .image .now) (getD (args .starts .now) (args .k) 0) (c .before .before .before .before .before .before .before .header-at .result))
+of c = c .before .before .before .before .before .before .before .header-at .ensures
 
 numbered :
     (c : tie.After-place-module)
-    → (let args = c .before .before .before .before .before .before .before .before .before .before .before .before .before .before .before .args in
-    c .before .before .before .before .before .before .number-inputs .last .1 .0
-    ≡ laid (args .scratch .now) 0 (upFrom 0 (c .before .before .before .before .before .before .before .before .header-at .result .inputs)))
-numbered c = c .before .before .before .before .before .before .number-inputs .ensures
+    → (let args = c .before .before .before .before .before .before .before .before .before .before .before .before .before .before .args in
+    c .before .before .before .before .before .number-inputs .last .1 .0 ≡ laid (args .scratch .now) 0 (upFrom 0 (c .before .before .before .before .before .before .before .header-at .result .inputs)))
+numbered c = c .before .before .before .before .before .number-inputs .ensures
 
 carried :
     (c : tie.After-place-module)
-    → (let args = c .before .before .before .before .before .before .before .before .before .before .before .before .before .before .before .args in
-    (f :
-    Flattenable (args .image .now) (args .starts .now) (args .nets .now) (args .k) (args .number) (args .room) (args .scratch .now)
-    (args .numbers .now))
-    → Done (plan f (of c)) (c .before .before .before .before .before .before .number-inputs .last .1 .0) (c .place-module .last .1 .1 .1 .1 .1 .0)
-    (c .place-module .result) (c .place-module .last .1 .1 .1 .1 .1 .1 .0))
+    → (let args = c .before .before .before .before .before .before .before .before .before .before .before .before .before .before .args in
+    (f : Flattenable (args .image .now) (args .starts .now) (args .nets .now) (args .k) (args .number) (args .scratch .now) (args .bytes .now))
+    → Done (plan f (of c)) (c .before .before .before .before .before .number-inputs .last .1 .0) (c .place-module .last .1 .1 .1 .1 .1 .0) (c .place-module .result)
+    (c .place-module .last .1 .1 .1 .1 .1 .1 .0))
 carried c f = c .place-module .ensures _ (ready f (of c) (numbered c) refl refl)
 
 some :
     (c : tie.After-place-module)
-    → (let args = c .before .before .before .before .before .before .before .before .before .before .before .before .before .before .before .args in
-    Flattenable (args .image .now) (args .starts .now) (args .nets .now) (args .k) (args .number) (args .room) (args .scratch .now)
-    (args .numbers .now))
-some c = c .before .before .before .before .before .before .before .before .before .before .before .before .before .before .before .pre
+    → (let args = c .before .before .before .before .before .before .before .before .before .before .before .before .before .before .args in
+    Flattenable (args .image .now) (args .starts .now) (args .nets .now) (args .k) (args .number) (args .scratch .now) (args .bytes .now))
+some c = c .before .before .before .before .before .before .before .before .before .before .before .before .before .before .pre
 
-add-set-front-2 : tie.Need-add-set-front-2
-add-set-front-2 c =
+add-set-front : tie.Need-add-set-front
+add-set-front c =
     let placed = c .before .before .before .before in
-    let start = placed .before .before .before .before .before .before .before .before .before .before .before .before .before .before .before in
-    omega (arith, head (some placed) (of placed) .inputList .listed, start .good .0)
+    omega (arith, head (some placed) (of placed) .inputList .listed, placed .before .before .before .before .before .before .before .before .before .before .before .before .before .before .good .0)
 
-sub-set-front-2 : tie.Need-sub-set-front-2
-sub-set-front-2 c =
+sub-set-front : tie.Need-sub-set-front
+sub-set-front c =
     let placed = c .before .before .before .before .before .before in
     omega (arith, last-next (some placed) (of placed) (numbered placed) (carried placed (some placed)))
 
 set-front-requires : tie.Need-set-front-requires
 set-front-requires c κs =
     let placed = c .before .before .before .before .before .before .before .before in
-    frontable (some placed) (of placed) (numbered placed) (carried placed (some placed))
-
-clear-requires : tie.Need-clear-requires
-clear-requires c κs =
-    let placed = c .before .before .before .before .before .before .before .before .before .before .before .before in
-    omega (arith, some placed .enough, scratch-long (some placed) (of placed) (numbered placed) (carried placed (some placed)))
+    frontable (some placed) (of placed) (numbered placed) (carried placed (some placed)) refl
 
 returns : tie.Need-returns
 returns c f =
-    let placed = c .before .before .before .before .before .before .before .before .before .before .before .before .before .before .before in
-    flattened f (of placed) (numbered placed) (carried placed f) refl (c .before .before .before .before .before .before .set-front .ensures)
-    (c .before .before .clear .ensures)
+    let placed = c .before .before .before .before .before .before .before .before .before .before .before in
+    flattened f (of placed) (numbered placed) (carried placed f) refl (c .before .before .set-front .ensures)
 
 pub flatten-spec : {M : Type 1} → statement M
 flatten-spec =
@@ -100,18 +81,11 @@ flatten-spec =
     (λ c. in-starts (c .before .before .before .before .before .before .pre))
     (λ c κs. module-there (c .before .before .before .before .before .before .pre))
     number-inputs-requires
-    (λ c.
-    let headed = c .before .before .before .before in
-    omega (arith, gates-few (headed .before .before .before .before .before .before .before .pre) (headed .header-at .ensures)))
-    (λ c.
-    let headed = c .before .before .before .before .before in
-    omega (arith, head (headed .before .before .before .before .before .before .before .pre) (headed .header-at .ensures) .body))
-    add-set-front
+    (λ c. omega (arith, gates-few (c .before .before .before .before .before .before .before .before .before .before .before .pre) (c .before .before .before .before .header-at .ensures)))
     place-module-requires
-    add-set-front-2
-    sub-set-front-2
+    add-set-front
+    sub-set-front
     set-front-requires
-    clear-requires
     (λ c. search needs)
     (λ c. search needs)
     returns)

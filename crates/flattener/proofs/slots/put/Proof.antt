@@ -1,68 +1,56 @@
 -- `flattener::slots::put` meets its contract. The loop's invariant: behind the count the nets at the slots before the i-th are written.
 -- Assumes nothing.
-use Prim.Native.Nat.{_+_, _-_}
+use Prim.Native.Nat.{_-_}
 use native.Mathlib.Omega.{arith}
-use mathlib.Core.Path.{_≡_, refl, _∙_}
-use lib.ListN.{length, getD, set, length-set}
+use mathlib.Core.Path.{_∙_}
+use Rattle.laws.specs.Lists.{all-at}
+use Rattle.encoder.specs.Writing.{Writing, writing-length, writing-room, writing-more, writing-all}
 use Rattle.flattener.specs.Slots.{netsAt}
-use Rattle.flattener.proofs.Filling.{Filling, filling-none, filling-length, filling-more, filling-all}
-use Rattle.flattener.proofs.Putting.{Turn, turn, count-of-nets, whole}
+use Rattle.flattener.proofs.Putting.{Turn, turn, count-of-nets, count-room, counted-long, none-written, whole}
 use Rattle.flattener.proofs.slots.put.Statement.{statement}
 use Rattle.flattener.proofs.slots.put.Tie as tie
 
 abbrev Inv-loop : tie.InvT-loop
-Inv-loop image list scratch numbers₀ at count i₀ numbers i = Filling numbers₀ (at + 1) (netsAt image list scratch) i numbers
+Inv-loop image list count scratch bytes₀ at last end₀ i₀ bytes end i = Writing (netsAt image list scratch) bytes₀ end₀ bytes end i
 
 abbrev μ-loop : tie.MeasureT-loop
-μ-loop image list scratch numbers₀ at count i₀ numbers i = count - i
+μ-loop image list count scratch bytes₀ at last end₀ i₀ bytes end i = last - i
+
+put-requires : tie.Need-put-requires Inv-loop μ-loop
+put-requires c κs =
+    let pre = c .before .before .before .before .pre in
+    (omega (arith, count-of-nets pre, pre .within .count), count-room pre)
 
 loop-holds : tie.Need-loop-holds Inv-loop μ-loop
-loop-holds c =
-    let start = c .before .before .before .before .before in
-    let args = start .args in
-    let counted = set (args .numbers .now) (args .at) (getD (args .image .now) (args .list) 0) in
-    let same : length counted ≡ length (args .numbers .now) = length-set (args .numbers .now) (args .at) _ in
-    filling-none counted (args .at + 1) (netsAt (args .image .now) (args .list) (args .scratch .now))
-    (omega (arith, start .pre .room, count-of-nets (start .pre), same))
+loop-holds c = none-written (c .before .before .before .before .before .before .before .pre) (c .before .before .put .ensures)
 
 -- Where a turn stands once its slot is read.
 here :
-    (c : tie.After-entry2 Inv-loop μ-loop)
-    → (let args = c .before .before .before .before .before .before .before .before .args in
-    let head = c .before .before in
-    let first = getD (args .image .now) (args .list) 0 in
-    Turn (args .image .now) (args .list) (args .scratch .now) (set (args .numbers .now) (args .at) first) (head .loop .i) (c .entry2 .result) (head .loop .numbers))
-here c =
-    let start = c .before .before .before .before .before .before .before .before in
-    turn (start .pre) (c .before .before .loop .inv) (omega arith) (c .entry2 .ensures)
+    (c : tie.After-entry Inv-loop μ-loop)
+    → (let args = c .before .before .before .before .before .before .before .before .before .before .args in
+    Turn (args .image .now) (args .list) (args .scratch .now) (c .before .before .loop .i) (c .entry .result))
+here c = turn (c .before .before .before .before .before .before .before .before .before .before .pre) (c .before .loop-test .taken) (c .entry .ensures)
 
-mul-numbers-3 : tie.Need-mul-numbers-3 Inv-loop μ-loop
-mul-numbers-3 c = omega (arith, here c .inside)
-
-shared-slice-read-numbers-2 : tie.Need-shared-slice-read-numbers-2 Inv-loop μ-loop
-shared-slice-read-numbers-2 c = here (c .before) .inside
-
-slice-write-numbers-2 : tie.Need-slice-write-numbers-2 Inv-loop μ-loop
-slice-write-numbers-2 c = omega (arith, here (c .before) .more, c .before .before .before .loop .inv .room, here (c .before) .same)
+put-requires-2 : tie.Need-put-requires-2 Inv-loop μ-loop
+put-requires-2 c κs =
+    let t = here (c .before .before) in
+    let pre = c .before .before .before .before .before .before .before .before .before .before .before .before .pre in
+    let w = c .before .before .before .before .loop .inv in
+    rw (t .value) (all-at (pre .within .numbers) (c .before .before .before .before .loop .i) 0 (t .more), writing-room w (t .more))
 
 loop-again : tie.Need-loop-again Inv-loop μ-loop
 loop-again c =
-    let t = here (c .before) in
-    filling-more (c .before .before .before .loop .inv) (t .more) refl (t .value)
+    let t = here (c .before .before .before .before .before) in
+    writing-more (c .before .before .before .before .before .before .before .loop .inv) (t .more) (rw (t .value) at (c .before .before .put2 .ensures))
 
 same-length : tie.Need-same-length Inv-loop μ-loop
-same-length c =
-    let args = c .before .before .before .before .before .before .before .args in
-    filling-length (c .before .loop .inv) ∙ length-set (args .numbers .now) (args .at) (getD (args .image .now) (args .list) 0)
+same-length c = writing-length (c .before .loop .inv) ∙ counted-long (c .before .before .before .before .before .before .before .before .before .pre) (c .before .before .before .before .put .ensures)
 
 returns : tie.Need-returns Inv-loop μ-loop
 returns c =
-    let start = c .before .before .before .before .before .before .before in
-    let count = count-of-nets (start .pre) in
-    record {
-      place = omega (arith, count, c .before .before .before .entry .ensures);
-      holds = filling-all (c .before .loop .inv) (omega (arith, count)) ∙ whole (start .pre);
-    }
+    let pre = c .before .before .before .before .before .before .before .before .before .pre in
+    whole pre (c .before .before .before .before .put .ensures)
+    (writing-all (c .before .loop .inv) (omega (arith, count-of-nets pre)))
 
 pub put-spec : {M : Type 1} → statement M
 put-spec =
@@ -70,25 +58,16 @@ put-spec =
     (tie.spec
     Inv-loop
     μ-loop
-    (λ c κs. omega arith)
-    (λ c. omega arith)
-    (λ c. omega arith)
-    (λ c. omega arith)
-    (λ c. omega arith)
+    put-requires
     loop-holds
-    (λ c. omega arith)
-    (λ c. omega arith)
-    (λ c κs. omega arith)
-    mul-numbers-3
-    shared-slice-read-numbers-2
-    (λ c. omega arith)
-    (λ c. omega arith)
-    (λ c. omega arith)
-    slice-write-numbers-2
+    (λ c. omega (arith, c .before .before .before .before .before .before .before .before .before .pre .counted, c .before .before .before .before .before .before .before .before .before .pre .readable .listed))
+    (λ c. omega (arith, c .before .before .before .before .before .before .before .before .before .pre .counted, c .before .before .before .before .before .before .before .before .before .pre .readable .listed))
+    (λ c κs. omega (arith, c .before .before .before .before .before .before .before .before .before .pre .counted, c .before .before .before .before .before .before .before .before .before .pre .readable .listed))
+    (λ c. omega (arith, here c .inside))
+    (λ c. here (c .before) .inside)
+    put-requires-2
     (λ c. omega arith)
     (λ c. omega arith)
     loop-again
-    (λ c. omega arith)
-    (λ c. omega arith)
     same-length
     returns)

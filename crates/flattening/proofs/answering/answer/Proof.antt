@@ -1,42 +1,35 @@
--- The encoder decides 22, and only then something lent is written.
-use Prim.Native.Nat.{_≤_}
-use mathlib.Core.Path.{sym, _∙_}
+-- The length of the bytes decides 22, and only then something lent is written. Assumes nothing.
 use borrow.Author.Needs.{needs}
-use borrow.Author.Tests.{leb-true, leb-false}
-use lib.ListN.{length}
-use Rattle.meaning.specs.Layout.{each, numberBytes}
+use native.Mathlib.Omega.{arith}
+use Rattle.flattening.specs.Order.{frontFirst}
 use Rattle.flattening.proofs.Ending.{ends-short, ends-written}
+use Rattle.flattening.proofs.Pasting.{length-of-parts, parts-pasted}
 use Rattle.flattening.proofs.answering.answer.Statement.{statement}
 use Rattle.flattening.proofs.answering.answer.Tie as tie
 
--- There is room for the bytes where the encoder says so.
-room :
-    (c : tie.Then1)
-    → (let args = c .before .before .before .before .before .args in length (each numberBytes (args .numbers .now)) ≤ length (args .out .now))
-room c = leb-true _ _ (sym (c .before .fits2 .ensures) ∙ c .if1 .taken)
-
-write-requires : tie.Need-write-requires
-write-requires c κs = record { small = c .before .before .before .before .before .before .before .before .before .before .pre .0; room = room (c .before .before .before .before .before) }
-
 returns : tie.Need-returns
 returns c =
-    let args = c .before .before .before .before .before .before .before .before .before .before .before .before .before .args in
-    ends-written (each numberBytes (args .numbers .now)) (args .room) (args .scratch .now) (args .out .now) (room (c .before .before .before .before .before .before .before .before))
-    (c .before .before .before .before .before .before .clear .ensures) (c .before .before .write .ensures)
+    let start = c .before .before .before .before .before .before .before .before .before .before .before .before .before .before .before .before in
+    let args = start .args in
+    let long = length-of-parts (args .bytes .now) (args .gates) (args .whole) (start .pre .0) (start .pre .1 .0) in
+    ends-written (frontFirst (args .bytes .now) (args .gates) (args .whole)) (args .room) (args .scratch .now) (args .out .now) (omega (arith, long, c .before .before .before .before .before .before .before .before .before .before .before .before .if1 .taken)) (c .before .before .before .before .before .before .before .before .before .before .clear .ensures)
+    (parts-pasted (args .bytes .now) (args .gates) (args .whole) (start .pre .0) (start .pre .1 .0) (c .before .before .before .before .before .before .copy .ensures) (c .before .before .copy2 .ensures))
 
 returns-2 : tie.Need-returns-2
 returns-2 c =
-    let args = c .before .before .before .before .before .args in
-    ends-short (each numberBytes (args .numbers .now)) (args .room) (args .scratch .now) (args .out .now)
-    (leb-false _ _ (sym (c .before .fits2 .ensures) ∙ c .if1 .left))
+    let start = c .before .before .before .before in
+    let args = start .args in
+    let long = length-of-parts (args .bytes .now) (args .gates) (args .whole) (start .pre .0) (start .pre .1 .0) in
+    ends-short (frontFirst (args .bytes .now) (args .gates) (args .whole)) (args .room) (args .scratch .now) (args .out .now) (omega (arith, long, c .if1 .left))
 
 pub answer-spec : {M : Type 1} → statement M
 answer-spec =
     tie.close
     (tie.spec
+    (λ c. search needs)
     (λ c κs. search needs)
     (λ c κs. search needs)
-    write-requires
+    (λ c κs. search needs)
     (λ c. search needs)
     (λ c. search needs)
     returns

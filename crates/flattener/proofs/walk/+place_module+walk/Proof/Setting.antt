@@ -9,12 +9,14 @@ use borrow.Fn.PlainCycle.{Measures, is, falls, and}
 use Rattle.flattener.specs.Plan.{Plan, Ready}
 use Rattle.flattener.proofs.Progress.{Progress}
 use Rattle.flattener.proofs.Turns.{Turn, turn}
+use Rattle.flattener.proofs.ModuleTurns.{Called, called}
 use Rattle.flattener.proofs.walk.place_module.Reads as place-module
 use Rattle.flattener.proofs.walk.place_module.Kinds as place-module-kinds
 use Rattle.flattener.proofs.walk.+place_module+walk.Lts-place_module as place-module-lts
 use Rattle.flattener.proofs.walk.walk.Reads as walk
 use Rattle.flattener.proofs.walk.walk.Kinds as walk-kinds
 use Rattle.flattener.proofs.walk.+place_module+walk.Lts-walk as walk-lts
+use Rattle.flattener.proofs.gates.is_gate.Reads as is-gate-reads
 use Rattle.flattener.proofs.gates.set_gate.Reads as set-gate-reads
 use Rattle.flattener.proofs.places.header_at.Reads as header-at-reads
 use Rattle.flattener.proofs.places.occurrence_at.Reads as occurrence-at-reads
@@ -49,10 +51,12 @@ abbrev pub walk-claims : ℕ → walk-lts.Claims
 walk-claims t = (
   entry-reads.Asked,
   entry-reads.Learnt,
-  occurrence-at-reads.Asked,
-  occurrence-at-reads.Learnt,
+  is-gate-reads.Asked,
+  is-gate-reads.Learnt,
   set-gate-reads.Asked,
   set-gate-reads.Learnt,
+  occurrence-at-reads.Asked,
+  occurrence-at-reads.Learnt,
   copy-reads.Asked,
   copy-reads.Learnt,
   place-module-below t,
@@ -62,45 +66,70 @@ walk-claims t = (
 )
 
 abbrev pub Inv-loop : walk-lts.InvT-loop
-Inv-loop image starts nets k scratch₀ numbers₀ frame body count pen₀ at₀ filled₀ i₀ scratch numbers pen at filled i =
+Inv-loop image starts nets k scratch₀ bytes₀ frame body count next₀ to₀ at₀ filled₀ i₀ scratch bytes next to at filled i =
     (p : Plan)
-    → Ready p image starts nets k pen₀ scratch₀ numbers₀
-    → Progress p image scratch₀ frame count scratch numbers pen at filled i
+    → Ready p image starts nets k (record { next = next₀; at = to₀ }) scratch₀ bytes₀
+    → Progress p image scratch₀ frame count scratch bytes (record { next = next; at = to }) at filled i
 
 abbrev pub μ-loop : walk-lts.MeasureT-loop
-μ-loop image starts nets k scratch₀ numbers₀ frame body count pen₀ at₀ filled₀ i₀ scratch numbers pen at filled i = count - i
+μ-loop image starts nets k scratch₀ bytes₀ frame body count next₀ to₀ at₀ filled₀ i₀ scratch bytes next to at filled i = count - i
 
--- A turn of the walk, once the occurrence is found and the number that it refers to is read: of any plan that can be carried out, and
--- of the one that the caller has.
+-- A turn of the walk, once it is known whether the occurrence refers to a gate: of any plan that can be carried out, and of the one
+-- that the caller has.
 abbrev pub Turning : ℕ → Type 0
-Turning t = walk-lts.After-entry2 (walk-claims t) (walk-at t) walk.Post Inv-loop μ-loop
+Turning t = walk-lts.After-is-gate (walk-claims t) (walk-at t) walk.Post Inv-loop μ-loop
 
 pub here :
     (t : ℕ) (c : Turning t)
-    → (let args = c .before .before .before .before .before .before .before .before .before .before .before .args in
-    let head = c .before .before .before in
+    → (let args = c .before .before .before .before .before .before .before .before .before .before .args in
+    let head = c .before .before in
     (p : Plan)
-    → Ready p (args .image .now) (args .starts .now) (args .nets .now) (args .k) (args .pen) (args .scratch .now) (args .numbers .now)
+    → Ready p (args .image .now) (args .starts .now) (args .nets .now) (args .k) (args .pen) (args .scratch .now) (args .bytes .now)
     → Turn p (args .image .now) (args .scratch .now) (getD (args .nets .now) (args .k) 0) (head .before .entry .result)
-    (head .loop .scratch) (head .loop .numbers) (head .loop .pen) (head .loop .at) (head .loop .filled) (head .loop .i)
-    (c .before .occurrence-at .result) (c .entry2 .result))
-here t c p ready =
-    turn (c .before .before .before .loop .inv p ready) (c .before .before .loop-test .taken) (c .before .occurrence-at .ensures) (c .entry2 .ensures)
+    (head .loop .scratch) (head .loop .bytes) (record { next = head .loop .next; at = head .loop .to }) (head .loop .at)
+    (head .loop .filled) (head .loop .i) (c .is-gate .result))
+here t c p ready = turn (c .before .before .loop .inv p ready) (c .before .loop-test .taken) (c .is-gate .ensures)
 
 pub ready :
     (t : ℕ) (c : Turning t)
-    → (let start = c .before .before .before .before .before .before .before .before .before .before .before in
+    → (let start = c .before .before .before .before .before .before .before .before .before .before in
     let args = start .args in
     Ready (start .pre .1 .0 .plan) (args .image .now) (args .starts .now) (args .nets .now) (args .k) (args .pen) (args .scratch .now)
-    (args .numbers .now))
-ready t c = c .before .before .before .before .before .before .before .before .before .before .before .pre .1 .0 .ready
+    (args .bytes .now))
+ready t c = c .before .before .before .before .before .before .before .before .before .before .pre .1 .0 .ready
 
 pub some :
     (t : ℕ) (c : Turning t)
-    → (let start = c .before .before .before .before .before .before .before .before .before .before .before in
+    → (let start = c .before .before .before .before .before .before .before .before .before .before in
     let args = start .args in
-    let head = c .before .before .before in
+    let head = c .before .before in
     Turn (start .pre .1 .0 .plan) (args .image .now) (args .scratch .now) (getD (args .nets .now) (args .k) 0) (head .before .entry .result)
-    (head .loop .scratch) (head .loop .numbers) (head .loop .pen) (head .loop .at) (head .loop .filled) (head .loop .i)
-    (c .before .occurrence-at .result) (c .entry2 .result))
+    (head .loop .scratch) (head .loop .bytes) (record { next = head .loop .next; at = head .loop .to }) (head .loop .at)
+    (head .loop .filled) (head .loop .i) (c .is-gate .result))
 some t c = here t c _ (ready t c)
+
+-- Where it refers to a module, once its number is read: the same two.
+abbrev pub Calling : ℕ → Type 0
+Calling t = walk-lts.After-entry3 (walk-claims t) (walk-at t) walk.Post Inv-loop μ-loop
+
+pub called-here :
+    (t : ℕ) (c : Calling t)
+    → (let args = c .before .before .before .before .before .before .before .before .before .before .before .before .before .args in
+    let head = c .before .before .before .before .before in
+    (p : Plan)
+    → Ready p (args .image .now) (args .starts .now) (args .nets .now) (args .k) (args .pen) (args .scratch .now) (args .bytes .now)
+    → Called p (args .image .now) (args .scratch .now) (getD (args .nets .now) (args .k) 0) (head .before .entry .result)
+    (head .loop .scratch) (head .loop .bytes) (record { next = head .loop .next; at = head .loop .to }) (head .loop .at)
+    (head .loop .filled) (head .loop .i) (c .before .occurrence-at .result) (c .entry3 .result))
+called-here t c p able =
+    called (here t (c .before .before .before) p able) (c .before .occurrence-at .ensures) (c .before .before .if1 .left) (c .entry3 .ensures)
+
+pub called-some :
+    (t : ℕ) (c : Calling t)
+    → (let start = c .before .before .before .before .before .before .before .before .before .before .before .before .before in
+    let args = start .args in
+    let head = c .before .before .before .before .before in
+    Called (start .pre .1 .0 .plan) (args .image .now) (args .scratch .now) (getD (args .nets .now) (args .k) 0) (head .before .entry .result)
+    (head .loop .scratch) (head .loop .bytes) (record { next = head .loop .next; at = head .loop .to }) (head .loop .at)
+    (head .loop .filled) (head .loop .i) (c .before .occurrence-at .result) (c .entry3 .result))
+called-some t c = called-here t c _ (ready t (c .before .before .before))
