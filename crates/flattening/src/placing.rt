@@ -1,6 +1,7 @@
 // The walk. How many bytes a flattened file has is known only behind the walk, and a refusal changes nothing that was lent: so the
-// walk has entries of its own, of two bytes since they hold nets of the flattened module, and the lent scratch is cleared only when the
-// call is sure to be answered. A module that is small gets short lists, so that it does not pay for clearing long ones.
+// walk writes to a list of its own, in entries of its own, of two bytes since they hold nets of the flattened module; what is lent is
+// written only when the call is sure to be answered. A module that is small gets short lists, so that it does not pay for clearing long
+// ones.
 use writer::Writing;
 ghost use Prim.Native.Nat.{_≤_};
 ghost use lib.ListN.{length};
