@@ -12,7 +12,7 @@ use Rattle.encoder.specs.Filled.{Filled}
 use Rattle.writer.specs.declared.answer.Writing.{Writing}
 use Rattle.writer.specs.declared.answer.Writing.the-variants.{Wrote, Refused}
 use Rattle.writer.specs.Answers.{Answers}
-use Rattle.writer.proofs.Puts.{take-front}
+use Rattle.encoder.specs.Puts.{take-front}
 
 module _ (modules : ℕ → List Module) (width : ℕ) (before : List ℕ) where
   pub answers-narrow : width < 1 → Answers (writing modules width (length before)) before before (Refused 23 0)

@@ -7,7 +7,7 @@ use lib.ListN.{length, set, length-append}
 use Rattle.encoder.specs.Filled.{Put}
 use Rattle.encoder.proofs.Filling.{put-stores}
 use Rattle.writer.specs.Rooms.{Room}
-use Rattle.writer.proofs.Puts.{put-none, put-more, length-put}
+use Rattle.encoder.specs.Puts.{put-none, put-more, length-put}
 
 pub record Laying (whole left before : List ℕ) (at : ℕ) (after : List ℕ) (next : ℕ) : Type 0 where
   pub room : at + length whole ≤ length before

@@ -1,5 +1,4 @@
 -- Facts that the functions' proofs share.
-pub mod Puts
 pub mod Laying
 pub mod Encoding
 pub mod Runs

@@ -1,7 +1,7 @@
 -- `answer::answer` meets its contract: the lengths decide 22, and only then a byte is written. Assumes nothing.
 use native.Mathlib.Omega.{arith}
 use borrow.Author.Needs.{needs}
-use Rattle.writer.proofs.Puts.{put-front}
+use Rattle.encoder.specs.Puts.{put-front}
 use Rattle.writer.proofs.Answering.{answers-short, answers-file}
 use Rattle.writer.proofs.answer.answer.Statement.{statement}
 use Rattle.writer.proofs.answer.answer.Tie as tie

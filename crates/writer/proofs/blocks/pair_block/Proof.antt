@@ -4,7 +4,7 @@ use borrow.Author.Needs.{needs}
 use Rattle.meaning.specs.Layout.{each, occurrenceNumbers, moduleNumbers}
 use Rattle.meaning.specs.Adder.{upFrom}
 use Rattle.writer.specs.Heads.{headNumbers}
-use Rattle.writer.proofs.Puts.{put-more}
+use Rattle.encoder.specs.Puts.{put-more}
 use Rattle.writer.proofs.blocks.pair_block.Statement.{statement}
 use Rattle.writer.proofs.blocks.pair_block.Tie as tie
 

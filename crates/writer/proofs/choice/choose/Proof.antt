@@ -5,7 +5,7 @@ use native.Mathlib.Omega.{arith}
 use mathlib.Core.Path.{_≡_}
 use lib.ListN.{length}
 use Rattle.meaning.specs.Layout.{occurrenceNumbers}
-use Rattle.writer.proofs.Puts.{put-more}
+use Rattle.encoder.specs.Puts.{put-more}
 use Rattle.writer.proofs.Laying.{Laying, laying-none, laying-length, laying-room, laying-more, laying-all}
 use Rattle.writer.proofs.Choices.{choiceNumbers, choiceFrom, bitAt, whole-choice, rest-of-choice, no-choice}
 use Rattle.writer.proofs.choice.choose.Statement.{statement}

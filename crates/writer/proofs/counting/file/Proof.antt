@@ -8,7 +8,7 @@ use Rattle.meaning.specs.Layout.{each, moduleNumbers}
 use Rattle.meaning.specs.Counter.{blocks, counterModule}
 use Rattle.laws.specs.Counter.File.{counter-numbers-few, bytes-of-counter}
 use Rattle.writer.specs.Rooms.{Room}
-use Rattle.writer.proofs.Puts.{put-front}
+use Rattle.encoder.specs.Puts.{put-front}
 use Rattle.writer.proofs.Digits.{some-digit, few-digits}
 use Rattle.writer.proofs.Laying.{laying-start, laying-left, laying-put, laying-last, room-first}
 use Rattle.writer.proofs.CounterFile.{file-of-counter}

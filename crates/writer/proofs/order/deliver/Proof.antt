@@ -6,7 +6,7 @@ use mathlib.Core.Path.{sym}
 use lib.Seq.{length-take-le}
 use Rattle.meaning.specs.Layout.{encode}
 use Rattle.writer.specs.Orders.{modulesOf}
-use Rattle.writer.proofs.Puts.{front-within}
+use Rattle.encoder.specs.Puts.{front-within}
 use Rattle.writer.proofs.Answering.{answers-file, answers-laid}
 use Rattle.writer.proofs.order.deliver.Statement.{statement}
 use Rattle.writer.proofs.order.deliver.Tie as tie

@@ -7,7 +7,7 @@ use Rattle.meaning.specs.Layout.{each, moduleNumbers, numberBytes}
 use Rattle.meaning.specs.Adder.{rippleAdder, fullAdder, halfAdder}
 use Rattle.laws.specs.Adder.Bytes.{most-bytes-of-adder}
 use Rattle.writer.specs.Rooms.{Room}
-use Rattle.writer.proofs.Puts.{put-front}
+use Rattle.encoder.specs.Puts.{put-front}
 use Rattle.writer.proofs.Laying.{laying-start, laying-left, laying-put, laying-last, room-first}
 use Rattle.writer.proofs.Modules.{file-of-modules}
 use Rattle.writer.proofs.ripple.file.Statement.{statement}

@@ -4,7 +4,7 @@ use native.Mathlib.Omega.{arith}
 use borrow.Author.Needs.{needs}
 use lib.ListN.{length}
 use Rattle.meaning.specs.Layout.{each, occurrenceNumbers, moduleNumbers}
-use Rattle.writer.proofs.Puts.{put-more}
+use Rattle.encoder.specs.Puts.{put-more}
 use Rattle.writer.proofs.ripple.full_adder.Statement.{statement}
 use Rattle.writer.proofs.ripple.full_adder.Tie as tie
 

@@ -2,7 +2,7 @@
 use native.Mathlib.Omega.{arith}
 use borrow.Author.Needs.{needs}
 use Rattle.laws.specs.Adder.Nets.{length-upFrom}
-use Rattle.writer.proofs.Puts.{put-more}
+use Rattle.encoder.specs.Puts.{put-more}
 use Rattle.writer.proofs.rows.row.Statement.{statement}
 use Rattle.writer.proofs.rows.row.Tie as tie
 
