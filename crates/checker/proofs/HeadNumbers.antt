@@ -1,23 +1,26 @@
--- The numbers of a module in front of its occurrences: where they stand, and what setting them down leaves in the image.
-use Prim.Native.Nat.{ℕ, suc, _+_, _≤_, _<_}
-use mathlib.Core.Path.{_≡_, refl, sym, ap, _∙_}
+-- The numbers of a module in front of its occurrences: where they stand, and what putting its position and slots in their places leaves.
+use Prim.Native.Nat.{ℕ, suc, _+_, _<_}
+use mathlib.Core.Path.{_≡_, refl, sym, ap, ap₂, subst, _∙_}
 use mathlib.Core.Bool.{Bool}
 use mathlib.Core.List.{List, [], _∷_, _++_, map, append-assoc, append-nil}
 use native.Mathlib.Omega.{arith}
-use lib.ListN.{length, getD, set, length-append, length-map}
+use lib.ListN.{length, getD, drop, set, length-append, length-map, length-set}
+use lib.Seq.{drop-set-lt}
 use Rattle.meaning.specs.Syntax.{Module}
 use Rattle.meaning.specs.Layout.{each, listNumbers, occurrenceNumbers, moduleNumbers}
 use Rattle.nets.specs.Slots.{Knows, slotOf}
-use Rattle.image.specs.Stands.{Stands, stands-tail, stands-front, stands-skip}
+use Rattle.image.specs.Stands.{Stands, stands-tail, stands-front, stands-skip, stands-alike}
 use Rattle.image.specs.Pieces.{moved, module-at}
-use Rattle.image.specs.Laid.{laid, set-laid}
-use Rattle.checker.specs.Lists.{Listed, ListReady, ListWritten}
+use Rattle.image.specs.Laid.{laid, laid-after, laid-before-own, set-laid}
+use Rattle.checker.specs.Lists.{ListReady, ListWritten}
 use Rattle.checker.specs.Heads.{headNumbers, HeadWritable, HeadWritten}
 use Rattle.checker.proofs.Parts.{part, part-stands}
-use Rattle.checker.proofs.Laying.{Lies, lay-list, lay-one}
 use Rattle.checker.proofs.Listing.{Behind}
 
-pub head-and-body : (m : Module) → moduleNumbers m ≡ headNumbers (m .number) (m .inputs) (m .outputs) (length (m .occurrences)) ++ each occurrenceNumbers (m .occurrences)
+abbrev pub headOf : Module → List ℕ
+headOf m = headNumbers (m .number) (m .inputs) (m .outputs) (length (m .occurrences))
+
+pub head-and-body : (m : Module) → moduleNumbers m ≡ headOf m ++ each occurrenceNumbers (m .occurrences)
 unfolding moduleNumbers
 head-and-body m =
     ap (λ (l : List ℕ). m .number ∷ l)
@@ -27,20 +30,32 @@ head-and-body m =
     body : List ℕ
     body = each occurrenceNumbers (m .occurrences)
 
-module _ {numbers : List ℕ} {s : ℕ} (m : Module) (stands : Stands numbers s (moduleNumbers m)) where
-  behind : List ℕ
-  behind = length (m .occurrences) ∷ each occurrenceNumbers (m .occurrences)
+-- Where the head of a module stands: its two lists, and the count of its occurrences behind them.
+module _ {numbers : List ℕ} {s : ℕ} (m : Module) (stands : Stands numbers s (headOf m)) where
+  pub inputs-in-head : Stands numbers (s + 1) (listNumbers (m .inputs))
+  inputs-in-head = stands-front (listNumbers (m .outputs) ++ (length (m .occurrences) ∷ [])) (stands-tail stands)
 
-  -- The inputs with their count, and the outputs with theirs.
+  from-outputs : (p : ℕ) → p ≡ s + 2 + length (m .inputs) → Stands numbers p (listNumbers (m .outputs) ++ (length (m .occurrences) ∷ []))
+  from-outputs p e = moved (s + 1 + suc (length (m .inputs))) (e ∙ omega arith) (stands-skip (listNumbers (m .inputs)) (stands-tail stands))
+
+  outputs-in-head : (p : ℕ) → p ≡ s + 2 + length (m .inputs) → Stands numbers p (listNumbers (m .outputs))
+  outputs-in-head p e = stands-front (length (m .occurrences) ∷ []) (from-outputs p e)
+
+  count-in-head : (p : ℕ) → p ≡ s + 3 + length (m .inputs) + length (m .outputs) → Stands numbers p (length (m .occurrences) ∷ [])
+  count-in-head p e =
+      moved (s + 2 + length (m .inputs) + suc (length (m .outputs))) (e ∙ omega arith)
+      (stands-skip (listNumbers (m .outputs)) (from-outputs (s + 2 + length (m .inputs)) refl))
+
+-- It stands in front of the module's occurrences.
+module _ {numbers : List ℕ} {s : ℕ} (m : Module) (stands : Stands numbers s (moduleNumbers m)) where
+  pub head-stands : Stands numbers s (headOf m)
+  head-stands = stands-front (each occurrenceNumbers (m .occurrences)) (subst (Stands numbers s) (head-and-body m) stands)
+
   pub inputs-stand : Stands numbers (s + 1) (listNumbers (m .inputs))
-  unfolding moduleNumbers behind
-  inputs-stand = stands-front (listNumbers (m .outputs) ++ behind) (stands-tail stands)
+  inputs-stand = inputs-in-head m head-stands
 
   pub outputs-stand : (p : ℕ) → p ≡ s + 2 + length (m .inputs) → Stands numbers p (listNumbers (m .outputs))
-  unfolding moduleNumbers behind
-  outputs-stand p e =
-      moved (s + 1 + suc (length (m .inputs))) (e ∙ omega arith)
-      (stands-front behind (stands-skip (listNumbers (m .inputs)) (stands-tail stands)))
+  outputs-stand = outputs-in-head m head-stands
 
 -- Where a head's parts stand: the count of outputs at n, that of occurrences at e.
 pub record Places (numbers : List ℕ) (s n e : ℕ) (m : Module) : Type 0 where
@@ -72,61 +87,86 @@ places {numbers} {s} {n} {e} first second m stands =
       inside = omega (arith, p .end);
     }
 
--- Position, two lists and a count side by side.
-lay-head :
-    {im₁ im₂ : List ℕ} (im : List ℕ) (s number : ℕ) (xs ys : List ℕ) (n o e : ℕ) → im₁ ≡ laid (set im s number) (s + 1) (listNumbers xs)
-    → im₂ ≡ laid im₁ o (listNumbers ys) → o ≡ s + 2 + length xs → e ≡ s + 3 + length xs + length ys → e < length im
-    → set im₂ e n ≡ laid im s (headNumbers number xs ys n)
-lay-head {im₁} {im₂} im s number xs ys n o e first second at-o at-e fits =
-    let one : Lies im s (number ∷ []) (set im s number) = record { is = set-laid im s number (omega arith) } in
-    let two : Lies im s (number ∷ listNumbers xs) im₁ =
-    record { is = first ∙ lay-list one (s + 1) (listNumbers xs) (omega arith) (omega arith) .is } in
-    let three : Lies im s ((number ∷ listNumbers xs) ++ listNumbers ys) im₂ =
-    record { is = second ∙ lay-list two o (listNumbers ys) (omega arith) (omega arith) .is } in
-    let four = lay-one three e n (omega (arith, length-append (number ∷ listNumbers xs) (listNumbers ys))) (omega arith) in
-    four .is ∙ ap (laid im s) (append-assoc (number ∷ listNumbers xs) (listNumbers ys) (n ∷ []))
+-- With another number in front, and behind it what putting slots in the inputs' places left.
+module _ {numbers : List ℕ} (number : ℕ) (m : Module) (stands : Stands numbers 0 (headOf m)) where
+  inputs-left : Stands (set numbers 0 number) 1 (listNumbers (m .inputs))
+  inputs-left = stands-alike (drop-set-lt 1 numbers 0 number (omega arith)) (length-set numbers 0 number) (inputs-in-head m stands)
 
-module _ {numbers slots : List ℕ} {base k s nets : ℕ} {image : List ℕ} where
-  -- A list of nets of the module can be set down.
-  pub list-ready :
-      {image₁ : List ℕ} {at : ℕ} → HeadWritable numbers slots base k s nets image → length image₁ ≡ length image
-      → Listed numbers at → ListReady numbers slots base at nets image₁
-  list-ready w sized listed =
-      record {
-        listed = listed;
-        few = w .few;
-        high = w .high;
-        short = w .short;
-        indexSlots = w .indexSlots;
-        room = omega (arith, w .room);
-      }
+  outputs-left :
+      {slots numbers₁ : List ℕ} {base nets o : ℕ} {r : Bool} → Behind numbers 1 o → length numbers₁ ≡ length (set numbers 0 number)
+      → ListWritten (set numbers 0 number) slots base 1 nets numbers₁ r → Stands numbers₁ o (listNumbers (m .outputs))
+  outputs-left {numbers₁ = numbers₁} {o = o} behind sized w =
+      let e : o ≡ 1 + 1 + length (m .inputs) = behind (m .inputs) (inputs-in-head m stands) in
+      let same = subst (λ (p : ℕ). drop p numbers₁ ≡ drop p (set numbers 0 number)) (sym e) (w .behind (m .inputs) inputs-left) in
+      stands-alike (same ∙ drop-set-lt o numbers 0 number (omega arith)) (sized ∙ length-set numbers 0 number)
+      (outputs-in-head m stands o (e ∙ omega arith))
+
+-- A number, two lists and the count that stands behind them side by side.
+lay-head :
+    {im im₁ im₂ : List ℕ} (number : ℕ) (xs ys : List ℕ) (n o : ℕ) → im₁ ≡ laid (set im 0 number) 1 (listNumbers xs)
+    → im₂ ≡ laid im₁ o (listNumbers ys) → o ≡ 2 + length xs → Stands im (3 + length xs + length ys) (n ∷ [])
+    → im₂ ≡ laid im 0 (headNumbers number xs ys n)
+lay-head {im} {im₁} {im₂} number xs ys n o first second at-o count =
+    let before = number ∷ listNumbers xs in
+    let both = before ++ listNumbers ys in
+    let within = count .within in
+    let one : set im 0 number ≡ laid im 0 (number ∷ []) = set-laid im 0 number (omega arith) in
+    let behind : o ≡ 0 + length before = omega arith in
+    let long : 0 + length both ≡ 3 + length xs + length ys = omega (arith, length-append before (listNumbers ys)) in
+    second
+    ∙ ap₂ (λ (l : List ℕ) (p : ℕ). laid l p (listNumbers ys)) (first ∙ ap (λ (l : List ℕ). laid l 1 (listNumbers xs)) one) behind
+    ∙ ap (λ (l : List ℕ). laid l (0 + length before) (listNumbers ys)) (laid-after im 0 (number ∷ []) (listNumbers xs) (omega arith))
+    ∙ laid-after im 0 before (listNumbers ys) (omega arith)
+    ∙ laid-before-own 0 both (n ∷ []) (omega arith) (moved (3 + length xs + length ys) long count)
+    ∙ ap (laid im 0) (append-assoc before (listNumbers ys) (n ∷ []))
+
+module _ {numbers slots : List ℕ} {base k nets : ℕ} where
+  module _ (w : HeadWritable numbers slots base k nets) where
+    -- Slots can take the places of the inputs, and then those of the outputs.
+    pub inputs-ready : ListReady (set numbers 0 (16 + k)) slots base 1 nets
+    inputs-ready =
+        record {
+          listed = record { list = w .m .inputs; stands = inputs-left (16 + k) (w .m) (w .stands) };
+          inSlots = w .inputsIndex;
+          few = w .few;
+          high = w .high;
+          short = omega (arith, w .short, length-set numbers 0 (16 + k));
+        }
+
+    pub outputs-ready :
+        {numbers₁ : List ℕ} {o : ℕ} {r : Bool} → Behind numbers 1 o → length numbers₁ ≡ length (set numbers 0 (16 + k))
+        → ListWritten (set numbers 0 (16 + k)) slots base 1 nets numbers₁ r → ListReady numbers₁ slots base o nets
+    outputs-ready behind sized ins =
+        record {
+          listed = record { list = w .m .outputs; stands = outputs-left (16 + k) (w .m) (w .stands) behind sized ins };
+          inSlots = w .outputsIndex;
+          few = w .few;
+          high = w .high;
+          short = omega (arith, w .short, length-set numbers 0 (16 + k));
+        }
 
   pub head-written :
-      {image₁ image₂ : List ℕ} {n e : ℕ} {inputs outputs : Bool} → Behind numbers (s + 1) n → Behind numbers n e
-      → ListWritten numbers slots base (s + 1) nets (set image s (16 + k)) image₁ inputs
-      → ListWritten numbers slots base n nets image₁ image₂ outputs
-      → length numbers ≤ length image
-      → HeadWritten numbers slots base k s nets image (set image₂ e (getD numbers e 0)) outputs
-  head-written {image₁} {image₂} {n} {e} {inputs} {outputs} first second ins outs room =
+      {numbers₁ numbers₂ : List ℕ} {o : ℕ} {inputs outputs : Bool} → Behind numbers 1 o → length numbers₁ ≡ length (set numbers 0 (16 + k))
+      → ListWritten (set numbers 0 (16 + k)) slots base 1 nets numbers₁ inputs
+      → ListWritten numbers₁ slots base o nets numbers₂ outputs
+      → HeadWritten numbers slots base k nets numbers₂ outputs
+  head-written {numbers₁} {numbers₂} {o} behind sized ins outs =
       record {
         written = λ m known stands knows count inputsKnown.
-            let q = places first second m stands in
             let some = all known knows in
-            let i = ins .written (m .inputs) known [] (inputs-stand m stands) some count in
-            let o = outs .written (m .outputs) known [] (outputs-stand m stands n (q .behindInputs)) some count in
+            let i = ins .written (m .inputs) known [] (inputs-left (16 + k) m stands) some count in
+            let q = outs .written (m .outputs) known [] (outputs-left (16 + k) m stands behind sized ins) some count in
             let xs = map (λ (x : ℕ). slotOf x known) (m .inputs) in
             let ys = map (λ (x : ℕ). slotOf x known) (m .outputs) in
             let longer : length xs ≡ length (m .inputs) = length-map (m .inputs) (λ (x : ℕ). slotOf x known) in
             let longest : length ys ≡ length (m .outputs) = length-map (m .outputs) (λ (x : ℕ). slotOf x known) in (
-              o .0,
+              q .0,
               λ t.
-                  lay-head image s (16 + k) xs ys (getD numbers e 0) n e
-                  (i .1 (i .0 ∙ inputsKnown) ∙ none (set image s (16 + k)) (s + 1) known (m .inputs))
-                  (o .1 t ∙ none image₁ n known (m .outputs))
-                  (q .behindInputs ∙ omega arith)
-                  (q .behindOutputs ∙ omega arith)
-                  (omega (arith, q .inside))
-                  ∙ ap (λ (c : ℕ). laid image s (headNumbers (16 + k) xs ys c)) (q .occurrenceCount),
+                  lay-head (16 + k) xs ys (length (m .occurrences)) o
+                  (i .1 (i .0 ∙ inputsKnown) ∙ none (set numbers 0 (16 + k)) 1 known (m .inputs))
+                  (q .1 t ∙ none numbers₁ o known (m .outputs))
+                  (behind (m .inputs) (inputs-in-head m stands) ∙ omega arith)
+                  (count-in-head m stands (3 + length xs + length ys) (omega arith)),
             );
       }
     where

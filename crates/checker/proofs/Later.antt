@@ -28,7 +28,7 @@ unlisted x ms e = found-none (assoc x ms) (go (isBox (assoc x ms)) refl)
     go true t = absurd (omega (arith, e, firstOf-some x ms t))
     go false t = refl
 
-gone-after : (x : ℕ) (ms : List Module) (k : ℕ) → assoc x ms ≡ F → assoc x (drop k ms) ≡ F
+pub gone-after : (x : ℕ) (ms : List Module) (k : ℕ) → assoc x ms ≡ F → assoc x (drop k ms) ≡ F
 unfolding assoc
 gone-after x [] zero e = refl
 gone-after x [] (suc k) e = refl

@@ -1,19 +1,18 @@
--- A count with its list of nets: where the nets stand, and what setting it down leaves in the image.
-use Prim.Native.Nat.{ℕ, _+_, _≤_}
+-- A count with its list of nets: where the nets stand, and what putting slots in their places leaves.
+use Prim.Native.Nat.{ℕ, _+_, _-_, _≤_}
 use mathlib.Core.Path.{_≡_, sym, ap, subst, _∙_}
 use mathlib.Core.Bool.{Bool}
 use mathlib.Core.List.{List, [], _∷_, _++_, map}
 use native.Mathlib.Omega.{arith}
-use lib.ListN.{length, getD, set, length-map}
+use borrow.Rule.Slice.PartMut.{putMid, post-is, drop-put}
+use lib.ListN.{length, take, drop, length-map}
 use Rattle.meaning.specs.Layout.{listNumbers}
-use Rattle.nets.specs.Slots.{Knows, slotOf}
-use Rattle.nets.specs.Writing.{holding}
+use Rattle.nets.specs.Slots.{Knows, Below, slotOf}
 use Rattle.nets.specs.Tables.{Learnable, Learnt, Resolvable, Resolved}
-use Rattle.image.specs.Stands.{Stands, stands-head, stands-tail}
-use Rattle.image.specs.Laid.{laid, set-laid}
+use Rattle.image.specs.Stands.{Stands, stands-front, stands-tail}
+use Rattle.image.specs.Laid.{laid, laid-behind-own}
 use Rattle.checker.specs.Lists.{ListReady, ListLearnt, ListWritten}
-use Rattle.checker.proofs.Parts.{part, below-part, part-stands}
-use Rattle.checker.proofs.Laying.{Lies, lay-list}
+use Rattle.checker.proofs.Parts.{part, part-stands}
 
 -- A place is behind the list whose count stands at another.
 abbrev pub Behind : (numbers : List ℕ) → (at e : ℕ) → Type 0
@@ -30,65 +29,63 @@ list-at {e = e} list s behind =
     let b = behind list s in
     record { behind = b; is = part-stands e b (stands-tail s); end = omega (arith, s .within) }
 
--- The count was stored as it stands, and slots behind it.
+-- The numbers with another list in the nets' place.
+abbrev pub replacing : (numbers : List ℕ) (at e : ℕ) (xs : List ℕ) → List ℕ
+replacing numbers at e xs = putMid (at + 1) (e - (at + 1)) numbers xs
+
+-- Where each net became its slot, the count still stands in front.
 listed :
-    {numbers image′ : List ℕ} {at e : ℕ} {list : List ℕ} (slot : ℕ → ℕ) (image : List ℕ) → Stands numbers at (listNumbers list)
-    → ListAt numbers at e list → length numbers ≤ length image
-    → image′ ≡ holding (set image at (getD numbers at 0)) (at + 1) (map slot list)
-    → image′ ≡ laid image at (listNumbers (map slot list))
+    {numbers : List ℕ} {at e : ℕ} {list xs : List ℕ} (slot : ℕ → ℕ) → Stands numbers at (listNumbers list) → ListAt numbers at e list
+    → xs ≡ map slot list
+    → replacing numbers at e xs ≡ laid numbers at (listNumbers (map slot list))
 unfolding laid
-listed {numbers} {at = at} {list = list} slot image s l room held =
-    let n = getD numbers at 0 in
-    let long = length-map list slot in
-    let first : Lies image at (n ∷ []) (set image at n) = record { is = set-laid image at n (omega (arith, l .end)) } in
-    held
-    ∙ lay-list first (at + 1) (map slot list) (omega arith) (omega (arith, l .end, l .behind)) .is
-    ∙ ap (λ (m : ℕ). laid image at (m ∷ map slot list)) (stands-head s ∙ sym long)
+listed {numbers} {at} {e} {list} slot s l is =
+    let long : length (map slot list) ≡ length list = length-map list slot in
+    let end : e ≡ at + 1 + length (map slot list) = omega arith in
+    ap (λ (ys : List ℕ). replacing numbers at e ys) is
+    ∙ ap (λ (r : List ℕ). take (at + 1) numbers ++ (map slot list ++ r))
+    (post-is (at + 1) e numbers (omega arith) ∙ ap (λ (p : ℕ). drop p numbers) end)
+    ∙ laid-behind-own at (length list ∷ []) (map slot list) (omega arith) (stands-front list s)
+    ∙ ap (λ (n : ℕ). laid numbers at (n ∷ map slot list)) (sym long)
 
-module _ {numbers slots : List ℕ} {base at limit : ℕ} {image : List ℕ} {e : ℕ} where
-  module _
-      (w : ListReady numbers slots base at limit image) (l : ListAt numbers at e (w .listed .list)) {image′ : List ℕ}
-      (sized : length image′ ≡ length image) where
-    pub learnable : limit ≤ at → Learnable (part (at + 1) e numbers) slots base limit image′ (at + 1)
-    learnable low =
-        record {
-          inTable = below-part (at + 1) e (w .indexSlots);
-          few = omega (arith, ap length (l .is));
-          high = w .high;
-          room = omega (arith, ap length (l .is));
-        }
+module _ {numbers slots : List ℕ} {base at limit e : ℕ} where
+  module _ (w : ListReady numbers slots base at limit) (l : ListAt numbers at e (w .listed .list)) where
+    inTable : Below (length slots) (part (at + 1) e numbers)
+    inTable = subst (Below (length slots)) (sym (l .is)) (w .inSlots)
 
-    pub resolvable : Resolvable (part (at + 1) e numbers) slots base limit image′ (at + 1)
-    resolvable =
-        record {
-          inTable = below-part (at + 1) e (w .indexSlots);
-          few = w .few;
-          high = w .high;
-          room = omega (arith, ap length (l .is));
-        }
+    pub learnable : limit ≤ at → Learnable (part (at + 1) e numbers) slots base limit
+    learnable low = record { inTable = inTable; few = omega (arith, ap length (l .is)); high = w .high }
 
-  module _ {image′ : List ℕ} {r : Bool} (behind : Behind numbers at e) (room : length numbers ≤ length image) where
+    pub resolvable : Resolvable (part (at + 1) e numbers) slots base limit
+    resolvable = record { inTable = inTable; few = w .few; high = w .high }
+
+  module _ {xs : List ℕ} {r : Bool} (behind : Behind numbers at e) where
     pub list-learnt :
         {slots′ : List ℕ}
-        → ((nets : List ℕ) → Knows slots base nets → limit ≡ length nets
-        → Learnt nets (part (at + 1) e numbers) base (set image at (getD numbers at 0)) (at + 1) slots′ image′ r)
-        → ListLearnt numbers slots base at limit image slots′ image′ r
-    list-learnt {slots′} learnt =
+        → ((nets : List ℕ) → Knows slots base nets → limit ≡ length nets → Learnt nets (part (at + 1) e numbers) base xs slots′ r)
+        → (Below (base + 65536) slots → Below (base + 65536) slots′)
+        → ListLearnt numbers slots base at limit slots′ (replacing numbers at e xs) r
+    list-learnt {slots′} learnt low =
         record {
           learnt = λ list nets s k count.
               let l = list-at list s behind in
-              let a = subst (λ (xs : List ℕ). Learnt nets xs base (set image at (getD numbers at 0)) (at + 1) slots′ image′ r) (l .is) (learnt nets k count) in
-              (a .answer, a .knows, λ t. listed (λ (x : ℕ). slotOf x (nets ++ list)) image s l room (a .written t));
+              let a = subst (λ (ys : List ℕ). Learnt nets ys base xs slots′ r) (l .is) (learnt nets k count) in
+              (a .answer, a .knows, λ t. listed (λ (x : ℕ). slotOf x (nets ++ list)) s l (a .written t));
+          low = low;
         }
 
     pub list-written :
-        ((nets more : List ℕ) → Knows slots base (nets ++ more) → limit ≡ length nets
-        → Resolved nets more (part (at + 1) e numbers) (set image at (getD numbers at 0)) (at + 1) image′ r)
-        → ListWritten numbers slots base at limit image image′ r
-    list-written resolved =
+        length xs ≡ length (part (at + 1) e numbers)
+        → ((nets more : List ℕ) → Knows slots base (nets ++ more) → limit ≡ length nets → Resolved nets more (part (at + 1) e numbers) xs r)
+        → ListWritten numbers slots base at limit (replacing numbers at e xs) r
+    list-written long resolved =
         record {
           written = λ list nets more s k count.
               let l = list-at list s behind in
-              let a = subst (λ (xs : List ℕ). Resolved nets more xs (set image at (getD numbers at 0)) (at + 1) image′ r) (l .is) (resolved nets more k count) in
-              (a .answer, λ t. listed (λ (x : ℕ). slotOf x (nets ++ more)) image s l room (a .written t));
+              let a = subst (λ (ys : List ℕ). Resolved nets more ys xs r) (l .is) (resolved nets more k count) in
+              (a .answer, λ t. listed (λ (x : ℕ). slotOf x (nets ++ more)) s l (a .written t));
+          behind = λ list s.
+              let l = list-at list s behind in
+              subst (λ (p : ℕ). drop p (replacing numbers at e xs) ≡ drop p numbers) (l .behind)
+              (drop-put (at + 1) e numbers xs (omega arith) (l .end) (omega (arith, ap length (l .is))));
         }

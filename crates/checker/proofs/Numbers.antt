@@ -4,16 +4,12 @@ use mathlib.Core.Path.{_≡_, refl, sym, ap, _∙_}
 use mathlib.Core.Bool.{Bool, true, false, cond, true≢false, false≢true}
 use mathlib.Core.List.{List, [], _∷_}
 use native.Mathlib.Omega.{arith}
-use native.Mathlib.Nat.{suc-add}
 use lib.Dec.{eqb}
-use lib.ListN.{length, getD, set, drop}
+use lib.ListN.{length, getD, set}
 use lib.Seq.{getD-set-same, getD-set-other}
 use borrow.Author.Tests.{eqb-true, eqb-false}
 use Rattle.meaning.specs.Syntax.{Module}
 use Rattle.meaning.specs.Boxlist.{assoc, isBox, box}
-use Rattle.meaning.specs.Layout.{moduleNumbers}
-use Rattle.image.specs.Stands.{Stands, stands-head}
-use Rattle.checker.specs.Filed.{At}
 use Rattle.checker.specs.Numbering.{shifted, firstOf, firstRepeat}
 
 shifted-shifted : (k place : ℕ) → shifted k (shifted 1 place) ≡ shifted (k + 1) place
@@ -41,7 +37,7 @@ module _ (first : List ℕ) (k : ℕ) (m : Module) (later : List Module) where
           ∙ sym (shifted-shifted k (firstOf x later))
 
 -- A number is in the table exactly when a module has it.
-pub firstOf-none : (x : ℕ) (ms : List Module) → isBox (assoc x ms) ≡ false → firstOf x ms ≡ 0
+firstOf-none : (x : ℕ) (ms : List Module) → isBox (assoc x ms) ≡ false → firstOf x ms ≡ 0
 unfolding firstOf assoc
 firstOf-none x [] e = refl
 firstOf-none x (m ∷ ms) e = go (firstOf-none x ms) (eqb x (m .number)) e
@@ -90,26 +86,3 @@ module _ (first : List ℕ) (k : ℕ) (m : Module) (later : List Module) (tabled
       go : (b : Bool) → isBox (assoc (m .number) later) ≡ b → repeated ≡ k + cond b 0 (suc (firstRepeat later))
       go true e = absurd (omega (arith, firstOf-some (m .number) later e, none))
       go false e = omega arith
-
--- The module at a position of a list, and those after it.
-pub record Positioned (ms : List Module) (k : ℕ) : Type 0 where
-  pub m : Module
-  pub later : List Module
-  pub here : At ms k m later
-  pub after : drop (k + 1) ms ≡ later
-
-pub positioned : (ms : List Module) (k : ℕ) → k < length ms → Positioned ms k
-positioned [] k h = absurd (omega (arith, h))
-positioned (m ∷ ms) zero h = record { m = m; later = ms; here = refl; after = refl }
-positioned (m ∷ ms) (suc k) h =
-    let p = positioned ms k (omega arith) in
-    record { m = p .m; later = p .later; here = p .here; after = ap (λ (n : ℕ). drop n (m ∷ ms)) (suc-add k 1) ∙ p .after }
-
--- A module's number is the first of its numbers.
-pub record Headed (numbers : List ℕ) (at : ℕ) (m : Module) : Type 0 where
-  pub inside : at < length numbers
-  pub number : getD numbers at 0 ≡ m .number
-
-pub headed : (numbers : List ℕ) (at : ℕ) (m : Module) → Stands numbers at (moduleNumbers m) → Headed numbers at m
-unfolding moduleNumbers
-headed numbers at m s = record { inside = omega (arith, s .within); number = stands-head s }

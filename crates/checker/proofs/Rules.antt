@@ -1,10 +1,11 @@
--- The verdict on a module is made of three: rules 6 to 10 on its head, 11 to 14 on its occurrences, 15 and 16 at its end.
-use Prim.Native.Nat.{ℕ, zero, suc, _+_, _≤_}
+-- The verdict on a module whose number stands on no later one is made of three: rules 6 to 10 on its head, 11 to 14 on its occurrences,
+-- 15 and 16 at its end.
+use Prim.Native.Nat.{ℕ, zero, suc}
 use mathlib.Core.Path.{_≡_, refl, ap, _∙_}
 use mathlib.Core.Bool.{Bool, true, false, not, _&&_, _||_, cond}
 use mathlib.Core.List.{List, [], _∷_, _++_}
 use native.Mathlib.Omega.{arith}
-use borrow.Author.Tests.{not-true, leb-true}
+use borrow.Author.Tests.{not-true}
 use lib.Dec.{eqb, leb}
 use Rattle.meaning.specs.Syntax.{Module}
 use Rattle.meaning.specs.Gates.{isGate}
@@ -25,71 +26,49 @@ pub ruled-broken : (rule place : ℕ) (next : Verdict) → (rule ≡ 0 → ⊥) 
 ruled-broken zero place next n = absurd (n refl)
 ruled-broken (suc rule) place next n = refl
 
-module _ (k : ℕ) (m : Module) (later : List Module) where
+module _ (k : ℕ) (m : Module) (later : List Module) (unrepeated : isBox (assoc (m .number) later) ≡ false) where
   pub module-rules :
       moduleVerdict k m later
-      ≡ ruled (headRule (m .number) (isBox (assoc (m .number) later)) (m .inputs) (m .outputs)) k
+      ≡ ruled (headRule (m .number) (m .inputs) (m .outputs)) k
       (andThen (bodyVerdict k (m .occurrences) (m .inputs) later)
       (ruled (endRule (m .outputs) (driven (m .occurrences)) (netCount m)) k good))
   unfolding moduleVerdict headRule portsRule endRule
   module-rules =
-      head (isGate (m .number)) (isBox (assoc (m .number) later)) (duplicates (m .inputs)) (duplicates (m .outputs))
-      (disjoint (m .inputs) (m .outputs)) (ap (andThen (bodyVerdict k (m .occurrences) (m .inputs) later))
-      (end (subset (m .outputs) (driven (m .occurrences))) (leb (netCount m) mostModuleNets)))
+      rw unrepeated
+      (head (isGate (m .number)) (duplicates (m .inputs)) (duplicates (m .outputs)) (disjoint (m .inputs) (m .outputs))
+      (ap (andThen (bodyVerdict k (m .occurrences) (m .inputs) later))
+      (end (subset (m .outputs) (driven (m .occurrences))) (leb (netCount m) mostModuleNets))))
     where
       head :
-          (gate repeats twice again apart : Bool) {v w : Verdict} → v ≡ w
-          → keep 6 k (not gate) (keep 7 k (not repeats) (keep 8 k (not twice) (keep 9 k (not again) (keep 10 k apart v))))
-          ≡ ruled (cond gate 6 (cond repeats 7 (cond twice 8 (cond again 9 (cond apart 0 10))))) k w
-      head true repeats twice again apart e = refl
-      head false true twice again apart e = refl
-      head false false true again apart e = refl
-      head false false false true apart e = refl
-      head false false false false true e = e
-      head false false false false false e = refl
+          (gate twice again apart : Bool) {v w : Verdict} → v ≡ w
+          → keep 6 k (not gate) (keep 8 k (not twice) (keep 9 k (not again) (keep 10 k apart v)))
+          ≡ ruled (cond gate 6 (cond twice 8 (cond again 9 (cond apart 0 10)))) k w
+      head true twice again apart e = refl
+      head false true again apart e = refl
+      head false false true apart e = refl
+      head false false false true e = e
+      head false false false false e = refl
 
       end : (answered few : Bool) → keep 15 k answered (keep 16 k few good) ≡ ruled (cond answered (cond few 0 16) 15) k good
       end true true = refl
       end true false = refl
       end false few = refl
 
--- What it says that no rule on the head is broken.
-pub record FineHead (repeats : Bool) (inputs outputs : List ℕ) : Type 0 where
-  pub unrepeated : repeats ≡ false
-  pub distinct : duplicates inputs ≡ false
-  pub apart : disjoint inputs outputs ≡ true
-
-pub fine-head : (number : ℕ) (repeats : Bool) (inputs outputs : List ℕ) → headRule number repeats inputs outputs ≡ 0 → FineHead repeats inputs outputs
+-- Where no rule on the head is broken, no net is both input and output.
+pub fine-apart : (number : ℕ) (inputs outputs : List ℕ) → headRule number inputs outputs ≡ 0 → disjoint inputs outputs ≡ true
 unfolding headRule portsRule
-fine-head number repeats inputs outputs =
-    go (isGate number) repeats (duplicates inputs) (duplicates outputs) (disjoint inputs outputs) refl refl refl
+fine-apart number inputs outputs =
+    go (isGate number) (duplicates inputs) (duplicates outputs) (disjoint inputs outputs)
   where
     go :
-        (gate repeats′ twice again apart : Bool) → repeats ≡ repeats′ → duplicates inputs ≡ twice → disjoint inputs outputs ≡ apart
-        → _≡_ {A = ℕ} (cond gate 6 (cond repeats′ 7 (cond twice 8 (cond again 9 (cond apart 0 10))))) 0
-        → FineHead repeats inputs outputs
-    go true repeats′ twice again apart r d a e = absurd (omega (arith, e))
-    go false true twice again apart r d a e = absurd (omega (arith, e))
-    go false false true again apart r d a e = absurd (omega (arith, e))
-    go false false false true apart r d a e = absurd (omega (arith, e))
-    go false false false false true r d a e = record { unrepeated = r; distinct = d; apart = a }
-    go false false false false false r d a e = absurd (omega (arith, e))
-
--- And that none is broken at the end.
-pub record FineEnd (outputs nets : List ℕ) (count : ℕ) : Type 0 where
-  pub answered : subset outputs nets ≡ true
-  pub few : count ≤ mostModuleNets
-
-pub fine-end : (outputs nets : List ℕ) (count : ℕ) → endRule outputs nets count ≡ 0 → FineEnd outputs nets count
-unfolding endRule
-fine-end outputs nets count = go (subset outputs nets) (leb count mostModuleNets) refl refl
-  where
-    go :
-        (answered few : Bool) → subset outputs nets ≡ answered → leb count mostModuleNets ≡ few
-        → _≡_ {A = ℕ} (cond answered (cond few 0 16) 15) 0 → FineEnd outputs nets count
-    go true true a f e = record { answered = a; few = leb-true count mostModuleNets f }
-    go true false a f e = absurd (omega (arith, e))
-    go false few a f e = absurd (omega (arith, e))
+        (gate twice again apart : Bool)
+        → _≡_ {A = ℕ} (cond gate 6 (cond twice 8 (cond again 9 (cond apart 0 10)))) 0
+        → apart ≡ true
+    go true twice again apart e = absurd (omega (arith, e))
+    go false true again apart e = absurd (omega (arith, e))
+    go false false true apart e = absurd (omega (arith, e))
+    go false false false true e = refl
+    go false false false false e = absurd (omega (arith, e))
 
 -- Two lists are disjoint either way round.
 pub disjoint-sym : (xs ys : List ℕ) → disjoint xs ys ≡ disjoint ys xs

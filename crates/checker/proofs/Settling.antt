@@ -1,36 +1,51 @@
 -- A module whose head is fine: its occurrences can be checked, and what they and the end come to is the answer for the module.
-use Prim.Native.Nat.{ℕ, _+_, _-_, _*_, _≤_}
-use mathlib.Core.Path.{_≡_, sym, ap, ap₂, subst, _∙_}
+use Prim.Native.Nat.{ℕ, _+_, _*_, _≤_}
+use mathlib.Core.Path.{_≡_, refl, sym, ap, ap₂, subst, _∙_}
 use mathlib.Core.Bool.{true}
-use mathlib.Core.List.{List, [], _∷_, _++_, map}
+use mathlib.Core.List.{List, [], _∷_, _++_, map, append-nil}
 use native.Mathlib.Omega.{arith}
-use lib.ListN.{length, getD, length-append, length-map}
+use native.Mathlib.Nat.{zero-add}
+use lib.ListN.{length, getD, drop, length-append, length-map, drop-of-length-le}
+use lib.Seq.{take-append-seam, drop-append-seam}
 use Rattle.meaning.specs.Syntax.{Module}
 use Rattle.meaning.specs.Boxlist.{subset}
-use Rattle.meaning.specs.Limits.{driven, netCount, mostModuleNets}
+use Rattle.meaning.specs.Limits.{driven, netCount}
 use Rattle.meaning.specs.Layout.{each, listNumbers, occurrenceNumbers, moduleNumbers}
 use Rattle.meaning.specs.Verdict.{Verdict, good, refused, andThen, bodyVerdict, moduleVerdict}
-use Rattle.nets.specs.Slots.{Below, slotOf}
+use Rattle.nets.specs.Slots.{Below}
 use Rattle.nets.specs.Members.{subset-self, subset-append-left}
-use Rattle.nets.specs.Bounds.{below-more}
-use Rattle.nets.specs.Tables.{known-below}
-use Rattle.image.specs.Pieces.{module-at}
-use Rattle.image.specs.Laid.{laid, laid-before}
+use Rattle.nets.specs.Bounds.{below-part}
+use Rattle.image.specs.Stands.{Stands, stands-part, stands-whole}
+use Rattle.image.specs.Pieces.{ModuleAt, module-at}
+use Rattle.image.specs.Laid.{laid}
 use Rattle.image.specs.Resolved.{referTo, resolveOccurrence, resolveModule, netsOf, slotIn}
 use Rattle.image.specs.Shapes.{length-of-nets, length-of-resolved-body}
-use Rattle.checker.specs.Scene.{Tables}
-use Rattle.checker.specs.Notes.{notesFrom}
+use Rattle.sizes.specs.declared.Sums.{Sums}
+use Rattle.sizes.specs.Behind.{inside}
+use Rattle.checker.specs.Scene.{Scene, Indexes, Figured}
 use Rattle.checker.specs.Bodies.{BodyReady, BodyChecked, Walks, Finished, resolvedBody}
 use Rattle.checker.specs.Heads.{HeadJudged, HeadWritable, headNumbers, resolvedHead}
-use Rattle.checker.specs.Modules.{endRule, Ended, Ends, baseOf, Turn, Checks}
+use Rattle.checker.specs.Modules.{endRule, Ended, Settled}
 use Rattle.checker.specs.declared.occurrences.Walked.{Walked}
-use Rattle.checker.specs.declared.occurrences.Walked.the-variants as walked
-use Rattle.checker.specs.declared.modules.Checked.{Checked}
-use Rattle.checker.specs.declared.modules.Checked.the-variants.{Fine, Broken}
-use Rattle.checker.proofs.Rules.{ruled, ruled-broken, fine-end}
-use Rattle.checker.proofs.HeadNumbers.{head-and-body, Places}
-use Rattle.checker.proofs.Noting.{notes-fit}
-use Rattle.checker.proofs.Turns.{stands-here, within, unrepeated, scene, verdict-behind, end-here}
+use Rattle.checker.specs.declared.occurrences.Walked.the-variants.{Fine, Broken}
+use Rattle.checker.proofs.Rules.{ruled, ruled-broken}
+use Rattle.checker.proofs.HeadNumbers.{headOf, head-and-body, Places}
+use Rattle.checker.proofs.Turns.{verdict-behind, end-here}
+
+-- What bounds every number of a list bounds those of what stands in it.
+below-stands : {bound : ℕ} {l : List ℕ} {at : ℕ} {xs : List ℕ} → Stands l at xs → Below bound l → Below bound xs
+below-stands {at = at} {xs} s low = rw (stands-part s) at (below-part at (length xs) low)
+
+-- A list laid over the second of two, and over the first.
+laid-second : (xs ys zs : List ℕ) (at : ℕ) → at ≡ length xs → length zs ≡ length ys → laid (xs ++ ys) at zs ≡ xs ++ zs
+unfolding laid
+laid-second xs ys zs at e long =
+    let none : drop (at + length zs) (xs ++ ys) ≡ [] = drop-of-length-le (xs ++ ys) {i = at + length zs} (omega (arith, length-append xs ys)) in
+    rw (none, e, take-append-seam, append-nil)
+
+laid-first : (xs ys zs : List ℕ) → length zs ≡ length xs → laid (xs ++ ys) 0 zs ≡ zs ++ ys
+unfolding laid
+laid-first xs ys zs long = rw (zero-add, long, drop-append-seam)
 
 -- A resolved module is its head and its resolved occurrences.
 resolved-module :
@@ -43,148 +58,148 @@ resolved-module ms k m =
     (sym (length-map (m .occurrences) (resolveOccurrence (slotIn m) (referTo ms))))
     ∙ sym (head-and-body (resolveModule (referTo ms) k m))
 
-length-of-head : (k : ℕ) (m : Module) (nets : List ℕ) → length (resolvedHead k m nets) ≡ 4 + length (m .inputs) + length (m .outputs)
-length-of-head k m nets =
-    let xs = map (λ (x : ℕ). slotOf x nets) (m .inputs) in
-    let ys = map (λ (x : ℕ). slotOf x nets) (m .outputs) in
-    omega (
-      arith,
-      length-append (listNumbers xs) (listNumbers ys ++ (length (m .occurrences) ∷ [])),
-      length-append (listNumbers ys) (length (m .occurrences) ∷ []),
-      length-map (m .inputs) (λ (x : ℕ). slotOf x nets),
-      length-map (m .outputs) (λ (x : ℕ). slotOf x nets),
-    )
+length-of-head : (number : ℕ) (xs ys : List ℕ) (count : ℕ) → length (headNumbers number xs ys count) ≡ 4 + length xs + length ys
+length-of-head number xs ys count =
+    omega (arith, length-append (listNumbers xs) (listNumbers ys ++ (count ∷ [])), length-append (listNumbers ys) (count ∷ []))
 
 module _
-    {numbers starts first : List ℕ} {k repeated : ℕ} {slots : List ℕ} {rule n e : ℕ} (t : Turn numbers starts first k repeated)
-    (j : HeadJudged numbers (baseOf k) k repeated (getD starts k 0) slots rule) (z : rule ≡ 0)
-    (p : Places numbers (getD starts k 0) n e (t .m)) where
-  -- The occurrences can be checked.
-  pub ready-body :
-      {count inputs : ℕ} {image references : List ℕ} → count ≡ getD numbers e 0 → inputs ≡ getD numbers (getD starts k 0 + 1) 0
-      → Tables numbers first slots → length numbers ≤ length image → length numbers ≤ 3 * length references
-      → BodyReady numbers starts first slots (baseOf k) k (e + 1) count inputs image (notesFrom (getD starts k 0)) references
-  ready-body counted width tables room noting =
-      record {
-        scene = scene t j z;
-        placed =
-            record {
-              tables = tables;
-              behind = omega (arith, p .inputCount, p .behindOutputs);
-              based = omega (arith, within t .1);
-              room = room;
-            };
-        stands = module-at (t .m) (stands-here t) .body (e + 1) (omega (arith, p .behindOutputs));
-        all = counted ∙ p .occurrenceCount;
-        knows = j .knows (t .m) (stands-here t) z;
-        wide = width ∙ p .inputCount;
-        noting = omega (arith, counted, p .occurrenceCount, notes-fit (t .m) (stands-here t));
-      }
+    {first inputs outputs : List ℕ} {k : ℕ} (s : Scene first inputs outputs k) {numbers : List ℕ} {base : ℕ} {slots : List ℕ}
+    {rule n e : ℕ} (own : numbers ≡ moduleNumbers (s .m)) (j : HeadJudged numbers base slots rule) (z : rule ≡ 0)
+    (p : Places numbers 0 n e (s .m))
+  where
+    whole : ModuleAt numbers 0 (s .m)
+    whole = module-at (s .m) (stands-whole own)
 
-  -- What their check comes to.
-  module _
-      {count inputs : ℕ} {image slots′ image′ references references′ : List ℕ} {w : Walked} (counted : count ≡ getD numbers e 0)
-      (width : inputs ≡ getD numbers (getD starts k 0 + 1) 0)
-      (b : BodyChecked numbers starts first slots (baseOf k) k (e + 1) count inputs image slots′ image′
-      (notesFrom (getD starts k 0)) references references′ w) where
-    came :
-        (v : Walked) → w ≡ v
-        → Walks v (bodyVerdict k (t .m .occurrences) (t .m .inputs) (t .later)) k (t .ms) (t .m) (e + 1) (baseOf k) image slots′ image′
-        (notesFrom (getD starts k 0)) references references′
-    came v is =
-        subst
-        (λ (v : Walked).
-        Walks v (bodyVerdict k (t .m .occurrences) (t .m .inputs) (t .later)) k (t .ms) (t .m) (e + 1) (baseOf k) image slots′ image′
-        (notesFrom (getD starts k 0)) references references′)
-        is
-        (b .walks (scene t j z) (module-at (t .m) (stands-here t) .body (e + 1) (omega (arith, p .behindOutputs)))
-        (counted ∙ p .occurrenceCount) (j .knows (t .m) (stands-here t) z) (width ∙ p .inputCount))
+    body-stands : Stands numbers (e + 1) (each occurrenceNumbers (s .m .occurrences))
+    body-stands = whole .body (e + 1) (omega (arith, p .behindOutputs))
 
-    -- An occurrence that breaks a rule is the verdict.
-    pub body-broken : {r : ℕ} → w ≡ walked.Broken r → moduleVerdict k (t .m) (t .later) ≡ refused r k
-    body-broken {r} is =
-        verdict-behind t j z
-        ∙ ap (λ (v : Verdict). andThen v (ruled (endRule (t .m .outputs) (driven (t .m .occurrences)) (netCount (t .m))) k good))
-        (came (walked.Broken r) is)
-
-    pub body-fine :
-        {next nets : ℕ} → w ≡ walked.Fine next nets
-        → (bodyVerdict k (t .m .occurrences) (t .m .inputs) (t .later) ≡ good)
-        × Finished (t .ms) (t .m) (e + 1) (baseOf k) image slots′ image′ (notesFrom (getD starts k 0)) references references′ next nets
-    body-fine {next} {nets} is = came (walked.Fine next nets) is
-
-  module _
-      {image slots′ image′ references references′ : List ℕ} {next nets : ℕ} (fine : bodyVerdict k (t .m .occurrences) (t .m .inputs) (t .later) ≡ good)
-      (f : Finished (t .ms) (t .m) (e + 1) (baseOf k) image slots′ image′ (notesFrom (getD starts k 0)) references references′ next nets) where
-    few : length numbers ≤ 65535 → nets ≤ 65536
-    few short = omega (arith, f .few, f .behind, p .behindOutputs, module-at (t .m) (stands-here t) .end)
-
-    inputs-known : subset (t .m .inputs) (netsOf (t .m)) ≡ true
-    unfolding netsOf
-    inputs-known = subset-append-left (t .m .inputs) (t .m .inputs) (driven (t .m .occurrences)) (subset-self (t .m .inputs))
-
-    -- The end can be checked.
-    pub ready-end :
-        Below (length slots′) numbers → length numbers ≤ 65535 → length numbers ≤ length image′
-        → HeadWritable numbers slots′ (baseOf k) k (getD starts k 0) nets image′
-    ready-end index short room =
+    -- The occurrences can be checked.
+    pub ready-body :
+        {count width : ℕ} {sizes rooms : List ℕ}
+        → count ≡ getD numbers e 0
+        → width ≡ getD numbers 1 0
+        → Indexes first slots numbers
+        → Figured (s .ms) sizes rooms
+        → base ≤ 131072 * 200
+        → length numbers ≤ 65535
+        → BodyReady numbers first inputs outputs slots base k (e + 1) count width sizes rooms
+    ready-body counted wide indexes figured based short =
         record {
-          m = t .m;
-          stands = stands-here t;
-          few = few short;
-          high = omega (arith, within t .1);
-          position = within t .1;
-          short = short;
-          indexSlots = index;
-          room = room;
+          scene = s;
+          placed = record { behind = omega (arith, p .inputCount, p .behindOutputs); based = based; short = short };
+          stands = body-stands;
+          indexes = record { inFirst = below-stands body-stands (indexes .inFirst); inSlots = below-stands body-stands (indexes .inSlots) };
+          figured = figured;
+          all = counted ∙ p .occurrenceCount;
+          knows = j .knows (s .m) own z;
+          wide = wide ∙ p .inputCount;
         }
 
-    verdict-here : moduleVerdict k (t .m) (t .later) ≡ ruled (endRule (t .m .outputs) (netsOf (t .m)) nets) k good
-    verdict-here =
-        verdict-behind t j z
-        ∙ ap₂ (λ (v : Verdict) (r : ℕ). andThen v (ruled r k good)) fine (end-here t j z nets (f .count))
-
-    -- What the end comes to is the answer.
-    pub settle :
-        {image″ : List ℕ} (r : Checked) → length numbers ≤ length image
-        → Ended numbers slots′ (baseOf k) k (getD starts k 0) nets image′ image″ r
-        → Checks r (moduleVerdict k (t .m) (t .later)) (t .ms) (t .m) k (getD starts k 0) image slots′ image″ references references′
-    settle {image″} r room ended =
-        answer r (ended .ends (t .m) (netsOf (t .m)) (stands-here t) (f .knows) (f .count) inputs-known)
+    -- What their check comes to.
+    module _
+        {count width : ℕ} {sizes rooms numbers′ slots′ : List ℕ} {w : Walked} (counted : count ≡ getD numbers e 0)
+        (wide : width ≡ getD numbers 1 0)
+        (b : BodyChecked numbers first inputs outputs slots base k (e + 1) count width sizes rooms numbers′ slots′ w)
       where
-        answer :
-            (r : Checked)
-            → Ends r (endRule (t .m .outputs) (netsOf (t .m)) nets) nets image″ (laid image′ (getD starts k 0) (resolvedHead k (t .m) (netsOf (t .m))))
-            → Checks r (moduleVerdict k (t .m) (t .later)) (t .ms) (t .m) k (getD starts k 0) image slots′ image″ references references′
-        answer (Broken r) (is, some) = verdict-here ∙ ap (λ (x : ℕ). ruled x k good) is ∙ ruled-broken r k good some
-        answer (Fine c) (none, same, written) = (
-          verdict-here ∙ ap (λ (x : ℕ). ruled x k good) none,
-          record {
-            count = same ∙ f .count ∙ length-of-nets (t .m);
-            written = written ∙ whole;
-            noted = f .noted;
-            earlier = below-more (baseOf (k + 1) - 2) (omega arith) (known-below mostModuleNets (f .knows) (omega (arith, f .count, fine-end (t .m .outputs) (netsOf (t .m)) nets none .few)));
-            unrepeated = unrepeated t j z;
-          },
-        )
-          where
-            s : ℕ
-            s = getD starts k 0
+        came :
+            (v : Walked) → w ≡ v
+            → Walks v (bodyVerdict k (s .m .occurrences) (s .m .inputs) (s .later)) k (s .ms) (s .m) numbers (e + 1) base sizes rooms numbers′ slots′
+        came v is =
+            subst
+            (λ (v : Walked).
+            Walks v (bodyVerdict k (s .m .occurrences) (s .m .inputs) (s .later)) k (s .ms) (s .m) numbers (e + 1) base sizes rooms numbers′ slots′)
+            is
+            (b .walks s body-stands (counted ∙ p .occurrenceCount) (j .knows (s .m) own z) (wide ∙ p .inputCount))
 
-            head : List ℕ
-            head = resolvedHead k (t .m) (netsOf (t .m))
+        -- An occurrence that breaks a rule is the verdict.
+        pub body-broken : {r : ℕ} → w ≡ Broken r → moduleVerdict k (s .m) (s .later) ≡ refused r k
+        body-broken {r} is =
+            verdict-behind s (j .rule (s .m) own) z
+            ∙ ap (λ (v : Verdict). andThen v (ruled (endRule (s .m .outputs) (driven (s .m .occurrences)) (netCount (s .m))) k good))
+            (came (Broken r) is)
 
-            body : List ℕ
-            body = each occurrenceNumbers (resolvedBody (t .ms) (t .m) (t .m .occurrences))
+        pub body-fine :
+            {next nets : ℕ} {sums : Sums} → w ≡ Fine next nets sums
+            → (bodyVerdict k (s .m .occurrences) (s .m .inputs) (s .later) ≡ good)
+            × Finished (s .ms) (s .m) numbers (e + 1) base sizes rooms numbers′ slots′ next nets sums
+        body-fine {next} {nets} {sums} is = came (Fine next nets sums) is
 
-            head-long : length head ≡ 4 + length (t .m .inputs) + length (t .m .outputs)
-            head-long = length-of-head k (t .m) (netsOf (t .m))
+    module _
+        {sizes rooms numbers′ slots′ : List ℕ} {next nets : ℕ} {sums : Sums}
+        (fine : bodyVerdict k (s .m .occurrences) (s .m .inputs) (s .later) ≡ good)
+        (f : Finished (s .ms) (s .m) numbers (e + 1) base sizes rooms numbers′ slots′ next nets sums)
+      where
+        body : List ℕ
+        body = each occurrenceNumbers (resolvedBody (s .ms) (s .m) (s .m .occurrences))
 
-            body-long : length body ≡ length (each occurrenceNumbers (t .m .occurrences))
-            body-long = length-of-resolved-body (slotIn (t .m)) (referTo (t .ms)) (t .m .occurrences)
+        -- The head is as it was, in front of the occurrences in the image.
+        halves : numbers′ ≡ headOf (s .m) ++ body
+        unfolding body
+        halves =
+            f .written
+            ∙ ap (λ (l : List ℕ). laid l (e + 1) body) (own ∙ head-and-body (s .m))
+            ∙ laid-second (headOf (s .m)) (each occurrenceNumbers (s .m .occurrences)) body (e + 1)
+            (omega (arith, p .behindOutputs, length-of-head (s .m .number) (s .m .inputs) (s .m .outputs) (length (s .m .occurrences))))
+            (length-of-resolved-body (slotIn (s .m)) (referTo (s .ms)) (s .m .occurrences))
 
-            whole : laid image′ s (resolvedHead k (t .m) (netsOf (t .m))) ≡ laid image s (moduleNumbers (resolveModule (referTo (t .ms)) k (t .m)))
-            whole =
-                ap (λ (im : List ℕ). laid im s head) (f .written ∙ ap (λ (at : ℕ). laid image at body) (omega (arith, p .behindOutputs, head-long)))
-                ∙ laid-before image s head body (omega (arith, room, module-at (t .m) (stands-here t) .end, head-long, body-long))
-                ∙ ap (laid image s) (resolved-module (t .ms) k (t .m))
+        head-stands : Stands numbers′ 0 (headOf (s .m))
+        head-stands = record { rest = body; here = halves; within = omega (arith, ap length halves, length-append (headOf (s .m)) body) }
+
+        inputs-known : subset (s .m .inputs) (netsOf (s .m)) ≡ true
+        unfolding netsOf
+        inputs-known = subset-append-left (s .m .inputs) (s .m .inputs) (driven (s .m .occurrences)) (subset-self (s .m .inputs))
+
+        -- The end can be checked.
+        pub ready-end :
+            Below (length slots′) numbers
+            → base ≤ 131072 * 200
+            → length numbers ≤ 65535
+            → length numbers′ ≡ length numbers
+            → HeadWritable numbers′ slots′ base k nets
+        ready-end index based short same =
+            record {
+              m = s .m;
+              stands = head-stands;
+              inputsIndex = below-stands (whole .inputs 2 refl) index;
+              outputsIndex = below-stands (whole .outputs (3 + length (s .m .inputs)) refl) index;
+              few = omega (arith, f .few, f .behind, p .behindOutputs, whole .end);
+              high = omega arith;
+              position = omega (arith, inside (s .ms) k (s .here), s .few);
+              short = omega arith;
+            }
+
+        verdict-here : moduleVerdict k (s .m) (s .later) ≡ ruled (endRule (s .m .outputs) (netsOf (s .m)) nets) k good
+        verdict-here =
+            verdict-behind s (j .rule (s .m) own) z
+            ∙ ap₂ (λ (v : Verdict) (r : ℕ). andThen v (ruled r k good)) fine (end-here s (j .rule (s .m) own) z nets (f .count))
+
+        -- What the end comes to is the answer.
+        module _ {numbers″ : List ℕ} {r : ℕ} (ended : Ended numbers′ slots′ base k nets numbers″ r) where
+          at-end :
+              (r ≡ endRule (s .m .outputs) (netsOf (s .m)) nets)
+              × (r ≡ 0 → numbers″ ≡ laid numbers′ 0 (resolvedHead k (s .m) (netsOf (s .m))))
+          at-end = ended .ends (s .m) (netsOf (s .m)) head-stands (f .knows) (f .count) inputs-known
+
+          pub end-broken : (r ≡ 0 → ⊥) → moduleVerdict k (s .m) (s .later) ≡ refused r k
+          end-broken some = verdict-here ∙ ap (λ (x : ℕ). ruled x k good) (sym (at-end .0)) ∙ ruled-broken r k good some
+
+          pub settled : r ≡ 0 → (moduleVerdict k (s .m) (s .later) ≡ good) × Settled (s .ms) (s .m) k sizes rooms numbers″ nets sums
+          unfolding body
+          settled none = (
+            verdict-here ∙ ap (λ (x : ℕ). ruled x k good) (sym (at-end .0) ∙ none),
+            record {
+              count = f .count ∙ length-of-nets (s .m);
+              written =
+                  at-end .1 none
+                  ∙ ap (λ (l : List ℕ). laid l 0 (resolvedHead k (s .m) (netsOf (s .m)))) halves
+                  ∙ laid-first (headOf (s .m)) body (resolvedHead k (s .m) (netsOf (s .m))) heads-long
+                  ∙ resolved-module (s .ms) k (s .m);
+              summed = f .summed;
+            },
+          )
+            where
+              heads-long : length (resolvedHead k (s .m) (netsOf (s .m))) ≡ length (headOf (s .m))
+              heads-long =
+                  length-of-head (16 + k) (map (slotIn (s .m)) (s .m .inputs)) (map (slotIn (s .m)) (s .m .outputs)) (length (s .m .occurrences))
+                  ∙ ap₂ (λ (i o : ℕ). 4 + i + o) (length-map (s .m .inputs) (slotIn (s .m))) (length-map (s .m .outputs) (slotIn (s .m)))
+                  ∙ sym (length-of-head (s .m .number) (s .m .inputs) (s .m .outputs) (length (s .m .occurrences)))

@@ -1,134 +1,193 @@
--- The check of one occurrence, step by step: what each of its ways out says.
-use Prim.Native.Nat.{ℕ, _+_, _≤_, _<_}
-use mathlib.Core.Path.{_≡_, sym, ap, ap₂, _∙_}
+-- The check of one occurrence, step by step: what is known behind each of its lists, and what each of its ways out says.
+use Prim.Native.Nat.{ℕ, _+_, _<_}
+use mathlib.Core.Path.{_≡_, sym, ap, subst, _∙_}
 use mathlib.Core.Bool.{Bool, true, false}
-use mathlib.Core.List.{List, _++_, map}
+use mathlib.Core.List.{List, _∷_, _++_}
 use native.Mathlib.Omega.{arith}
-use lib.ListN.{length, getD, set, length-append, length-map}
+use lib.ListN.{length, getD, set, length-map}
 use Rattle.meaning.specs.Syntax.{Occurrence, Module}
 use Rattle.meaning.specs.Layout.{listNumbers, occurrenceNumbers}
-use Rattle.meaning.specs.Verdict.{good, occurrenceVerdict}
-use Rattle.nets.specs.Slots.{Knows, slotOf}
-use Rattle.image.specs.Stands.{Stands}
-use Rattle.image.specs.Laid.{laid, set-laid}
+use Rattle.meaning.specs.Gates.{isGate}
+use Rattle.meaning.specs.Verdict.{occurrenceVerdict}
+use Rattle.nets.specs.Slots.{Knows, Below, slotOf}
+use Rattle.image.specs.Stands.{Stands, stands-head, stands-front, stands-tail}
+use Rattle.image.specs.Laid.{laid}
 use Rattle.image.specs.Resolved.{referTo}
-use Rattle.checker.specs.Filed.{Filed}
-use Rattle.checker.specs.Numbering.{Numbered, firstRepeat}
+use Rattle.sizes.specs.Walks.{plusGate, plusModule}
+use Rattle.sizes.specs.declared.Sums.{Sums}
+use Rattle.checker.specs.Numbering.{Numbered, Ported, firstRepeat}
 use Rattle.checker.specs.References.{referenceOf}
 use Rattle.checker.specs.Scene.{Scene, Same}
-use Rattle.checker.specs.Lists.{Listed, ListReady, ListLearnt, ListWritten}
-use Rattle.checker.specs.Occurrences.{StepReady, Advanced, Stepped}
+use Rattle.checker.specs.Lists.{ListReady, ListLearnt, ListWritten}
+use Rattle.checker.specs.Occurrences.{StepReady, Stepped}
 use Rattle.checker.specs.declared.references.Reference.{Reference}
 use Rattle.checker.specs.declared.references.Reference.the-variants as reference
 use Rattle.checker.specs.declared.occurrences.Walked.the-variants as walked
-use Rattle.checker.proofs.Parts.{below-sized, parts}
-use Rattle.checker.proofs.Laying.{lay-between}
+use Rattle.checker.proofs.OccurrenceParts.{parts}
+use Rattle.checker.proofs.Laying.{laid-keeps, stands-behind}
 use Rattle.checker.proofs.Judgement.{Judges, later-modules, drives-known, takes-unknown, reference-decides}
+use Rattle.checker.proofs.Summing.{plus-gate, plus-module}
+use Rattle.checker.proofs.Advancing.{slots-of, Driven, Taken, there-already, stored, advanced}
 
--- A list of the occurrence can be set down.
+-- A list of an occurrence can be learnt or written.
 pub list-ready :
-    {numbers starts first slots : List ℕ} {base k at filled : ℕ} {image slots′ image′ : List ℕ} {list place : ℕ} {references : List ℕ}
-    → StepReady numbers starts first slots base k at filled image place references → length slots′ ≡ length slots → length image′ ≡ length image
-    → Listed numbers list → ListReady numbers slots′ base list filled image′
-list-ready h slotsKept imageKept listed =
+    {numbers first inputs outputs slots : List ℕ} {base k at filled : ℕ} {sizes rooms : List ℕ} {sums : Sums} {numbers′ slots′ : List ℕ}
+    {place : ℕ} → StepReady numbers first inputs outputs slots base k at filled sizes rooms sums
+    → length numbers′ ≡ length numbers → length slots′ ≡ length slots
+    → (list : List ℕ) → Stands numbers′ place (listNumbers list) → Below (length slots) list → ListReady numbers′ slots′ base place filled
+list-ready h numbersKept slotsKept list stands low =
     let p = h .placed in
     record {
-      listed = listed;
-      few = omega (arith, h .stands .within, p .tables .short);
+      listed = record { list = list; stands = stands };
+      inSlots = subst (λ (n : ℕ). Below n list) (sym slotsKept) low;
+      few = omega (arith, h .stands .within, p .behind, p .short);
       high = omega (arith, p .based);
-      short = p .tables .short;
-      indexSlots = below-sized slotsKept (p .tables .indexSlots);
-      room = omega (arith, p .room);
+      short = omega (arith, p .short);
     }
 
+-- It drives a net that is not new.
+pub step-drives :
+    {numbers first inputs outputs slots : List ℕ} {base k at filled : ℕ} {sizes rooms : List ℕ} {sums : Sums} {numbers′ slots′ : List ℕ}
+    {r : Bool} → ListLearnt numbers slots base at filled slots′ numbers′ r → r ≡ false
+    → Stepped numbers first inputs outputs slots base k at filled sizes rooms sums numbers′ slots′ (walked.Broken 11)
+unfolding occurrenceNumbers
+step-drives {k = k} l e =
+    record {
+      steps = λ s o nets signals stands knows count same.
+          drives-known k o same (s .later)
+          (sym e ∙ l .learnt (o .drives) nets (stands-front (o .refers ∷ listNumbers (o .takes)) stands) knows count .0);
+      low = l .low;
+    }
+
+-- Both counts are read, and the nets that it drives are new.
+pub record Learning (numbers slots : List ℕ) (base at filled driven taken : ℕ) (slots′ numbers′ : List ℕ) : Type 0 where
+  pub drivenCount : driven ≡ getD numbers at 0
+  pub takenCount : taken ≡ getD numbers (at + 1 + driven + 1) 0
+  pub answer : Bool
+  pub learnt : ListLearnt numbers slots base at filled slots′ numbers′ answer
+  pub new : answer ≡ true
+
 module _
-    {numbers starts first slots : List ℕ} {base k at filled : ℕ} {image slots′ image′ : List ℕ} {driven taken : ℕ}
-    (d : driven ≡ getD numbers at 0) (t : taken ≡ getD numbers (at + 1 + driven + 1) 0)
+    {numbers slots : List ℕ} {base at filled driven taken : ℕ} {slots′ numbers′ : List ℕ}
+    (l : Learning numbers slots base at filled driven taken slots′ numbers′)
   where
-    -- It drives a net that is not new.
-    pub step-drives :
-        {r : Bool} {place : ℕ} {references : List ℕ} → r ≡ false → ListLearnt numbers slots base at filled image slots′ image′ r
-        → Stepped numbers starts first slots base k at filled image slots′ image′ place references references (walked.Broken 11)
-    step-drives e l =
+    pub driven-new :
+        (o : Occurrence) (nets : List ℕ) → Stands numbers at (occurrenceNumbers o) → Knows slots base nets → filled ≡ length nets
+        → Driven numbers base at driven taken slots′ numbers′ o nets
+    driven-new o nets stands knows count =
+        let p = parts o stands (l .drivenCount) (l .takenCount) in
+        let n = l .learnt .learnt (o .drives) nets (p .drives) knows count in
+        let wide = length-map (o .drives) (λ (x : ℕ). slotOf x (nets ++ o .drives)) in
         record {
-          steps = λ s o nets signals stands knows count same.
-              drives-known k o same (s .later) (sym e ∙ l .learnt (o .drives) nets (parts o stands d t .drives) knows count .0);
+          parts = p;
+          new = sym (l .new) ∙ n .0;
+          knows = n .1 (l .new);
+          lies = n .2 (l .new);
+          behind = rw (n .2 (l .new)) (stands-behind at (slots-of nets o (o .drives)) (omega (arith, p .drivenCount)) (p .behind));
         }
 
-    module _ {r : Bool} (new : r ≡ true) (l : ListLearnt numbers slots base at filled image slots′ image′ r) where
-      -- It takes a net that is not known before it.
-      pub step-takes :
-          {r′ : Bool} {image″ : List ℕ} {place : ℕ} {references : List ℕ} → r′ ≡ false
-          → ListWritten numbers slots′ base (at + 1 + driven + 1) filled image′ image″ r′
-          → Stepped numbers starts first slots base k at filled image slots′ image″ place references references (walked.Broken 12)
-      step-takes e w =
-          record {
-            steps = λ s o nets signals stands knows count same.
-                let p = parts o stands d t in
-                let n = l .learnt (o .drives) nets (p .drives) knows count in
-                takes-unknown k o same (sym new ∙ n .0) (s .later) (sym e ∙ w .written (o .takes) nets (o .drives) (p .takes) (n .1 new) count .0);
-          }
+    -- It takes a net that is not known before it.
+    pub step-takes :
+        {first inputs outputs : List ℕ} {k : ℕ} {sizes rooms : List ℕ} {sums : Sums} {numbers″ : List ℕ} {r : Bool}
+        → ListWritten numbers′ slots′ base (at + 1 + driven + 1) filled numbers″ r → r ≡ false
+        → Stepped numbers first inputs outputs slots base k at filled sizes rooms sums numbers″ slots′ (walked.Broken 12)
+    step-takes {k = k} w e =
+        record {
+          steps = λ s o nets signals stands knows count same.
+              let n = driven-new o nets stands knows count in
+              takes-unknown k o same (n .new) (s .later)
+              (sym e ∙ w .written (o .takes) nets (o .drives) (stands-tail (n .behind)) (n .knows) count .0);
+          low = l .learnt .low;
+        }
 
-      -- With fine nets its reference decides.
-      module _
-          {r′ : Bool} {image″ : List ℕ} {q : Reference} (bound : r′ ≡ true)
-          (w : ListWritten numbers slots′ base (at + 1 + driven + 1) filled image′ image″ r′)
-          (decides : (ms : List Module) (takes drives : List ℕ) → Filed numbers starts ms → Numbered first ms → k < firstRepeat ms
-          → taken ≡ length takes → driven ≡ length drives → q ≡ referenceOf ms k (getD numbers (at + 1 + driven) 0) takes drives)
-        where
-          judged :
-              {r : Reference} → q ≡ r → (s : Scene numbers starts first k) (o : Occurrence) (nets signals : List ℕ)
-              → Stands numbers at (occurrenceNumbers o) → Knows slots base nets → filled ≡ length nets → Same nets signals
-              → Judges r (occurrenceVerdict k o signals (s .later)) k (referTo (s .ms) (o .refers))
-          judged e s o nets signals stands knows count same =
-              let p = parts o stands d t in
-              let n = l .learnt (o .drives) nets (p .drives) knows count in
-              let known = sym bound ∙ w .written (o .takes) nets (o .drives) (p .takes) (n .1 new) count .0 in
-              let is = decides (s .ms) (o .takes) (o .drives) (s .filed) (s .numbered) (s .unrepeated) (p .takenCount) (p .drivenCount) in
-              rw (sym e ∙ is, p .refers, ← later-modules (s .ms) k (s .m) (s .later) (s .here)) (reference-decides k o same (sym new ∙ n .0) (s .ms) known)
+-- And those that it takes are known.
+pub record Writing (numbers slots : List ℕ) (base at filled driven taken : ℕ) (slots′ numbers′ numbers″ : List ℕ) : Type 0 where
+  pub learning : Learning numbers slots base at filled driven taken slots′ numbers′
+  pub answer : Bool
+  pub written : ListWritten numbers′ slots′ base (at + 1 + driven + 1) filled numbers″ answer
+  pub known : answer ≡ true
 
+module _
+    {numbers slots : List ℕ} {base at filled driven taken : ℕ} {slots′ numbers′ numbers″ : List ℕ}
+    (w : Writing numbers slots base at filled driven taken slots′ numbers′ numbers″)
+  where
+    pub taken-known :
+        (o : Occurrence) (nets : List ℕ) → Stands numbers at (occurrenceNumbers o) → Knows slots base nets → filled ≡ length nets
+        → Taken numbers at driven numbers″ o nets
+    taken-known o nets stands knows count =
+        let n = driven-new (w .learning) o nets stands knows count in
+        let m = w .written .written (o .takes) nets (o .drives) (stands-tail (n .behind)) (n .knows) count in
+        let wide = length-map (o .takes) (λ (x : ℕ). slotOf x (nets ++ o .drives)) in
+        let inside = stands-tail (n .behind) .within in
+        record {
+          known = sym (w .known) ∙ m .0;
+          lies = m .1 (w .known) ∙ ap (λ (im : List ℕ). laid im (at + 1 + driven + 1) (slots-of nets o (o .takes))) (n .lies);
+          refers =
+              ap (λ (im : List ℕ). getD im (at + 1 + driven) 0) (m .1 (w .known))
+              ∙ laid-keeps numbers′ (at + 1 + driven + 1) (slots-of nets o (o .takes)) (at + 1 + driven) (omega arith) (omega arith)
+              ∙ stands-head (n .behind);
+        }
+
+    -- With fine nets its reference decides.
+    module _
+        {first inputs outputs : List ℕ} {k : ℕ} {q : Reference}
+        (decides :
+        (ms : List Module) (takes drives : List ℕ) → Numbered first ms → Ported inputs outputs ms → k < firstRepeat ms
+        → taken ≡ length takes → driven ≡ length drives → q ≡ referenceOf ms k (getD numbers″ (at + 1 + driven) 0) takes drives)
+      where
+        pub judged :
+            {a : Reference} → q ≡ a → (s : Scene first inputs outputs k) (o : Occurrence) (nets signals : List ℕ)
+            → Stands numbers at (occurrenceNumbers o) → Knows slots base nets → filled ≡ length nets → Same nets signals
+            → Judges a (occurrenceVerdict k o signals (s .later)) (s .ms) k (o .refers)
+        judged e s o nets signals stands knows count same =
+            let n = driven-new (w .learning) o nets stands knows count in
+            let m = taken-known o nets stands knows count in
+            let p = n .parts in
+            let is = decides (s .ms) (o .takes) (o .drives) (s .numbered) (s .ported) (s .unrepeated) (p .takenCount) (p .drivenCount) in
+            rw (sym e ∙ is, m .refers, ← later-modules (s .ms) k (s .m) (s .later) (s .here))
+            (reference-decides k o same (n .new) (s .ms) (m .known))
+
+        module _ {sizes rooms : List ℕ} {sums : Sums} where
           pub step-broken :
-              {rule place : ℕ} {references : List ℕ} → q ≡ reference.Broken rule
-              → Stepped numbers starts first slots base k at filled image slots′ image″ place references references (walked.Broken rule)
-          step-broken e = record { steps = judged e }
+              {rule : ℕ} → q ≡ reference.Broken rule
+              → Stepped numbers first inputs outputs slots base k at filled sizes rooms sums numbers″ slots′ (walked.Broken rule)
+          step-broken e = record { steps = judged e; low = w .learning .learnt .low }
 
-          -- It is fine: with the number that it refers to between its two lists it is in the image, and that number is noted.
-          pub step-fine :
-              {refers place : ℕ} {references : List ℕ} → q ≡ reference.To refers → length numbers ≤ length image → place < length references
-              → Stepped numbers starts first slots base k at filled image slots′ (set image″ (at + 1 + driven) refers)
-              place references (set references place refers)
-              (walked.Fine (at + 1 + driven + 1 + 1 + taken) (filled + driven))
-          unfolding occurrenceNumbers
-          step-fine {refers} {place} {references} e room noting = record { steps = steps }
-            where
-              steps :
-                  (s : Scene numbers starts first k) (o : Occurrence) (nets signals : List ℕ)
-                  → Stands numbers at (occurrenceNumbers o) → Knows slots base nets → filled ≡ length nets → Same nets signals
-                  → (occurrenceVerdict k o signals (s .later) ≡ good)
-                  × Advanced (s .ms) o nets at base image slots′ (set image″ (at + 1 + driven) refers)
-                  place references (set references place refers) (at + 1 + driven + 1 + 1 + taken) (filled + driven)
-              steps s o nets signals stands knows count same =
-                  let p = parts o stands d t in
-                  let n = l .learnt (o .drives) nets (p .drives) knows count in
-                  let m = w .written (o .takes) nets (o .drives) (p .takes) (n .1 new) count in
-                  let verdict = judged e s o nets signals stands knows count same in
-                  let slot : ℕ → ℕ = λ (x : ℕ). slotOf x (nets ++ o .drives) in
-                  let drives-long = length-map (o .drives) slot in
-                  let takes-long = length-map (o .takes) slot in (
-                    verdict .0,
-                    record {
-                      bound = sym (m .0) ∙ bound;
-                      behind = omega (arith, p .long);
-                      count = omega (arith, p .drivenCount, length-append nets (o .drives));
-                      knows = n .1 new;
-                      written =
-                          ap₂ (λ (im : List ℕ) (y : ℕ). set im (at + 1 + driven) y)
-                          (m .1 bound ∙ ap (λ (im : List ℕ). laid im (at + 1 + driven + 1) (listNumbers (map slot (o .takes)))) (n .2 new))
-                          (verdict .1)
-                          ∙ lay-between image at (listNumbers (map slot (o .drives))) (at + 1 + driven) (referTo (s .ms) (o .refers))
-                          (listNumbers (map slot (o .takes)))
-                          (omega (arith, p .drivenCount))
-                          (omega (arith, p .end, p .takenCount));
-                      noted = ap (set references place) (verdict .1) ∙ set-laid references place (referTo (s .ms) (o .refers)) noting;
-                    },
-                  )
+          -- It refers to a gate, whose number stands there already.
+          pub step-gate :
+              {sums′ : Sums} → q ≡ reference.Gate → sums′ ≡ plusGate sums
+              → Stepped numbers first inputs outputs slots base k at filled sizes rooms sums numbers″ slots′
+              (walked.Fine (at + 1 + driven + 1 + 1 + taken) (filled + driven) sums′)
+          unfolding referTo
+          step-gate e more =
+              record {
+                steps = λ s o nets signals stands knows count same.
+                    let n = driven-new (w .learning) o nets stands knows count in
+                    let m = taken-known o nets stands knows count in
+                    let v = judged e s o nets signals stands knows count same in
+                    let to : ℕ = referTo (s .ms) (o .refers) in
+                    let as-it-was : to ≡ o .refers = rw (v .1) in (
+                      v .0,
+                      advanced (s .ms) n m count (there-already n m as-it-was)
+                          (more ∙ plus-gate sizes rooms sums to (ap isGate as-it-was ∙ v .1)),
+                    );
+                low = w .learning .learnt .low;
+              }
+
+          -- It refers to a module, whose number in the image takes the place of its own.
+          pub step-module :
+              {j : ℕ} {sums′ : Sums} → q ≡ reference.Module j → sums′ ≡ plusModule sizes rooms sums j
+              → Stepped numbers first inputs outputs slots base k at filled sizes rooms sums (set numbers″ (at + 1 + driven) (16 + j)) slots′
+              (walked.Fine (at + 1 + driven + 1 + 1 + taken) (filled + driven) sums′)
+          step-module {j} e more =
+              record {
+                steps = λ s o nets signals stands knows count same.
+                    let n = driven-new (w .learning) o nets stands knows count in
+                    let m = taken-known o nets stands knows count in
+                    let v = judged e s o nets signals stands knows count same in (
+                      v .0,
+                      advanced (s .ms) n m count (stored n m (v .1))
+                          (more ∙ plus-module sizes rooms sums (referTo (s .ms) (o .refers)) j (v .1)),
+                    );
+                low = w .learning .learnt .low;
+              }

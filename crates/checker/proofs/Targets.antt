@@ -1,99 +1,101 @@
--- What a reference comes to, case by case, and where the module stands that it means.
+-- What a reference comes to, case by case, and what the tables say of the module that it means.
 use Prim.Native.Nat.{ℕ, suc, _+_, _-_, _≤_, _<_}
-use mathlib.Core.Path.{_≡_, sym, ap, ap₂, _∙_}
-use mathlib.Core.Bool.{Bool, true, false, _&&_, cond, and-false}
+use mathlib.Core.Path.{_≡_, refl, sym, ap, ap₂, _∙_}
+use mathlib.Core.Bool.{Bool, true, false, _&&_, cond, and-false, true≢false}
 use mathlib.Core.List.{List, [], _∷_}
 use native.Mathlib.Omega.{arith}
 use borrow.Author.Tests.{eq-eqb, ne-eqb}
 use lib.Dec.{eqb}
-use lib.ListN.{length, getD, drop, length-drop}
+use lib.ListN.{length, getD, drop}
 use Rattle.meaning.specs.Syntax.{Module}
 use Rattle.meaning.specs.Gates.{isGate, gate}
-use Rattle.meaning.specs.Boxlist.{box, F, assoc, isBox, arityOkp}
-use Rattle.image.specs.Pieces.{ModuleAt, module-at}
-use Rattle.image.specs.Resolved.{referTo, positionOf}
-use Rattle.checker.specs.Filed.{Filed, At}
-use Rattle.checker.specs.Numbering.{Numbered, firstOf, firstRepeat}
+use Rattle.meaning.specs.Boxlist.{Found, box, F, assoc, isBox, arityOkp}
+use Rattle.image.specs.Resolved.{positionOf}
+use Rattle.image.specs.Positions.{found-at}
+use Rattle.sizes.specs.Behind.{inside}
+use Rattle.checker.specs.Numbering.{Numbered, Ported, firstOf, firstRepeat}
 use Rattle.checker.specs.References.{referenceOf, pick}
-use Rattle.checker.specs.declared.references.Reference.the-variants.{To, Broken}
-use Rattle.checker.proofs.Later.{later-found}
+use Rattle.checker.specs.declared.references.Reference.the-variants as reference
+use Rattle.checker.proofs.Later.{gone-after, later-found}
 
 module _ (ms : List Module) (k number : ℕ) (takes drives : List ℕ) where
   pub to-gate :
       isGate number ≡ true → (b : Bool) → (eqb (gate number .arity) (length takes) && eqb 1 (length drives)) ≡ b
-      → referenceOf ms k number takes drives ≡ pick b (To number) (Broken 14)
-  unfolding referenceOf arityOkp referTo
+      → referenceOf ms k number takes drives ≡ pick b reference.Gate (reference.Broken 14)
+  unfolding referenceOf arityOkp
   to-gate g b e = rw (g, e)
 
   pub to-none :
-      isGate number ≡ false → assoc number (drop (k + 1) ms) ≡ F → referenceOf ms k number takes drives ≡ Broken 13
+      isGate number ≡ false → assoc number (drop (k + 1) ms) ≡ F → referenceOf ms k number takes drives ≡ reference.Broken 13
   unfolding referenceOf
   to-none g e = rw (g, e)
 
-  pub to-module :
+  to-module :
       isGate number ≡ false → (m : Module) → assoc number (drop (k + 1) ms) ≡ box m
       → (b : Bool) → (eqb (length takes) (length (m .inputs)) && eqb (length drives) (length (m .outputs))) ≡ b
-      → referenceOf ms k number takes drives ≡ pick b (To (16 + positionOf number ms)) (Broken 14)
-  unfolding referenceOf arityOkp referTo
+      → referenceOf ms k number takes drives ≡ pick b (reference.Module (positionOf number ms)) (reference.Broken 14)
+  unfolding referenceOf arityOkp
   to-module g m e b f = rw (g, e, f)
 
--- A position at which a module stands is one of the list's.
-pub at-inside : (ms : List Module) (j : ℕ) (m : Module) (later : List Module) → At ms j m later → j < length ms
-at-inside ms j m later e = omega (arith, length-drop j ms, ap length e)
+-- A number that some of the modules have has its position among all.
+pub position-inside : (x : ℕ) (ms : List Module) (k : ℕ) → isBox (assoc x (drop k ms)) ≡ true → positionOf x ms < length ms
+position-inside x ms k e = go (assoc x ms) refl
+  where
+    go : (f : Found) → assoc x ms ≡ f → positionOf x ms < length ms
+    go (box m) found = inside ms (positionOf x ms) (found-at x ms found)
+    go F none = absurd (true≢false (sym e ∙ ap isBox (gone-after x ms k none)))
 
 -- The module that a number means, where its place in the table lies behind k + 1.
-pub record Target (numbers starts : List ℕ) (ms : List Module) (k number place : ℕ) : Type 0 where
+pub record Target (inputs outputs : List ℕ) (ms : List Module) (k number place : ℕ) : Type 0 where
   pub m : Module
   pub found : assoc number (drop (k + 1) ms) ≡ box m
-  pub placed : 16 + positionOf number ms ≡ place + 15
-  pub listed : place - 1 < length starts
-  pub few : place ≤ 128
-  pub standing : ModuleAt numbers (getD starts (place - 1) 0) m
+  pub placed : positionOf number ms ≡ place - 1
+  pub inInputs : place - 1 < length inputs
+  pub inOutputs : place - 1 < length outputs
+  pub inputCount : getD inputs (place - 1) 0 ≡ length (m .inputs)
+  pub outputCount : getD outputs (place - 1) 0 ≡ length (m .outputs)
 
 pub target :
-    (numbers starts first : List ℕ) (ms : List Module) (k number place : ℕ)
-    → Filed numbers starts ms → Numbered first ms → k < firstRepeat ms → place ≡ getD first number 0 → k + 1 < place
-    → Target numbers starts ms k number place
-target numbers starts first ms k number place filed numbered unrepeated is behind =
+    (first inputs outputs : List ℕ) (ms : List Module) (k number place : ℕ)
+    → Numbered first ms → Ported inputs outputs ms → k < firstRepeat ms → place ≡ getD first number 0 → k + 1 < place
+    → Target inputs outputs ms k number place
+target first inputs outputs ms k number place numbered ported unrepeated is behind =
     let one : firstOf number ms ≡ suc (place - 1) = sym (numbered .place number) ∙ sym is ∙ omega arith in
     let meant = later-found ms k number (place - 1) unrepeated one (omega arith) in
-    let inside = at-inside ms (place - 1) (meant .m) (meant .later) (meant .here) in
+    let listed = inside ms (place - 1) (meant .here) in
     record {
       m = meant .m;
       found = meant .found;
-      placed = ap (λ (n : ℕ). 16 + n) (meant .placed) ∙ omega arith;
-      listed = omega (arith, filed .listed);
-      few = omega (arith, filed .few);
-      standing = module-at (meant .m) (filed .standing (place - 1) (meant .m) (meant .later) (meant .here));
+      placed = meant .placed;
+      inInputs = omega (arith, ported .inputsListed);
+      inOutputs = omega (arith, ported .outputsListed);
+      inputCount = ported .taken (place - 1) (meant .m) (meant .later) (meant .here);
+      outputCount = ported .driven (place - 1) (meant .m) (meant .later) (meant .here);
     }
-
--- The count of outputs stands behind the inputs.
-pub output-count : {im : List ℕ} {at : ℕ} {m : Module} → ModuleAt im at m → (inputs : ℕ) → inputs ≡ length (m .inputs)
-    → getD im (at + 2 + inputs) 0 ≡ length (m .outputs)
-output-count {im} {at} s inputs e = s .outputCount (at + 2 + inputs) (ap (λ (n : ℕ). at + 2 + n) e)
 
 -- The verdict on the counts of a module that is meant.
 module _
-    {numbers starts : List ℕ} {ms : List Module} {k number place : ℕ} (t : Target numbers starts ms k number place)
+    {inputs outputs : List ℕ} {ms : List Module} {k number place : ℕ} (t : Target inputs outputs ms k number place)
     (g : isGate number ≡ false) (takes drives : List ℕ)
   where
-    pub inputs-differ : (length takes ≡ length (t .m .inputs) → ⊥) → referenceOf ms k number takes drives ≡ Broken 14
+    pub inputs-differ : (length takes ≡ length (t .m .inputs) → ⊥) → referenceOf ms k number takes drives ≡ reference.Broken 14
     inputs-differ differ =
         to-module ms k number takes drives g (t .m) (t .found) false
         (ap (λ (b : Bool). b && eqb (length drives) (length (t .m .outputs))) (ne-eqb (length takes) (length (t .m .inputs)) differ))
 
-    pub outputs-differ : (length drives ≡ length (t .m .outputs) → ⊥) → referenceOf ms k number takes drives ≡ Broken 14
+    pub outputs-differ : (length drives ≡ length (t .m .outputs) → ⊥) → referenceOf ms k number takes drives ≡ reference.Broken 14
     outputs-differ differ =
         to-module ms k number takes drives g (t .m) (t .found) false
         (ap (λ (b : Bool). eqb (length takes) (length (t .m .inputs)) && b) (ne-eqb (length drives) (length (t .m .outputs)) differ)
         ∙ and-false (eqb (length takes) (length (t .m .inputs))))
 
-    pub counts-agree : length takes ≡ length (t .m .inputs) → length drives ≡ length (t .m .outputs)
-        → referenceOf ms k number takes drives ≡ To (place + 15)
+    pub counts-agree :
+        length takes ≡ length (t .m .inputs) → length drives ≡ length (t .m .outputs)
+        → referenceOf ms k number takes drives ≡ reference.Module (place - 1)
     counts-agree takes-agree drives-agree =
         to-module ms k number takes drives g (t .m) (t .found) true
         (ap₂ _&&_ (eq-eqb (length takes) (length (t .m .inputs)) takes-agree) (eq-eqb (length drives) (length (t .m .outputs)) drives-agree))
-        ∙ ap To (t .placed)
+        ∙ ap reference.Module (t .placed)
 
 pub repeat-inside : (ms : List Module) → firstRepeat ms ≤ length ms
 unfolding firstRepeat

@@ -6,26 +6,28 @@ use lib.ListN.{length}
 use Rattle.meaning.specs.Syntax.{Occurrence, Module}
 use Rattle.meaning.specs.Layout.{each, occurrenceNumbers}
 use Rattle.meaning.specs.Verdict.{Verdict, good, refused, bodyVerdict}
-use Rattle.nets.specs.Slots.{Knows}
+use Rattle.nets.specs.Slots.{Knows, Below}
 use Rattle.image.specs.Stands.{Stands}
 use Rattle.image.specs.Laid.{laid}
 use Rattle.image.specs.Resolved.{referTo, resolveOccurrence, slotIn, netsOf}
-use Rattle.checker.specs.Scene.{Scene}
-use Rattle.checker.specs.Notes.{notesOf}
+use Rattle.sizes.specs.Walks.{Summed}
+use Rattle.sizes.specs.declared.Sums.{Sums}
+use Rattle.checker.specs.Scene.{Scene, Indexes, Figured}
 use Rattle.checker.specs.Occurrences.{Placed}
 use Rattle.checker.specs.declared.occurrences.Walked.{Walked}
 use Rattle.checker.specs.declared.occurrences.Walked.the-variants.{Fine, Broken}
 
--- The module's occurrences stand at a place, the table knows its inputs, and there are places to note the references.
+-- The module's occurrences stand at a place, and the table knows its inputs.
 pub record BodyReady
-    (numbers starts first slots : List ℕ) (base k from count inputs : ℕ) (image : List ℕ) (place : ℕ) (references : List ℕ) : Type 0 where
-  pub scene : Scene numbers starts first k
-  pub placed : Placed numbers first slots base from inputs image
+    (numbers first inputs outputs slots : List ℕ) (base k from count width : ℕ) (sizes rooms : List ℕ) : Type 0 where
+  pub scene : Scene first inputs outputs k
+  pub placed : Placed numbers base from width
   pub stands : Stands numbers from (each occurrenceNumbers (scene .m .occurrences))
+  pub indexes : Indexes first slots (each occurrenceNumbers (scene .m .occurrences))
+  pub figured : Figured (scene .ms) sizes rooms
   pub all : count ≡ length (scene .m .occurrences)
   pub knows : Knows slots base (scene .m .inputs)
-  pub wide : inputs ≡ length (scene .m .inputs)
-  pub noting : place + count ≤ length references
+  pub wide : width ≡ length (scene .m .inputs)
 
 -- The resolved occurrences of a module.
 abbrev pub resolvedBody : List Module → Module → List Occurrence → List Occurrence
@@ -33,29 +35,27 @@ resolvedBody ms m os = map (resolveOccurrence (slotIn m) (referTo ms)) os
 
 -- All occurrences are fine.
 pub record Finished
-    (ms : List Module) (m : Module) (from base : ℕ) (image slots′ image′ : List ℕ) (place : ℕ) (references references′ : List ℕ)
-    (next nets : ℕ) : Type 0 where
+    (ms : List Module) (m : Module) (numbers : List ℕ) (from base : ℕ) (sizes rooms numbers′ slots′ : List ℕ) (next nets : ℕ) (sums : Sums) : Type 0 where
   pub behind : next ≡ from + length (each occurrenceNumbers (m .occurrences))
   pub count : nets ≡ length (netsOf m)
   pub knows : Knows slots′ base (netsOf m)
-  pub written : image′ ≡ laid image from (each occurrenceNumbers (resolvedBody ms m (m .occurrences)))
-  pub noted : references′ ≡ laid references place (notesOf ms (m .occurrences))
+  pub written : numbers′ ≡ laid numbers from (each occurrenceNumbers (resolvedBody ms m (m .occurrences)))
+  pub summed : Summed sizes rooms (resolvedBody ms m (m .occurrences)) sums
   pub few : nets ≤ next
 
--- What the answer says: the verdict of rules 11 to 14 over all occurrences, and where it is good the image and the table.
-abbrev pub Walks : Walked → Verdict → (k : ℕ) → (ms : List Module) → Module → (from base : ℕ) → (image slots′ image′ : List ℕ) → (place : ℕ) → (references references′ : List ℕ) → Type 0
-Walks (Fine next nets) v k ms m from base image slots′ image′ place references references′ =
-    (v ≡ good) × Finished ms m from base image slots′ image′ place references references′ next nets
-Walks (Broken rule) v k ms m from base image slots′ image′ place references references′ = v ≡ refused rule k
+-- What the answer says: the verdict of rules 11 to 14 over all occurrences, and where it is good the image, the table and the sums.
+abbrev pub Walks : Walked → Verdict → (k : ℕ) → (ms : List Module) → Module → (numbers : List ℕ) → (from base : ℕ) → (sizes rooms numbers′ slots′ : List ℕ) → Type 0
+Walks (Fine next nets sums) v k ms m numbers from base sizes rooms numbers′ slots′ =
+    (v ≡ good) × Finished ms m numbers from base sizes rooms numbers′ slots′ next nets sums
+Walks (Broken rule) v k ms m numbers from base sizes rooms numbers′ slots′ = v ≡ refused rule k
 
 pub record BodyChecked
-    (numbers starts first slots : List ℕ) (base k from count inputs : ℕ) (image slots′ image′ : List ℕ) (place : ℕ)
-    (references references′ : List ℕ) (r : Walked) : Type 0 where
+    (numbers first inputs outputs slots : List ℕ) (base k from count width : ℕ) (sizes rooms numbers′ slots′ : List ℕ) (r : Walked) : Type 0 where
   pub walks :
-      (s : Scene numbers starts first k)
+      (s : Scene first inputs outputs k)
       → Stands numbers from (each occurrenceNumbers (s .m .occurrences))
       → count ≡ length (s .m .occurrences)
       → Knows slots base (s .m .inputs)
-      → inputs ≡ length (s .m .inputs)
-      → Walks r (bodyVerdict k (s .m .occurrences) (s .m .inputs) (s .later)) k (s .ms) (s .m) from base image slots′ image′
-      place references references′
+      → width ≡ length (s .m .inputs)
+      → Walks r (bodyVerdict k (s .m .occurrences) (s .m .inputs) (s .later)) k (s .ms) (s .m) numbers from base sizes rooms numbers′ slots′
+  pub low : Below (base + 65536) slots → Below (base + 65536) slots′

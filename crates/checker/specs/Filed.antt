@@ -17,10 +17,14 @@ pub record Filed (numbers starts : List ℕ) (ms : List Module) : Type 0 where
   pub listed : length ms ≤ length starts
   pub few : length ms ≤ 128
 
--- What numbering asks: a file of so many modules stands there, and the table, all 0, has an entry for each of its numbers.
-pub record Countable (numbers starts : List ℕ) (modules : ℕ) (first : List ℕ) : Type 0 where
+-- What numbering asks: a file of so many modules stands there, the table of numbers, all 0, has an entry for each of its numbers, and the
+-- other tables have one for each module.
+pub record Countable (numbers starts : List ℕ) (modules : ℕ) (first names inputs outputs : List ℕ) : Type 0 where
   pub ms : List Module
   pub filed : Filed numbers starts ms
   pub counted : modules ≡ length ms
   pub indexed : Below (length first) numbers
   pub clear : (x : ℕ) → getD first x 0 ≡ 0
+  pub namesLong : modules ≤ length names
+  pub inputsLong : modules ≤ length inputs
+  pub outputsLong : modules ≤ length outputs

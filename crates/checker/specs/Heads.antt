@@ -1,9 +1,8 @@
--- What stands of a module in front of its occurrences: rules 6 to 10, and its numbers in the image.
+-- What stands of a module in front of its occurrences: rules 6 and 8 to 10, and its part of the image.
 use Prim.Native.Nat.{ℕ, _+_, _-_, _*_, _<_, _≤_, _^_}
 use mathlib.Core.Path.{_≡_}
 use mathlib.Core.Bool.{Bool, true, cond}
 use mathlib.Core.List.{List, [], _∷_, _++_, map}
-use lib.Dec.{eqb}
 use lib.ListN.{length}
 use Rattle.meaning.specs.Syntax.{Module}
 use Rattle.meaning.specs.Gates.{isGate}
@@ -17,36 +16,39 @@ use Rattle.image.specs.Laid.{laid}
 unfoldable pub portsRule : (inputs outputs : List ℕ) → ℕ
 portsRule inputs outputs = cond (duplicates inputs) 8 (cond (duplicates outputs) 9 (cond (disjoint inputs outputs) 0 10))
 
--- Rules 6 to 10 likewise. `repeats` says that the number stands on a later module.
-unfoldable pub headRule : (number : ℕ) → (repeats : Bool) → (inputs outputs : List ℕ) → ℕ
-headRule number repeats inputs outputs = cond (isGate number) 6 (cond repeats 7 (portsRule inputs outputs))
+-- With rule 6 before them.
+unfoldable pub headRule : (number : ℕ) → (inputs outputs : List ℕ) → ℕ
+headRule number inputs outputs = cond (isGate number) 6 (portsRule inputs outputs)
 
--- Nets of both lists are indices of the table, and its entries are from before the two stamps below the base.
+-- Nets of both lists are indices of the table, its entries are from before the two stamps below the base, and slots fit a number.
 pub record PortsReady (inputs outputs slots : List ℕ) (base : ℕ) : Type 0 where
   pub inputsIndex : Below (length slots) inputs
   pub outputsIndex : Below (length slots) outputs
   pub earlier : Below (base - 2) slots
   pub stamps : 2 ≤ base
+  pub few : length inputs ≤ 65536
   pub based : base + length inputs < 2 ^ 32
 
--- The rule, and where none is broken a table that knows the inputs.
+-- The rule, and where none is broken a table that knows the inputs. No entry is above the slots of the base.
 pub record PortsJudged (inputs outputs : List ℕ) (base : ℕ) (slots′ : List ℕ) (r : ℕ) : Type 0 where
   pub rule : r ≡ portsRule inputs outputs
   pub knows : r ≡ 0 → Knows slots′ base inputs
+  pub low : Below (base + 65536) slots′
 
--- A module stands at a place, and the table's entries are from earlier modules.
-pub record HeadReady (numbers slots : List ℕ) (base s : ℕ) : Type 0 where
+-- The numbers of a module are given, and the table's entries are from modules before.
+pub record HeadReady (numbers slots : List ℕ) (base : ℕ) : Type 0 where
   pub m : Module
-  pub stands : Stands numbers s (moduleNumbers m)
+  pub own : numbers ≡ moduleNumbers m
   pub earlier : Below (base - 2) slots
-  pub indexSlots : Below (length slots) numbers
+  pub inSlots : Below (length slots) numbers
   pub short : length numbers ≤ 65535
   pub stamps : 2 ≤ base
   pub based : base ≤ 131072 * 200
 
-pub record HeadJudged (numbers : List ℕ) (base k repeated s : ℕ) (slots′ : List ℕ) (r : ℕ) : Type 0 where
-  pub rule : (m : Module) → Stands numbers s (moduleNumbers m) → r ≡ headRule (m .number) (eqb k repeated) (m .inputs) (m .outputs)
-  pub knows : (m : Module) → Stands numbers s (moduleNumbers m) → r ≡ 0 → Knows slots′ base (m .inputs)
+pub record HeadJudged (numbers : List ℕ) (base : ℕ) (slots′ : List ℕ) (r : ℕ) : Type 0 where
+  pub rule : (m : Module) → numbers ≡ moduleNumbers m → r ≡ headRule (m .number) (m .inputs) (m .outputs)
+  pub knows : (m : Module) → numbers ≡ moduleNumbers m → r ≡ 0 → Knows slots′ base (m .inputs)
+  pub low : Below (base + 65536) slots′
 
 -- A module's number, its two lists with their counts, and the count of its occurrences.
 abbrev pub headNumbers : (number : ℕ) → (inputs outputs : List ℕ) → (occurrences : ℕ) → List ℕ
@@ -57,20 +59,21 @@ abbrev pub resolvedHead : (k : ℕ) → Module → (nets : List ℕ) → List �
 resolvedHead k m nets =
     headNumbers (16 + k) (map (λ (x : ℕ). slotOf x nets) (m .inputs)) (map (λ (x : ℕ). slotOf x nets) (m .outputs)) (length (m .occurrences))
 
--- A module stands at a place, and so many slots fit a number of the image.
-pub record HeadWritable (numbers slots : List ℕ) (base k s nets : ℕ) (image : List ℕ) : Type 0 where
+-- The head of a module stands in front, its nets are indices of the table, and so many slots fit a number.
+pub record HeadWritable (numbers slots : List ℕ) (base k nets : ℕ) : Type 0 where
   pub m : Module
-  pub stands : Stands numbers s (moduleNumbers m)
+  pub stands : Stands numbers 0 (headNumbers (m .number) (m .inputs) (m .outputs) (length (m .occurrences)))
+  pub inputsIndex : Below (length slots) (m .inputs)
+  pub outputsIndex : Below (length slots) (m .outputs)
   pub few : nets ≤ 65536
   pub high : base + 65536 ≤ 2 ^ 32
   pub position : k < 128
   pub short : length numbers ≤ 65535
-  pub indexSlots : Below (length slots) numbers
-  pub room : length numbers ≤ length image
 
--- Where the table knows the nets and the inputs are among them: whether the outputs are, and where they are what the image holds.
-pub record HeadWritten (numbers slots : List ℕ) (base k s nets : ℕ) (image image′ : List ℕ) (r : Bool) : Type 0 where
+-- Where the table knows the nets and the inputs are among them: whether the outputs are, and where they are what stands in front.
+pub record HeadWritten (numbers slots : List ℕ) (base k nets : ℕ) (numbers′ : List ℕ) (r : Bool) : Type 0 where
   pub written :
-      (m : Module) (known : List ℕ) → Stands numbers s (moduleNumbers m) → Knows slots base known → nets ≡ length known
+      (m : Module) (known : List ℕ) → Stands numbers 0 (headNumbers (m .number) (m .inputs) (m .outputs) (length (m .occurrences)))
+      → Knows slots base known → nets ≡ length known
       → subset (m .inputs) known ≡ true
-      → (r ≡ subset (m .outputs) known) × (r ≡ true → image′ ≡ laid image s (resolvedHead k m known))
+      → (r ≡ subset (m .outputs) known) × (r ≡ true → numbers′ ≡ laid numbers 0 (resolvedHead k m known))

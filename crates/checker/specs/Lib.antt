@@ -1,7 +1,6 @@
 -- What the check's functions take and answer.
 pub mod Filed
 pub mod Numbering
-pub mod Notes
 pub mod References
 pub mod Scene
 pub mod Occurrences
@@ -10,3 +9,4 @@ pub mod Lists
 pub mod Heads
 pub mod Modules
 pub mod Files
+pub mod Going

@@ -1,9 +1,9 @@
--- What reading a list of nets with its count, and setting it down in the image, asks and answers.
+-- What reading a list of nets with its count, and putting slots in the places of its nets, asks and answers.
 use Prim.Native.Nat.{ℕ, _+_, _≤_, _^_}
 use mathlib.Core.Path.{_≡_}
 use mathlib.Core.Bool.{Bool, true}
 use mathlib.Core.List.{List, _++_, map}
-use lib.ListN.{length}
+use lib.ListN.{length, drop}
 use Rattle.meaning.specs.Layout.{listNumbers}
 use Rattle.meaning.specs.Boxlist.{subset}
 use Rattle.nets.specs.Slots.{Knows, Below, slotOf}
@@ -16,26 +16,29 @@ pub record Listed (numbers : List ℕ) (at : ℕ) : Type 0 where
   pub list : List ℕ
   pub stands : Stands numbers at (listNumbers list)
 
--- What setting a list down asks: its nets are indices of the table, slots fit a number of the image, which is long enough.
-pub record ListReady (numbers slots : List ℕ) (base at limit : ℕ) (image : List ℕ) : Type 0 where
+-- What putting slots in its nets' places asks: the nets are indices of the table, and slots fit a number.
+pub record ListReady (numbers slots : List ℕ) (base at limit : ℕ) : Type 0 where
   pub listed : Listed numbers at
+  pub inSlots : Below (length slots) (listed .list)
   pub few : limit ≤ 65536
   pub high : base + 65536 ≤ 2 ^ 32
   pub short : length numbers ≤ 65535
-  pub indexSlots : Below (length slots) numbers
-  pub room : length numbers ≤ length image
 
--- A list of nets behind `nets`: whether it is new, and where it is what the table knows and the image holds.
-pub record ListLearnt (numbers slots : List ℕ) (base at first : ℕ) (image slots′ image′ : List ℕ) (r : Bool) : Type 0 where
+-- A list of nets behind `nets`: whether it is new, and where it is what the table knows and what stands in its place. No entry of the
+-- table is above the slots of the base.
+pub record ListLearnt (numbers slots : List ℕ) (base at first : ℕ) (slots′ numbers′ : List ℕ) (r : Bool) : Type 0 where
   pub learnt :
       (list nets : List ℕ) → Stands numbers at (listNumbers list) → Knows slots base nets → first ≡ length nets
       → (r ≡ apart list nets)
       × (r ≡ true → Knows slots′ base (nets ++ list))
-      × (r ≡ true → image′ ≡ laid image at (listNumbers (map (λ (x : ℕ). slotOf x (nets ++ list)) list)))
+      × (r ≡ true → numbers′ ≡ laid numbers at (listNumbers (map (λ (x : ℕ). slotOf x (nets ++ list)) list)))
+  pub low : Below (base + 65536) slots → Below (base + 65536) slots′
 
--- A list of nets where the table knows `more` behind `nets`: whether it has none but `nets`, and where it does what the image holds.
-pub record ListWritten (numbers slots : List ℕ) (base at limit : ℕ) (image image′ : List ℕ) (r : Bool) : Type 0 where
+-- A list of nets where the table knows `more` behind `nets`: whether it has none but `nets`, and where it does what stands in its place.
+-- What stands behind it is as it was.
+pub record ListWritten (numbers slots : List ℕ) (base at limit : ℕ) (numbers′ : List ℕ) (r : Bool) : Type 0 where
   pub written :
       (list nets more : List ℕ) → Stands numbers at (listNumbers list) → Knows slots base (nets ++ more) → limit ≡ length nets
       → (r ≡ subset list nets)
-      × (r ≡ true → image′ ≡ laid image at (listNumbers (map (λ (x : ℕ). slotOf x (nets ++ more)) list)))
+      × (r ≡ true → numbers′ ≡ laid numbers at (listNumbers (map (λ (x : ℕ). slotOf x (nets ++ more)) list)))
+  pub behind : (list : List ℕ) → Stands numbers at (listNumbers list) → drop (at + 1 + length list) numbers′ ≡ drop (at + 1 + length list) numbers

@@ -6,23 +6,29 @@ use lib.ListN.{length}
 use Rattle.meaning.specs.Syntax.{Module}
 use Rattle.meaning.specs.Boxlist.{member}
 use Rattle.nets.specs.Slots.{Below}
-use Rattle.checker.specs.Filed.{Filed, At}
-use Rattle.checker.specs.Numbering.{Numbered, firstRepeat}
+use Rattle.checker.specs.Filed.{At}
+use Rattle.checker.specs.Numbering.{Numbered, Ported, firstRepeat}
 
-pub record Scene (numbers starts first : List ℕ) (k : ℕ) : Type 0 where
+pub record Scene (first inputs outputs : List ℕ) (k : ℕ) : Type 0 where
   pub ms : List Module
   pub m : Module
   pub later : List Module
   pub here : At ms k m later
-  pub filed : Filed numbers starts ms
   pub numbered : Numbered first ms
+  pub ported : Ported inputs outputs ms
   pub unrepeated : k < firstRepeat ms
+  pub few : length ms ≤ 128
 
--- Every number of the file is an index of the tables, and places fit their types.
-pub record Tables (numbers first slots : List ℕ) : Type 0 where
-  pub indexFirst : Below (length first) numbers
-  pub indexSlots : Below (length slots) numbers
-  pub short : length numbers ≤ 65535
+-- Numbers of the file are indices of the tables.
+pub record Indexes (first slots xs : List ℕ) : Type 0 where
+  pub inFirst : Below (length first) xs
+  pub inSlots : Below (length slots) xs
+
+-- The tables of figures have an entry for each module, and no size is over the limit.
+pub record Figured (ms : List Module) (sizes rooms : List ℕ) : Type 0 where
+  pub sizesLong : length ms ≤ length sizes
+  pub roomsLong : length ms ≤ length rooms
+  pub small : Below 65536 sizes
 
 -- Two lists have the same nets.
 pub record Same (nets signals : List ℕ) : Type 0 where

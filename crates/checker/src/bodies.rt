@@ -1,49 +1,53 @@
 // The occurrences of a module in order.
 use crate::occurrences::Walked;
+use sizes::Sums;
 ghost use Rattle.checker.specs.Bodies.{BodyReady, BodyChecked};
 
-// All occurrences of the module at position k: each checked, and set down in the image where it is fine. Their references are noted from
-// a place on.
+// All occurrences of the module at position k, whose inputs are `width` nets: each checked, and made its part of the image where it is
+// fine.
 pub fn check_body(
-    numbers: &[u16],
+    numbers: &mut [u16],
     from: usize,
     count: usize,
     k: usize,
-    starts: &[usize],
     first: &[u16],
+    inputs: &[u16],
+    outputs: &[u16],
     slots: &mut [u32],
     base: u32,
-    inputs: usize,
-    image: &mut [u16],
-    references: &mut [u16],
-    place: usize,
+    width: usize,
+    sizes: &[u32],
+    rooms: &[u32],
 ) -> Walked
-    requires { ⌜ BodyReady (now numbers) (now starts) (now first) (now slots) base k from count inputs (now image) place (now references) ⌝ }
-    ensures { λ r. ⌜ BodyChecked (now (numbers .entry)) (now (starts .entry)) (now (first .entry)) (now (slots .entry)) base k from count inputs (now (image .entry)) (now (slots .exit)) (now (image .exit)) place (now (references .entry)) (now (references .exit)) r ⌝ }
+    requires { ⌜ BodyReady (now numbers) (now first) (now inputs) (now outputs) (now slots) base k from count width (now sizes) (now rooms) ⌝ }
+    ensures { λ r. ⌜ BodyChecked (now (numbers .entry)) (now (first .entry)) (now (inputs .entry)) (now (outputs .entry)) (now (slots .entry)) base k from count width (now (sizes .entry)) (now (rooms .entry)) (now (numbers .exit)) (now (slots .exit)) r ⌝ }
 {
     let mut at = from;
-    let mut filled = inputs;
+    let mut filled = width;
+    let mut so_far = Sums::nothing();
     let mut i = 0;
     while i < count {
         match crate::occurrences::check_occurrence(
             numbers,
             at,
             k,
-            starts,
             first,
+            inputs,
+            outputs,
             slots,
             base,
             filled,
-            image,
-            references,
-            place + i,
+            sizes,
+            rooms,
+            so_far,
         ) {
             Walked::Broken(rule) => {
                 return Walked::Broken(rule);
             }
-            Walked::Fine { next, nets } => {
+            Walked::Fine { next, nets, sums } => {
                 at = next;
                 filled = nets;
+                so_far = sums;
             }
         }
         i += 1;
@@ -51,5 +55,6 @@ pub fn check_body(
     Walked::Fine {
         next: at,
         nets: filled,
+        sums: so_far,
     }
 }

@@ -1,51 +1,62 @@
-// Rules 11 to 14 for one occurrence, its numbers in the image, and its reference noted.
+// Rules 11 to 14 for one occurrence, which becomes its part of the image, and what its reference adds to the module's sums.
 use crate::references::Reference;
+use sizes::Sums;
 ghost use Rattle.checker.specs.Occurrences.{StepReady, Stepped};
 
-// How a walk over occurrences goes on or ends: fine so far, with the place behind them and the count of nets, or the rule that one of
-// them breaks.
+// How a walk over occurrences goes on or ends: fine so far, with the place behind them, the count of nets and the sums over their
+// references, or the rule that one of them breaks.
 pub enum Walked {
-    Fine { next: usize, nets: usize },
+    Fine {
+        next: usize,
+        nets: usize,
+        sums: Sums,
+    },
     Broken(u16),
 }
 
 // The occurrence at a place behind which `filled` nets are known. Each of its lists is passed over once: what is asked of its nets, what
-// the table learns of them and what stands in the image go together. The nets that it drives are learnt first; those that it takes must
-// have been known before, so they are asked for below the slots of those. What it refers to is noted at a place of its own too.
+// the table learns of them and what takes their places go together. The nets that it drives are learnt first; those that it takes must
+// have been known before, so they are asked for below the slots of those.
 pub fn check_occurrence(
-    numbers: &[u16],
+    numbers: &mut [u16],
     at: usize,
     k: usize,
-    starts: &[usize],
     first: &[u16],
+    inputs: &[u16],
+    outputs: &[u16],
     slots: &mut [u32],
     base: u32,
     filled: usize,
-    image: &mut [u16],
-    references: &mut [u16],
-    place: usize,
+    sizes: &[u32],
+    rooms: &[u32],
+    sums: Sums,
 ) -> Walked
-    requires { ⌜ StepReady (now numbers) (now starts) (now first) (now slots) base k at filled (now image) place (now references) ⌝ }
-    ensures { λ r. ⌜ Stepped (now (numbers .entry)) (now (starts .entry)) (now (first .entry)) (now (slots .entry)) base k at filled (now (image .entry)) (now (slots .exit)) (now (image .exit)) place (now (references .entry)) (now (references .exit)) r ⌝ }
+    requires { ⌜ StepReady (now numbers) (now first) (now inputs) (now outputs) (now slots) base k at filled (now sizes) (now rooms) sums ⌝ }
+    ensures { λ r. ⌜ Stepped (now (numbers .entry)) (now (first .entry)) (now (inputs .entry)) (now (outputs .entry)) (now (slots .entry)) base k at filled (now (sizes .entry)) (now (rooms .entry)) sums (now (numbers .exit)) (now (slots .exit)) r ⌝ }
 {
     let driven = image::entry(numbers, at);
     let r = at + 1 + driven;
     let t = r + 1;
     let taken = image::entry(numbers, t);
-    if !crate::lists::learn_list(numbers, at, slots, base, filled as u32, image) {
+    if !crate::lists::learn_list(numbers, at, slots, base, filled as u32) {
         return Walked::Broken(11);
     }
-    if !crate::lists::write_list(numbers, t, slots, base, filled as u32, image) {
+    if !crate::lists::write_list(numbers, t, slots, base, filled as u32) {
         return Walked::Broken(12);
     }
-    match crate::references::judge_reference(numbers[r], taken, driven, k, numbers, starts, first) {
+    match crate::references::judge_reference(numbers[r], taken, driven, k, first, inputs, outputs) {
         Reference::Broken(rule) => Walked::Broken(rule),
-        Reference::To(refers) => {
-            image[r] = refers;
-            references[place] = refers;
+        Reference::Gate => Walked::Fine {
+            next: t + 1 + taken,
+            nets: filled + driven,
+            sums: sums.with_gate(),
+        },
+        Reference::Module(j) => {
+            numbers[r] = (16 + j) as u16;
             Walked::Fine {
                 next: t + 1 + taken,
                 nets: filled + driven,
+                sums: sums.with_module(j, sizes, rooms),
             }
         }
     }

@@ -7,13 +7,13 @@ ghost use Prim.Native.Nat.{ℕ, _+_, _<_};
 ghost use lib.ListN.{length};
 ghost use Rattle.meaning.specs.Syntax.{Module};
 ghost use Rattle.meaning.specs.Gates.{isGate};
-ghost use Rattle.checker.specs.Filed.{Filed};
-ghost use Rattle.checker.specs.Numbering.{Numbered, firstRepeat, Referable};
+ghost use Rattle.checker.specs.Numbering.{Numbered, Ported, firstRepeat, Referable};
 ghost use Rattle.checker.specs.References.{referenceOf};
 
-// What a reference comes to: its number in the image, or the rule that it breaks.
+// What a reference comes to: a gate, the module at a position, or the rule that it breaks.
 pub enum Reference {
-    To(u16),
+    Gate,
+    Module(usize),
     Broken(u16),
 }
 
@@ -23,28 +23,25 @@ fn judge_module(
     taken: usize,
     driven: usize,
     k: usize,
-    numbers: &[u16],
-    starts: &[usize],
     first: &[u16],
+    inputs: &[u16],
+    outputs: &[u16],
 ) -> Reference
-    requires { ⌜ Referable (now numbers) (now starts) (now first) k number ⌝ }
+    requires { ⌜ Referable (now first) (now inputs) (now outputs) k number ⌝ }
     requires { ⌜ isGate number ≡ false ⌝ }
-    ensures { λ r. ⌜ ((ms : List Module) (takes drives : List ℕ) → Filed (now (numbers .entry)) (now (starts .entry)) ms → Numbered (now (first .entry)) ms → k < firstRepeat ms → taken ≡ length takes → driven ≡ length drives → r ≡ referenceOf ms k number takes drives) ⌝ }
+    ensures { λ r. ⌜ ((ms : List Module) (takes drives : List ℕ) → Numbered (now (first .entry)) ms → Ported (now (inputs .entry)) (now (outputs .entry)) ms → k < firstRepeat ms → taken ≡ length takes → driven ≡ length drives → r ≡ referenceOf ms k number takes drives) ⌝ }
 {
     let place = image::entry(first, number as usize);
     if place <= k + 1 {
         return Reference::Broken(13);
     }
-    let at = starts[place - 1];
-    let inputs = image::entry(numbers, at + 1);
-    if taken != inputs {
+    if taken != image::entry(inputs, place - 1) {
         return Reference::Broken(14);
     }
-    let outputs = image::entry(numbers, at + 2 + inputs);
-    if driven != outputs {
+    if driven != image::entry(outputs, place - 1) {
         return Reference::Broken(14);
     }
-    Reference::To((place + 15) as u16)
+    Reference::Module(place - 1)
 }
 
 // What a reference in the module at position k comes to.
@@ -53,12 +50,12 @@ pub fn judge_reference(
     taken: usize,
     driven: usize,
     k: usize,
-    numbers: &[u16],
-    starts: &[usize],
     first: &[u16],
+    inputs: &[u16],
+    outputs: &[u16],
 ) -> Reference
-    requires { ⌜ Referable (now numbers) (now starts) (now first) k number ⌝ }
-    ensures { λ r. ⌜ ((ms : List Module) (takes drives : List ℕ) → Filed (now (numbers .entry)) (now (starts .entry)) ms → Numbered (now (first .entry)) ms → k < firstRepeat ms → taken ≡ length takes → driven ≡ length drives → r ≡ referenceOf ms k number takes drives) ⌝ }
+    requires { ⌜ Referable (now first) (now inputs) (now outputs) k number ⌝ }
+    ensures { λ r. ⌜ ((ms : List Module) (takes drives : List ℕ) → Numbered (now (first .entry)) ms → Ported (now (inputs .entry)) (now (outputs .entry)) ms → k < firstRepeat ms → taken ≡ length takes → driven ≡ length drives → r ≡ referenceOf ms k number takes drives) ⌝ }
 {
     match gates::kind_of(number) {
         Kind::Gate(_, arity) => {
@@ -68,8 +65,8 @@ pub fn judge_reference(
             if driven != 1 {
                 return Reference::Broken(14);
             }
-            Reference::To(number)
+            Reference::Gate
         }
-        Kind::Module => judge_module(number, taken, driven, k, numbers, starts, first),
+        Kind::Module => judge_module(number, taken, driven, k, first, inputs, outputs),
     }
 }

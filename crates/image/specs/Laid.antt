@@ -25,15 +25,6 @@ module _ (im : List ℕ) (at : ℕ) (xs : List ℕ) (fits : at + length xs ≤ l
   unfolding laid
   from-laid = drop-at (take at im) (xs ++ drop (at + length xs) im) at head-long
 
-  pub stands-laid : Stands (laid im at xs) at xs
-  unfolding laid
-  stands-laid =
-      record {
-        rest = drop (at + length xs) im;
-        here = from-laid;
-        within = omega (arith, length-laid);
-      }
-
   -- What stood before the place is as it was, and so is what stands after the piece.
   pub take-laid : take at (laid im at xs) ≡ take at im
   unfolding laid
@@ -107,3 +98,19 @@ set-laid im at x h = set-split im at x h ∙ ap (λ (n : ℕ). take at im ++ x �
 pub laid-nothing : (im : List ℕ) (at : ℕ) → laid im at [] ≡ im
 unfolding laid
 laid-nothing im at = ap (λ (n : ℕ). take at im ++ drop n im) (add-zero at) ∙ take-append-drop at im
+
+-- Nor does what stands there already, alone or in front of or behind another piece.
+pub laid-own : {im : List ℕ} {at : ℕ} {xs : List ℕ} → Stands im at xs → laid im at xs ≡ im
+unfolding laid
+laid-own {im} {at} {xs} s =
+    ap (λ (l : List ℕ). take at im ++ l) (ap (λ (l : List ℕ). xs ++ l) behind ∙ sym (s .here)) ∙ take-append-drop at im
+  where
+    behind : drop (at + length xs) im ≡ s .rest
+    behind = sym (drop-drop (length xs) at im) ∙ ap (drop (length xs)) (s .here) ∙ drop-append-seam xs (s .rest)
+
+module _ {im : List ℕ} (at : ℕ) (xs ys : List ℕ) (fits : at + (length xs + length ys) ≤ length im) where
+  pub laid-behind-own : Stands im at xs → laid im (at + length xs) ys ≡ laid im at (xs ++ ys)
+  laid-behind-own s = ap (λ (l : List ℕ). laid l (at + length xs) ys) (sym (laid-own s)) ∙ laid-after im at xs ys fits
+
+  pub laid-before-own : Stands im (at + length xs) ys → laid im at xs ≡ laid im at (xs ++ ys)
+  laid-before-own s = ap (λ (l : List ℕ). laid l at xs) (sym (laid-own s)) ∙ laid-before im at xs ys fits

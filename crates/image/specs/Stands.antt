@@ -1,7 +1,7 @@
 -- Where a list of numbers stands inside a longer one, and how to read it there piece by piece.
 use Prim.Native.Nat.{ℕ, suc, _+_, _-_, _≤_, _<_}
 use mathlib.Core.Path.{_≡_, refl, sym, ap, _∙_}
-use mathlib.Core.List.{List, [], _∷_, _++_, append-assoc}
+use mathlib.Core.List.{List, [], _∷_, _++_, append-assoc, append-nil}
 use native.Mathlib.Omega.{arith}
 use native.Mathlib.Numerals.{add-one}
 use lib.ListN.{length, getD, take, drop, length-append, length-drop}
@@ -38,6 +38,14 @@ module _ {im : List ℕ} {at : ℕ} where
   pub stands-tail : {x : ℕ} {xs : List ℕ} → Stands im at (x ∷ xs) → Stands im (at + 1) xs
   stands-tail {x} s = stands-skip (x ∷ []) s
 
+  -- It stands in every list of the same length that is the same from the place on.
+  pub stands-alike : {im′ : List ℕ} {xs : List ℕ} → drop at im′ ≡ drop at im → length im′ ≡ length im → Stands im at xs → Stands im′ at xs
+  stands-alike same long s = record { rest = s .rest; here = same ∙ s .here; within = omega (arith, s .within) }
+
   -- The piece as a part of the whole.
   pub stands-part : {xs : List ℕ} → Stands im at xs → take (length xs) (drop at im) ≡ xs
   stands-part {xs} s = ap (take (length xs)) (s .here) ∙ take-append-seam xs (s .rest)
+
+-- A list stands at its own front.
+pub stands-whole : {im xs : List ℕ} → im ≡ xs → Stands im 0 xs
+stands-whole {im} {xs} e = record { rest = []; here = e ∙ sym (append-nil xs); within = omega (arith, ap length e) }

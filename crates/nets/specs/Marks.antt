@@ -10,7 +10,7 @@ use lib.ListN.{length, getD, set}
 use lib.Seq.{getD-set-same, getD-set-other}
 use Rattle.meaning.specs.Boxlist.{member}
 use Rattle.nets.specs.Slots.{Below}
-use Rattle.nets.specs.Bounds.{below-more}
+use Rattle.nets.specs.Bounds.{below-more, below-set}
 use Rattle.nets.specs.Members.{member-append}
 
 pub record Marked (marks : List ℕ) (stamp : ℕ) (nets : List ℕ) : Type 0 where
@@ -33,14 +33,10 @@ pub marked-one :
 unfolding member
 marked-one {marks} {stamp} {nets} x h m =
     record {
-      bounded = record { below = λ y. bounded y (eqb y x) refl };
+      bounded = below-set x stamp h (omega arith) (m .bounded);
       met = λ y. member-append y nets (x ∷ []) ∙ met y (eqb y x) refl;
     }
   where
-    bounded : (y : ℕ) (b : Bool) → eqb y x ≡ b → getD (set marks x stamp) y 0 < stamp + 1
-    bounded y true e = rw (eqb-true y x e, getD-set-same marks x stamp 0 h) (omega arith)
-    bounded y false e = rw (getD-set-other marks x y stamp 0 (eqb-false y x e)) (m .bounded .below y)
-
     met :
         (y : ℕ) (b : Bool) → eqb y x ≡ b → (member y nets || (b || false)) ≡ eqb (getD (set marks x stamp) y 0) stamp
     met y true e =

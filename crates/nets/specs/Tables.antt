@@ -15,7 +15,6 @@ use Rattle.nets.specs.Booleans.{or-left, or-right}
 use Rattle.nets.specs.Members.{member-append}
 use Rattle.nets.specs.Walks.{apart}
 use Rattle.nets.specs.SlotLaws.{slot-below, slot-append, slot-behind, slot-fresh}
-use Rattle.nets.specs.Writing.{holding}
 
 -- A net is known if its entry is not below the base.
 pub known-member :
@@ -101,30 +100,27 @@ module _
           absurd (omega arith)
       go false e = refl
 
--- What learning a list of nets asks: they are indices of the table, slots from `first` on fit a number of the image, and there is room
--- for them from a place on.
-pub record Learnable (list table : List ℕ) (base first : ℕ) (image : List ℕ) (at : ℕ) : Type 0 where
+-- What learning a list of nets asks: they are indices of the table, and slots from `first` on fit a number.
+pub record Learnable (list table : List ℕ) (base first : ℕ) : Type 0 where
   pub inTable : Below (length table) list
   pub few : first + length list ≤ 65536
   pub high : base + 65536 ≤ 2 ^ 32
-  pub room : at + length list ≤ length image
 
 -- What it comes to where the table knew `nets`: whether the nets of the list are new, and then the table knows them too and their slots
--- are in the image.
-pub record Learnt (nets list : List ℕ) (base : ℕ) (image : List ℕ) (at : ℕ) (table′ image′ : List ℕ) (r : Bool) : Type 0 where
+-- have taken their places.
+pub record Learnt (nets list : List ℕ) (base : ℕ) (list′ table′ : List ℕ) (r : Bool) : Type 0 where
   pub answer : r ≡ apart list nets
   pub knows : r ≡ true → Knows table′ base (nets ++ list)
-  pub written : r ≡ true → image′ ≡ holding image at (map (λ (x : ℕ). slotOf x (nets ++ list)) list)
+  pub written : r ≡ true → list′ ≡ map (λ (x : ℕ). slotOf x (nets ++ list)) list
 
 -- What resolving a list of nets asks likewise.
-pub record Resolvable (list table : List ℕ) (base limit : ℕ) (image : List ℕ) (at : ℕ) : Type 0 where
+pub record Resolvable (list table : List ℕ) (base limit : ℕ) : Type 0 where
   pub inTable : Below (length table) list
   pub few : limit ≤ 65536
   pub high : base + 65536 ≤ 2 ^ 32
-  pub room : at + length list ≤ length image
 
--- What it comes to where the table knows `more` behind `nets`: whether the list has none but `nets`, and then their slots are in the
--- image.
-pub record Resolved (nets more list image : List ℕ) (at : ℕ) (image′ : List ℕ) (r : Bool) : Type 0 where
+-- What it comes to where the table knows `more` behind `nets`: whether the list has none but `nets`, and then their slots have taken
+-- their places.
+pub record Resolved (nets more list list′ : List ℕ) (r : Bool) : Type 0 where
   pub answer : r ≡ subset list nets
-  pub written : r ≡ true → image′ ≡ holding image at (map (λ (x : ℕ). slotOf x (nets ++ more)) list)
+  pub written : r ≡ true → list′ ≡ map (λ (x : ℕ). slotOf x (nets ++ more)) list

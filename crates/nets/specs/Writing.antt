@@ -1,25 +1,26 @@
--- A number for each entry of a list, written into an image one behind the other from a place on.
-use Prim.Native.Nat.{ℕ, _+_, _≤_, _<_}
+-- A list whose first entries are replaced, one after the other, by what a function makes of them.
+use Prim.Native.Nat.{ℕ, zero, suc, _+_, _≤_, _<_}
 use native.Mathlib.Numerals.{add-one}
 use native.Mathlib.Omega.{arith}
-use mathlib.Core.Path.{_≡_, _∙_}
-use mathlib.Core.List.{List, _++_, map, append-assoc}
-use lib.ListN.{length, getD, take, drop, set, length-map, List·getD-map}
-use lib.Seq.{paste, paste-suc, take-all}
+use mathlib.Core.Path.{_≡_, refl, sym, ap, _∙_}
+use mathlib.Core.List.{List, [], _∷_, _++_, map}
+use lib.ListN.{length, getD, take, drop, set}
 
--- An image with some numbers in it from a place on, and else as it was.
-abbrev pub holding : (image : List ℕ) (at : ℕ) (xs : List ℕ) → List ℕ
-holding image at xs = take at image ++ (xs ++ drop (at + length xs) image)
+abbrev pub replaced : (f : ℕ → ℕ) (list : List ℕ) (i : ℕ) → List ℕ
+replaced f list i = map f (take i list) ++ drop i list
 
-module _ (f : ℕ → ℕ) (list image₀ : List ℕ) (at i : ℕ) {image : List ℕ} (written : image ≡ paste image₀ at (map f list) i) where
-  pub write-next : i < length list → at + i < length image₀ → set image (at + i) (f (getD list i 0)) ≡ paste image₀ at (map f list) (i + 1)
-  write-next here room =
-      rw (written, ← List·getD-map f list i 0, add-one i) (paste-suc image₀ at (map f list) i (f 0) room (rw (length-map list f) here))
+module _ (f : ℕ → ℕ) where
+  -- The next entry is replaced in its turn.
+  replaced-one : (list : List ℕ) (i : ℕ) → i < length list → set (replaced f list i) i (f (getD list i 0)) ≡ replaced f list (suc i)
+  replaced-one [] i here = absurd (omega arith)
+  replaced-one (x ∷ xs) zero here = refl
+  replaced-one (x ∷ xs) (suc i) here = ap (_∷_ (f x)) (replaced-one xs i (omega arith))
 
-  pub write-end : i ≤ length list → length list ≤ i → image ≡ holding image₀ at (map f list)
-  write-end within end =
-      let long = length-map list f in
-      let all : i ≡ length (map f list) = omega arith in
-      written
-      ∙ rw (all, take-all (length (map f list)) (map f list) (omega arith))
-      (append-assoc (take at image₀) (map f list) (drop (at + length (map f list)) image₀))
+  pub replaced-next : (list : List ℕ) (i : ℕ) → i < length list → set (replaced f list i) i (f (getD list i 0)) ≡ replaced f list (i + 1)
+  replaced-next list i here = replaced-one list i here ∙ sym (ap (replaced f list) (add-one i))
+
+  pub replaced-all : (list : List ℕ) (i : ℕ) → length list ≤ i → replaced f list i ≡ map f list
+  replaced-all [] zero end = refl
+  replaced-all [] (suc i) end = refl
+  replaced-all (x ∷ xs) zero end = absurd (omega arith)
+  replaced-all (x ∷ xs) (suc i) end = ap (_∷_ (f x)) (replaced-all xs i (omega arith))

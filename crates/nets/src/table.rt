@@ -38,17 +38,11 @@ pub fn learn(list: &[u16], table: &mut [u32], base: u32)
 }
 
 // Whether the nets of the list are new, to the table and to each other. One pass asks, learns and writes: each net takes the next slot
-// from `first` on, and the slot goes into the image too, from `at` on. It ends at the first net that the table knows already.
-pub fn learn_new(
-    list: &[u16],
-    table: &mut [u32],
-    base: u32,
-    first: u32,
-    image: &mut [u16],
-    at: usize,
-) -> bool
-    requires { ⌜ Learnable (now list) (now table) base first (now image) at ⌝ }
-    ensures { λ r. ⌜ ((nets : List ℕ) → Knows (now (table .entry)) base nets → first ≡ length nets → Learnt nets (now (list .entry)) base (now (image .entry)) at (now (table .exit)) (now (image .exit)) r) ⌝ }
+// from `first` on, and its slot takes its place in the list. It ends at the first net that the table knows already.
+pub fn learn_new(list: &mut [u16], table: &mut [u32], base: u32, first: u32) -> bool
+    requires { ⌜ Learnable (now list) (now table) base first ⌝ }
+    ensures learnt { λ r. ⌜ ((nets : List ℕ) → Knows (now (table .entry)) base nets → first ≡ length nets → Learnt nets (now (list .entry)) base (now (list .exit)) (now (table .exit)) r) ⌝ }
+    ensures low { λ _. ⌜ (Below (base + 65536) (now (table .entry)) → Below (base + 65536) (now (table .exit))) ⌝ }
 {
     let mut i = 0;
     while i < list.len() {
@@ -58,24 +52,17 @@ pub fn learn_new(
         }
         let slot = first + i as u32;
         table[net] = base + slot;
-        image[at + i] = slot as u16;
+        list[i] = slot as u16;
         i += 1;
     }
     true
 }
 
-// Whether the table knows each net of the list, with a slot below the limit. The same pass writes the slots into the image, from `at`
-// on. An entry below the base wraps round to a number above every limit, so one test asks for both bounds.
-pub fn resolve_known(
-    list: &[u16],
-    table: &[u32],
-    base: u32,
-    limit: u32,
-    image: &mut [u16],
-    at: usize,
-) -> bool
-    requires { ⌜ Resolvable (now list) (now table) base limit (now image) at ⌝ }
-    ensures { λ r. ⌜ ((nets more : List ℕ) → Knows (now (table .entry)) base (nets ++ more) → limit ≡ length nets → Resolved nets more (now (list .entry)) (now (image .entry)) at (now (image .exit)) r) ⌝ }
+// Whether the table knows each net of the list, with a slot below the limit. The same pass puts the slots in the nets' places. An entry
+// below the base wraps round to a number above every limit, so one test asks for both bounds.
+pub fn resolve_known(list: &mut [u16], table: &[u32], base: u32, limit: u32) -> bool
+    requires { ⌜ Resolvable (now list) (now table) base limit ⌝ }
+    ensures { λ r. ⌜ ((nets more : List ℕ) → Knows (now (table .entry)) base (nets ++ more) → limit ≡ length nets → Resolved nets more (now (list .entry)) (now (list .exit)) r) ⌝ }
 {
     let mut i = 0;
     while i < list.len() {
@@ -83,7 +70,7 @@ pub fn resolve_known(
         if limit <= above {
             return false;
         }
-        image[at + i] = above as u16;
+        list[i] = above as u16;
         i += 1;
     }
     true

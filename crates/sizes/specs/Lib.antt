@@ -1,11 +1,8 @@
--- What measuring a file's modules asks and answers, and why the figures that are read off the image are those of the file.
-pub mod Measured
-pub mod Ready
+-- The sums over a module's references, the tables that keep its figures, and why those are the figures of the file.
 pub mod Walks
-pub mod Turns
+pub mod Kept
+pub mod Measured
 pub mod Behind
 pub mod Referred
 pub mod SizeRule
-pub mod Rooms
-pub mod ModuleWalk
 pub mod Measuring

@@ -1,18 +1,24 @@
--- Walking the references of one module's occurrences: what the tables say of each, and what the sums over all of them are.
-use Prim.Native.Nat.{ℕ, _+_, _-_, _<_, _≤_}
+-- The sums over occurrences of a module, by tables of the later modules' figures.
+use Prim.Native.Nat.{ℕ, _+_, _-_, max}
 use mathlib.Core.Path.{_≡_}
-use mathlib.Core.Bool.{Bool, true, false, cond}
-use mathlib.Core.List.{List, map}
-use native.Mathlib.Omega.{arith}
-use borrow.Author.Tests.{lt-ltb, le-ltb}
-use lib.ListN.{length, getD}
-use Rattle.meaning.specs.Syntax.{Occurrence, Module}
-use Rattle.meaning.specs.Lists.{All}
+use mathlib.Core.Bool.{cond}
+use mathlib.Core.List.{List}
+use lib.ListN.{getD}
+use Rattle.meaning.specs.Syntax.{Occurrence}
 use Rattle.meaning.specs.Gates.{isGate}
-use Rattle.meaning.specs.Layout.{moduleNumbers}
-use Rattle.meaning.specs.Limits.{bodySize, mostSize}
+use Rattle.meaning.specs.Limits.{bodySize}
 use Rattle.meaning.specs.Figures.{largestReferred}
-use Rattle.image.specs.Stands.{Stands}
+use Rattle.sizes.specs.declared.Sums.{Sums}
+
+-- Over no occurrence, with a gate more, and with the module at position j more.
+abbrev pub noSums : Sums
+noSums = record { size = 0; room = 0 }
+
+abbrev pub plusGate : Sums → Sums
+plusGate s = record { size = s .size + 1; room = s .room }
+
+abbrev pub plusModule : (sizes rooms : List ℕ) → Sums → (j : ℕ) → Sums
+plusModule sizes rooms s j = record { size = s .size + (1 + getD sizes j 0); room = max (s .room) (getD rooms j 0) }
 
 -- An image refers to a module by 16 plus its position, and there a table has its entry.
 abbrev pub entry : (table : List ℕ) (to : ℕ) → ℕ
@@ -22,46 +28,11 @@ entry table to = getD table (to - 16) 0
 abbrev pub figure : (table : List ℕ) (to : ℕ) → ℕ
 figure table to = cond (isGate to) 0 (entry table to)
 
-pub figure-of-gate : (table : List ℕ) (to : ℕ) → to < 16 → figure table to ≡ 0
-figure-of-gate table to h = rw (lt-ltb to 16 h)
+-- With one reference of the image more.
+abbrev pub plus : (sizes rooms : List ℕ) → Sums → (to : ℕ) → Sums
+plus sizes rooms s to = record { size = s .size + (1 + figure sizes to); room = max (s .room) (figure rooms to) }
 
-pub figure-of-module : (table : List ℕ) (to : ℕ) → 16 ≤ to → figure table to ≡ entry table to
-figure-of-module table to h = rw (le-ltb to 16 h)
-
-pub figure-fits : (table : List ℕ) (to most : ℕ) → entry table to < most → figure table to < most
-figure-fits table to most h = go (isGate to)
-  where
-    go : (b : Bool) → cond b 0 (entry table to) < most
-    go true = omega arith
-    go false = h
-
--- Some module's numbers stand at a place.
-pub record ModuleThere (image : List ℕ) (start : ℕ) : Type 0 where
-  pub m : Module
-  pub standing : Stands image start (moduleNumbers m)
-
--- The tables have entries for what an occurrence refers to, and its size is within the limit.
-pub record Told (sizes rooms : List ℕ) (o : Occurrence) : Type 0 where
-  pub sized : o .refers < 16 + length sizes
-  pub roomed : o .refers < 16 + length rooms
-  pub small : figure sizes (o .refers) ≤ mostSize
-
--- What occurrences refer to, in order.
-abbrev pub referredBy : List Occurrence → List ℕ
-referredBy os = map (λ (o : Occurrence). o .refers) os
-
--- The references of so many occurrences stand from a place on.
-pub record Walk (references : List ℕ) (from count : ℕ) (sizes rooms : List ℕ) (os : List Occurrence) : Type 0 where
-  pub counted : count ≡ length os
-  pub standing : Stands references from (referredBy os)
-  pub told : All (Told sizes rooms) os
-
-pub record Walkable (references : List ℕ) (from count : ℕ) (sizes rooms : List ℕ) : Type 0 where
-  pub os : List Occurrence
-  pub walk : Walk references from count sizes rooms os
-  pub few : count ≤ 65535
-
--- Expanded size and largest room referred to, by the tables.
-pub record Summed (sizes rooms : List ℕ) (os : List Occurrence) (size largest : ℕ) : Type 0 where
-  pub sized : size ≡ bodySize (entry sizes) os
-  pub roomed : largest ≡ largestReferred (entry rooms) os
+-- Expanded size and largest room referred to, by the tables, over all occurrences of a module as the image has them.
+pub record Summed (sizes rooms : List ℕ) (os : List Occurrence) (s : Sums) : Type 0 where
+  pub sized : s .size ≡ bodySize (entry sizes) os
+  pub roomed : s .room ≡ largestReferred (entry rooms) os

@@ -1,7 +1,7 @@
 -- `checker::modules::finish_module` meets its contract: whether the outputs are known is rule 15, and each way out is one of the rule's
 -- answers. Assumes nothing.
 use Prim.Native.Nat.{ℕ, _≤_, _<_}
-use mathlib.Core.Path.{_≡_, refl, sym, _∙_}
+use mathlib.Core.Path.{_≡_, sym, _∙_}
 use mathlib.Core.Bool.{Bool, true, false}
 use mathlib.Core.List.{List}
 use native.Mathlib.Omega.{arith}
@@ -9,38 +9,37 @@ use borrow.Author.Needs.{needs}
 use borrow.Author.Tests.{le-leb, lt-leb, not-true, not-false}
 use Rattle.checker.specs.Heads.{HeadWritten}
 use Rattle.checker.specs.Modules.{endRule, Ended}
-use Rattle.checker.specs.declared.modules.Checked.the-variants.{Fine, Broken}
 use Rattle.checker.proofs.modules.finish_module.Statement.{statement}
 use Rattle.checker.proofs.modules.finish_module.Tie as tie
 
 module _
-    {numbers slots : List ℕ} {base k s nets : ℕ} {image image′ : List ℕ} {r : Bool}
-    (h : HeadWritten numbers slots base k s nets image image′ r)
+    {numbers slots : List ℕ} {base k nets : ℕ} {numbers′ : List ℕ} {r : Bool}
+    (h : HeadWritten numbers slots base k nets numbers′ r)
   where
-    unanswered : r ≡ false → Ended numbers slots base k s nets image image′ (Broken 15)
+    unanswered : r ≡ false → Ended numbers slots base k nets numbers′ 15
     unfolding endRule
     unanswered e =
         record {
           ends = λ m known stands knows count inputs.
-              (rw (sym (h .written m known stands knows count inputs .0) ∙ e), λ z. omega (arith, z));
+              (rw (sym (h .written m known stands knows count inputs .0) ∙ e), λ z. absurd (omega (arith, z)));
         }
 
     module _ (answered : r ≡ true) where
-      many : 4096 < nets → Ended numbers slots base k s nets image image′ (Broken 16)
+      many : 4096 < nets → Ended numbers slots base k nets numbers′ 16
       unfolding endRule
       many more =
           record {
             ends = λ m known stands knows count inputs.
-                (rw (sym (h .written m known stands knows count inputs .0) ∙ answered, lt-leb nets 4096 more), λ z. omega (arith, z));
+                (rw (sym (h .written m known stands knows count inputs .0) ∙ answered, lt-leb nets 4096 more), λ z. absurd (omega (arith, z)));
           }
 
-      fine : nets ≤ 4096 → Ended numbers slots base k s nets image image′ (Fine nets)
+      fine : nets ≤ 4096 → Ended numbers slots base k nets numbers′ 0
       unfolding endRule
       fine few =
           record {
             ends = λ m known stands knows count inputs.
                 let w = h .written m known stands knows count inputs in
-                (rw (sym (w .0) ∙ answered, le-leb nets 4096 few), refl, w .1 answered);
+                (rw (sym (w .0) ∙ answered, le-leb nets 4096 few), λ z. w .1 answered);
           }
 
 returns : tie.Need-returns

@@ -11,14 +11,8 @@ use Rattle.checker.proofs.Targets.{to-gate}
 use Rattle.checker.proofs.references.judge_reference.Statement.{statement}
 use Rattle.checker.proofs.references.judge_reference.Tie as tie
 
-kind-of-requires : tie.Need-kind-of-requires
-kind-of-requires c κs = search needs
-
-enum-known-arity : tie.Need-enum-known-arity
-enum-known-arity c = search needs
-
 returns : tie.Need-returns
-returns c ms takes drives filed numbered unrepeated taken driven =
+returns c ms takes drives numbered ported unrepeated taken driven =
     let a = c .before .before .before .before .before .before .before .before .args in
     let v = c .before .before .arity .given in
     let g = gate-of-kind (a .number) (sym (c .before .before .before .before .kind-of .ensures) ∙ v .1) in
@@ -26,7 +20,7 @@ returns c ms takes drives filed numbered unrepeated taken driven =
     (ap (λ (b : Bool). b && eqb 1 (length drives)) (ne-eqb (gate (a .number) .arity) (length takes) (λ e. c .if1 .taken (taken ∙ sym e ∙ sym (g .arity-is))))))
 
 returns-2 : tie.Need-returns-2
-returns-2 c ms takes drives filed numbered unrepeated taken driven =
+returns-2 c ms takes drives numbered ported unrepeated taken driven =
     let a = c .before .before .before .before .before .before .before .before .before .args in
     let v = c .before .before .before .arity .given in
     let g = gate-of-kind (a .number) (sym (c .before .before .before .before .before .kind-of .ensures) ∙ v .1) in
@@ -34,16 +28,13 @@ returns-2 c ms takes drives filed numbered unrepeated taken driven =
     (ap (λ (b : Bool). eqb (gate (a .number) .arity) (length takes) && b) (ne-eqb 1 (length drives) (λ e. c .if2 .taken (driven ∙ sym e)))
     ∙ and-false (eqb (gate (a .number) .arity) (length takes))))
 
-enum-told : tie.Need-enum-told
-enum-told c = search needs
-
 judge-module-requires : tie.Need-judge-module-requires
 judge-module-requires c κs =
     let s = c .before .before .before .before .before .before in
     (s .pre, le-ltb (s .args .number) 16 (module-of-kind (s .args .number) (sym (c .before .before .kind-of .ensures) ∙ c .enum-told .given .1)))
 
 returns-3 : tie.Need-returns-3
-returns-3 c ms takes drives filed numbered unrepeated taken driven =
+returns-3 c ms takes drives numbered ported unrepeated taken driven =
     let a = c .before .before .before .before .before .before .before .before .before .args in
     let v = c .before .before .before .arity .given in
     let g = gate-of-kind (a .number) (sym (c .before .before .before .before .before .kind-of .ensures) ∙ v .1) in
@@ -52,18 +43,15 @@ returns-3 c ms takes drives filed numbered unrepeated taken driven =
     (eq-eqb (gate (a .number) .arity) (length takes) (sym (g .arity-is) ∙ sym (c .before .if1 .left) ∙ taken))
     (eq-eqb 1 (length drives) (sym (c .if2 .left) ∙ driven))))
 
-returns-4 : tie.Need-returns-4
-returns-4 c = c .judge-module .ensures
-
 pub judge-reference-spec : {M : Type 1} → statement M
 judge-reference-spec =
     tie.close
     (tie.spec
-    kind-of-requires
-    enum-known-arity
+    (λ c κs. search needs)
+    (λ c. search needs)
     returns
     returns-2
-    enum-told
+    (λ c. search needs)
     judge-module-requires
     returns-3
-    returns-4)
+    (λ c. c .judge-module .ensures))

@@ -1,58 +1,59 @@
 -- `nets::table::learn_new` meets its contract. The loop's invariant: the nets before place i were new, the table knows them besides the
--- nets that it knew, their slots are in the image, and the list is new just if it is from place i on. Assumes nothing.
+-- nets that it knew, their slots are in their places, and the list is new just if it is from place i on. Assumes nothing.
 use Prim.Native.Nat.{ℕ, suc, _+_, _-_, _<_, _≤_}
 use native.Mathlib.Omega.{arith}
-use mathlib.Core.Path.{_≡_, refl, sym, ap, _∙_}
+use mathlib.Core.Path.{_≡_, refl, sym, ap, ap₂, _∙_}
 use mathlib.Core.Bool.{true, false, true≢false}
-use mathlib.Core.List.{List, [], _∷_, _++_, map, append-assoc, append-nil}
+use mathlib.Core.List.{List, [], _∷_, _++_, append-assoc, append-nil}
 use borrow.Author.Tests.{le-leb, lt-leb}
 use lib.ListN.{length, getD, take, drop, set, length-set, length-append}
-use lib.Seq.{paste, paste-zero, take-all, split-at, length-take-le}
+use lib.Seq.{take-all, split-at, length-take-le, getD-set-other}
 use Rattle.meaning.specs.Boxlist.{member}
-use Rattle.nets.specs.Slots.{slotOf, Knows}
+use Rattle.nets.specs.Slots.{slotOf, Knows, Below}
+use Rattle.nets.specs.Bounds.{below-set}
 use Rattle.nets.specs.SlotLaws.{slot-fresh}
 use Rattle.nets.specs.Walks.{apart, up-to-here, apart-here, apart-end}
-use Rattle.nets.specs.Writing.{write-next, write-end}
+use Rattle.nets.specs.Writing.{replaced, replaced-next, replaced-all}
 use Rattle.nets.specs.Tables.{Learnt, known-member, knows-one}
 use Rattle.nets.proofs.table.learn_new.Statement.{statement}
 use Rattle.nets.proofs.table.learn_new.Tie as tie
 
 -- Where the table knew `nets`.
-record Learning (nets list : List ℕ) (base : ℕ) (image₀ : List ℕ) (at : ℕ) (table image : List ℕ) (i : ℕ) : Type 0 where
-  left : apart list nets ≡ apart (drop i list) (nets ++ take i list)
-  knows : Knows table base (nets ++ take i list)
-  written : image ≡ paste image₀ at (map (λ (x : ℕ). slotOf x (nets ++ list)) list) i
+record Learning (nets list₀ : List ℕ) (base : ℕ) (list table : List ℕ) (i : ℕ) : Type 0 where
+  left : apart list₀ nets ≡ apart (drop i list₀) (nets ++ take i list₀)
+  knows : Knows table base (nets ++ take i list₀)
+  written : list ≡ replaced (λ (x : ℕ). slotOf x (nets ++ list₀)) list₀ i
 
-record Passed (list table₀ : List ℕ) (base first : ℕ) (image₀ : List ℕ) (at : ℕ) (table image : List ℕ) (i : ℕ) : Type 0 where
-  within : i ≤ length list
+record Passed (list₀ table₀ : List ℕ) (base first : ℕ) (list table : List ℕ) (i : ℕ) : Type 0 where
+  within : i ≤ length list₀
+  listKept : length list ≡ length list₀
   tableKept : length table ≡ length table₀
-  imageKept : length image ≡ length image₀
-  learning : (nets : List ℕ) → Knows table₀ base nets → first ≡ length nets → Learning nets list base image₀ at table image i
+  ahead : (j : ℕ) → i ≤ j → getD list j 0 ≡ getD list₀ j 0
+  low : Below (base + 65536) table₀ → Below (base + 65536) table
+  learning : (nets : List ℕ) → Knows table₀ base nets → first ≡ length nets → Learning nets list₀ base list table i
 
-module _
-    {nets list : List ℕ} {base : ℕ} {image₀ : List ℕ} {at : ℕ} {table image : List ℕ} {i : ℕ}
-    (l : Learning nets list base image₀ at table image i) where
+module _ {nets list₀ : List ℕ} {base : ℕ} {list table : List ℕ} {i : ℕ} (l : Learning nets list₀ base list table i) where
   -- Behind the last net all were new.
-  learnt : i ≤ length list → length list ≤ i → Learnt nets list base image₀ at table image true
-  learnt within end =
+  learnt : length list₀ ≤ i → Learnt nets list₀ base list table true
+  learnt end =
       record {
-        answer = sym (l .left ∙ apart-end list i end (nets ++ take i list));
-        knows = λ e. rw (← take-all i list end) (l .knows);
-        written = λ e. write-end (λ (x : ℕ). slotOf x (nets ++ list)) list image₀ at i (l .written) within end;
+        answer = sym (l .left ∙ apart-end list₀ i end (nets ++ take i list₀));
+        knows = λ e. rw (← take-all i list₀ end) (l .knows);
+        written = λ e. l .written ∙ replaced-all (λ (x : ℕ). slotOf x (nets ++ list₀)) list₀ i end;
       }
 
-  module _ (here : i < length list) where
+  module _ (here : i < length list₀) where
     -- The net at i is known: it is not new.
-    met : base ≤ getD table (getD list i 0) 0 → Learnt nets list base image₀ at table image false
+    met : base ≤ getD table (getD list₀ i 0) 0 → Learnt nets list₀ base list table false
     met known =
         record {
           answer =
               sym
               (l .left
               ∙ rw (
-                apart-here list i here (nets ++ take i list),
-                known-member table base (nets ++ take i list) (l .knows) (getD list i 0),
-                le-leb base (getD table (getD list i 0) 0) known,
+                apart-here list₀ i here (nets ++ take i list₀),
+                known-member table base (nets ++ take i list₀) (l .knows) (getD list₀ i 0),
+                le-leb base (getD table (getD list₀ i 0) 0) known,
               ));
           knows = λ e. absurd (true≢false (sym e));
           written = λ e. absurd (true≢false (sym e));
@@ -60,94 +61,101 @@ module _
 
     -- It is not: it takes the next slot.
     learn-one :
-        (first : ℕ) → first ≡ length nets → at + i < length image₀ → getD list i 0 < length table → getD table (getD list i 0) 0 < base
-        → Learning nets list base image₀ at (set table (getD list i 0) (base + (first + i))) (set image (at + i) (first + i)) (i + 1)
-    learn-one first count room inTable unknown =
+        (first x : ℕ) → first ≡ length nets → x ≡ getD list₀ i 0 → x < length table → getD table x 0 < base
+        → Learning nets list₀ base (set list i (first + i)) (set table x (base + (first + i))) (i + 1)
+    learn-one first x count is inTable unknown =
         record {
-          left = l .left ∙ apart-here list i here (nets ++ take i list) ∙ rw (new, grown);
+          left = l .left ∙ apart-here list₀ i here (nets ++ take i list₀) ∙ rw (← is, new, grown);
           knows = rw (← grown, ← next) (knows-one x inTable new (l .knows));
           written =
-              ap (set image (at + i)) (sym next ∙ sym slot)
-              ∙ write-next (λ (y : ℕ). slotOf y (nets ++ list)) list image₀ at i (l .written) here room;
+              ap₂ (λ (ys : List ℕ) (slot : ℕ). set ys i slot) (l .written) (sym next ∙ sym slot ∙ ap (λ (y : ℕ). slotOf y (nets ++ list₀)) is)
+              ∙ replaced-next (λ (y : ℕ). slotOf y (nets ++ list₀)) list₀ i here;
         }
       where
-        x : ℕ
-        x = getD list i 0
+        new : member x (nets ++ take i list₀) ≡ false
+        new = known-member table base (nets ++ take i list₀) (l .knows) x ∙ lt-leb base (getD table x 0) unknown
 
-        new : member x (nets ++ take i list) ≡ false
-        new = known-member table base (nets ++ take i list) (l .knows) x ∙ lt-leb base (getD table x 0) unknown
+        grown : (nets ++ take i list₀) ++ (x ∷ []) ≡ nets ++ take (i + 1) list₀
+        grown =
+            append-assoc nets (take i list₀) (x ∷ [])
+            ∙ ap (λ (ys : List ℕ). nets ++ ys) (ap (λ (y : ℕ). take i list₀ ++ (y ∷ [])) is ∙ sym (up-to-here list₀ i here))
 
-        grown : (nets ++ take i list) ++ (x ∷ []) ≡ nets ++ take (i + 1) list
-        grown = append-assoc nets (take i list) (x ∷ []) ∙ ap (λ (ys : List ℕ). nets ++ ys) (sym (up-to-here list i here))
+        next : length (nets ++ take i list₀) ≡ first + i
+        next = omega (arith, length-append nets (take i list₀), length-take-le i list₀ (omega arith))
 
-        next : length (nets ++ take i list) ≡ first + i
-        next = omega (arith, length-append nets (take i list), length-take-le i list (omega arith))
-
-        slot : slotOf x (nets ++ list) ≡ length (nets ++ take i list)
+        slot : slotOf x (nets ++ list₀) ≡ length (nets ++ take i list₀)
         slot =
-            ap (λ (ys : List ℕ). slotOf x (nets ++ ys)) (split-at list i 0 here)
-            ∙ ap (slotOf x) (sym (append-assoc nets (take i list) (x ∷ drop (suc i) list)))
-            ∙ slot-fresh x (nets ++ take i list) (drop (suc i) list) new
+            ap (λ (ys : List ℕ). slotOf x (nets ++ ys)) (split-at list₀ i 0 here ∙ ap (λ (y : ℕ). take i list₀ ++ (y ∷ drop (suc i) list₀)) (sym is))
+            ∙ ap (slotOf x) (sym (append-assoc nets (take i list₀) (x ∷ drop (suc i) list₀)))
+            ∙ slot-fresh x (nets ++ take i list₀) (drop (suc i) list₀) new
 
 abbrev Inv-loop : tie.InvT-loop
-Inv-loop list table₀ base first image₀ at i₀ table image i = Passed list table₀ base first image₀ at table image i
+Inv-loop list₀ table₀ base first i₀ list table i = Passed list₀ table₀ base first list table i
 
 abbrev μ-loop : tie.MeasureT-loop
-μ-loop list table₀ base first image₀ at i₀ table image i = length list - i
+μ-loop list₀ table₀ base first i₀ list table i = length list₀ - i
 
 loop-holds : tie.Need-loop-holds Inv-loop μ-loop
 loop-holds c =
     record {
       within = omega arith;
+      listKept = refl;
       tableKept = refl;
-      imageKept = refl;
-      learning = λ nets k e.
-          record {
-            left = rw (append-nil nets);
-            knows = rw (append-nil nets) k;
-            written = paste-zero (c .args .image .now) (c .args .at) (map (λ (x : ℕ). slotOf x (nets ++ c .args .list .now)) (c .args .list .now));
-          };
+      ahead = λ j h. refl;
+      low = λ l. l;
+      learning = λ nets k e. record { left = rw (append-nil nets); knows = rw (append-nil nets) k; written = refl };
     }
 
 cast-net : tie.Need-cast-net Inv-loop μ-loop
-cast-net c = omega (arith, c .shared-slice-known .given (c .before .before .loop .i))
+cast-net c = omega (arith, c .slice-known .given (c .before .before .loop .i))
 
 mul-if1 : tie.Need-mul-if1 Inv-loop μ-loop
-mul-if1 c = omega (arith, c .shared-slice-known .given (c .before .before .loop .i))
+mul-if1 c = omega (arith, c .slice-known .given (c .before .before .loop .i))
 
+-- The net at i is the one that the list had there at first, an index of the table.
 slice-read-if1 : tie.Need-slice-read-if1 Inv-loop μ-loop
-slice-read-if1 c = omega (arith, c .before .before .before .before .pre .inTable .below (c .before .before .before .loop .i))
+slice-read-if1 c =
+    let at = c .before .before .before in
+    omega (arith, at .loop .inv .ahead (at .loop .i) (omega arith), at .before .pre .inTable .below (at .loop .i))
 
 returns : tie.Need-returns Inv-loop μ-loop
-returns c nets k e =
+returns c =
     let turn = c .before .before .before in
-    met (turn .before .loop .inv .learning nets k e) (turn .loop-test .taken) (c .if1 .taken)
+    let inv = turn .before .loop .inv in (
+      (λ nets k e. met (inv .learning nets k e) (omega arith) (rw (← inv .ahead (turn .before .loop .i) (omega arith)) (c .if1 .taken))),
+      inv .low,
+    )
 
 mul-table : tie.Need-mul-table Inv-loop μ-loop
-mul-table c = omega (arith, c .before .before .shared-slice-known .given (c .before .before .before .before .loop .i))
+mul-table c = omega (arith, c .before .before .slice-known .given (c .before .before .before .before .loop .i))
 
 slice-write-table : tie.Need-slice-write-table Inv-loop μ-loop
 slice-write-table c =
-    omega (arith, c .before .before .before .before .before .pre .inTable .below (c .before .before .before .before .loop .i))
+    let at = c .before .before .before .before in
+    omega (arith, at .loop .inv .ahead (at .loop .i) (omega arith), at .before .pre .inTable .below (at .loop .i))
 
 loop-again : tie.Need-loop-again Inv-loop μ-loop
 loop-again c =
-    let turn = c .before .before .before in
-    let inv = turn .before .loop .inv in
-    let args = turn .before .before .args in
-    let i = turn .before .loop .i in
+    let at = c .before .before .before .before in
+    let inv = at .loop .inv in
+    let i = at .loop .i in
+    let first = at .before .args .first in
+    let same = inv .ahead i (omega arith) in
+    let inTable = at .before .pre .inTable .below i in
     record {
       within = omega arith;
+      listKept = simp length-set (inv .listKept);
       tableKept = simp length-set (inv .tableKept);
-      imageKept = simp length-set (inv .imageKept);
+      ahead = λ j h. getD-set-other (at .loop .list) i j (first + i) 0 (λ e. omega arith) ∙ inv .ahead j (omega arith);
+      low = λ l. below-set (getD (at .loop .list) i 0) (at .before .args .base + (first + i)) (omega arith) (omega arith) (inv .low l);
       learning = λ nets k e.
-          learn-one (inv .learning nets k e) (turn .loop-test .taken) (args .first) e (omega arith)
-          (omega (arith, turn .before .before .pre .inTable .below i))
-          (c .if1 .left);
+          learn-one (inv .learning nets k e) (omega arith) first (getD (at .loop .list) i 0) e same (omega arith) (c .if1 .left);
     }
 
 returns-2 : tie.Need-returns-2 Inv-loop μ-loop
-returns-2 c nets k e = learnt (c .before .loop .inv .learning nets k e) (c .before .loop .inv .within) (c .loop-test .left)
+returns-2 c =
+    let inv = c .before .loop .inv in
+    ((λ nets k e. learnt (inv .learning nets k e) (omega arith)), inv .low)
 
 pub learn-new-spec : {M : Type 1} → statement M
 learn-new-spec =
@@ -161,8 +169,8 @@ learn-new-spec =
     cast-net
     mul-if1
     slice-read-if1
+    (λ c. c .before .before .before .before .loop .inv .listKept)
     (λ c. c .before .before .before .before .loop .inv .tableKept)
-    (λ c. c .before .before .before .before .loop .inv .imageKept)
     returns
     (λ c. omega arith)
     (λ c. omega arith)
@@ -174,8 +182,7 @@ learn-new-spec =
     (λ c. omega arith)
     (λ c. omega arith)
     (λ c. omega arith)
-    (λ c. omega arith)
     loop-again
+    (λ c. c .before .loop .inv .listKept)
     (λ c. c .before .loop .inv .tableKept)
-    (λ c. c .before .loop .inv .imageKept)
     returns-2)

@@ -1,0 +1,117 @@
+-- The turn of the module at position k, where the check has come to the position behind it: what its check asks, and how far the check of
+-- the file has come then.
+use Prim.Native.Nat.{ℕ, _+_, _-_, _*_, _<_, _≤_}
+use mathlib.Core.Path.{_≡_, refl, sym, subst₂, _∙_}
+use mathlib.Core.Bool.{Bool, true, false}
+use mathlib.Core.Logic.{_⊎_, ⊎-elim}
+use mathlib.Core.List.{List, _++_}
+use native.Mathlib.Omega.{arith}
+use borrow.Author.Tests.{lt-ltb, le-ltb}
+use lib.ListN.{length, getD, take, drop, set}
+use Rattle.sizes.specs.Kept.{Keepable, Kept}
+use Rattle.sizes.specs.declared.Sums.{Sums}
+use Rattle.checker.specs.Modules.{ModuleReady, ModuleChecked}
+use Rattle.checker.specs.Files.{EachReady, overOf}
+use Rattle.checker.specs.Going.{FileWalk, Reached, Gone, endOf, baseOf}
+use Rattle.checker.specs.declared.modules.Checked.{Checked}
+use Rattle.checker.specs.declared.modules.Checked.the-variants.{Fine, Broken}
+use Rattle.checker.specs.declared.files.Found.{Found}
+use Rattle.checker.specs.declared.files.Found.the-variants.{Broken as FirstBroken}
+use Rattle.checker.proofs.FileWalk.{walk-begins, modules-few, module-ready, start-low, part-bounds}
+use Rattle.checker.proofs.FileSteps.{walk-broken, keepable, walk-kept, walk-over}
+
+-- Behind the last module nothing is done yet.
+pub walk-none :
+    {numbers starts : List ℕ} {modules k : ℕ} {found : Found} {first inputs outputs slots nets sizes rooms : List ℕ}
+    → EachReady numbers starts modules found first inputs outputs slots nets sizes rooms → k ≤ modules → modules ≤ k
+    → FileWalk numbers starts modules found first inputs outputs slots nets sizes rooms numbers slots nets sizes rooms found
+    (endOf starts numbers modules k) (baseOf modules k) k
+walk-none {numbers} {starts} {modules} {k} {found} {first} {inputs} {outputs} {slots} {nets} {sizes} {rooms} ready inside end =
+    rw (le-ltb k modules end)
+    (subst₂
+    (λ (s j : ℕ). FileWalk numbers starts modules found first inputs outputs slots nets sizes rooms numbers slots nets sizes rooms found (length numbers) s j)
+    (omega arith)
+    (omega arith)
+    (walk-begins ready))
+
+-- The end of the module at k, by the test of whether one more is there.
+pub end-is :
+    (starts numbers : List ℕ) (modules k : ℕ) {end : ℕ}
+    → ((k + 1 < modules) × (end ≡ getD starts (k + 1) 0)) ⊎ ((modules ≤ k + 1) × (end ≡ length numbers))
+    → end ≡ endOf starts numbers modules (k + 1)
+end-is starts numbers modules k =
+    ⊎-elim (λ w. w .1 ∙ sym (rw (lt-ltb (k + 1) modules (w .0)))) (λ w. w .1 ∙ sym (rw (le-ltb (k + 1) modules (w .0))))
+
+module _
+    {numbers starts : List ℕ} {modules k : ℕ} {found : Found} {first inputs outputs slots nets sizes rooms : List ℕ}
+    (b : Reached numbers starts modules k found first inputs outputs slots nets sizes rooms)
+    {end : ℕ} (ends : end ≡ endOf starts numbers modules (k + 1)) where
+  abbrev base : ℕ
+  base = 131072 * (modules - k)
+
+  abbrev start : ℕ
+  start = getD starts k 0
+
+  abbrev part : List ℕ
+  part = take (end - start) (drop start numbers)
+
+  walk :
+      FileWalk (b .numbers₀) starts modules (b .found₀) first inputs outputs (b .slots₀) (b .nets₀) (b .sizes₀) (b .rooms₀)
+      numbers slots nets sizes rooms found end base (k + 1)
+  walk =
+      subst₂
+      (λ (e s : ℕ).
+      FileWalk (b .numbers₀) starts modules (b .found₀) first inputs outputs (b .slots₀) (b .nets₀) (b .sizes₀) (b .rooms₀)
+      numbers slots nets sizes rooms found e s (k + 1))
+      (sym ends)
+      (omega (arith, b .inside))
+      (b .walk)
+
+  pub few : (k < modules) × (modules ≤ 128)
+  few = (b .inside, modules-few (b .ready))
+
+  pub start-below : start ≤ 65535
+  start-below = start-low (b .ready) walk k refl
+
+  pub bounds : (start ≤ end) × (end ≤ length numbers)
+  bounds = part-bounds (b .ready) walk k refl
+
+  pub ready : ModuleReady part k first inputs outputs slots base sizes rooms
+  ready = module-ready (b .ready) walk k refl
+
+  pub nets-long : k < length nets
+  nets-long = omega (arith, b .inside, b .ready .netsLong, b .walk .bounded .netsKept)
+
+  module _
+      {piece slots′ : List ℕ} {r : Checked} (c : ModuleChecked part k first inputs outputs base sizes rooms piece slots′ r)
+      (pieceKept : length piece ≡ length part) (slotsKept : length slots′ ≡ length slots) where
+    abbrev numbers′ : List ℕ
+    numbers′ = take start numbers ++ (piece ++ drop (end - start) (drop start numbers))
+
+    -- The modules in front of it end where it starts.
+    gone :
+        {nets′ sizes′ rooms′ : List ℕ} {found′ : Found}
+        → FileWalk (b .numbers₀) starts modules (b .found₀) first inputs outputs (b .slots₀) (b .nets₀) (b .sizes₀) (b .rooms₀)
+        numbers′ slots′ nets′ sizes′ rooms′ found′ start (base + 131072) k
+        → Gone b numbers′ slots′ nets′ sizes′ rooms′ found′
+    gone {nets′} {sizes′} {rooms′} {found′} =
+        subst₂
+        (λ (e s : ℕ).
+        FileWalk (b .numbers₀) starts modules (b .found₀) first inputs outputs (b .slots₀) (b .nets₀) (b .sizes₀) (b .rooms₀)
+        numbers′ slots′ nets′ sizes′ rooms′ found′ e s k)
+        (sym (rw (lt-ltb k modules (b .inside))))
+        (omega (arith, b .inside))
+
+    pub gone-broken : (rule : ℕ) → r ≡ Broken rule → Gone b numbers′ slots′ nets sizes rooms (FirstBroken rule k)
+    gone-broken rule same = gone (walk-broken (b .ready) walk k refl c pieceKept slotsKept rule same)
+
+    module _ (own : ℕ) (sums : Sums) (same : r ≡ Fine own sums) where
+      pub may-keep : Keepable own sums k sizes rooms
+      may-keep = keepable (b .ready) walk k refl c pieceKept slotsKept own sums same
+
+      module _ {sizes′ rooms′ : List ℕ} {within : Bool} (kept : Kept own sums k sizes rooms sizes′ rooms′ within) where
+        pub gone-kept : within ≡ true → Gone b numbers′ slots′ (set nets k own) sizes′ rooms′ found
+        gone-kept low = gone (walk-kept (b .ready) walk k refl c pieceKept slotsKept own sums same kept low)
+
+        pub gone-over : within ≡ false → Gone b numbers′ slots′ (set nets k own) sizes′ rooms′ (overOf found k)
+        gone-over high = gone (walk-over (b .ready) walk k refl c pieceKept slotsKept own sums same kept high)
