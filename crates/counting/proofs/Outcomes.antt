@@ -35,8 +35,8 @@ unfolding counting
 unheld-counts u is scratch = known (unheld-refuses u _) (record { is = is; scratch = refl })
 
 module _
-    {file : List ℕ} {number k : ℕ} {numbers starts image nets sizes rooms : List ℕ}
-    (h : Held file number k numbers starts image nets sizes rooms) where
+    {file : List ℕ} {number k : ℕ} {image starts names nets sizes rooms : List ℕ}
+    (h : Held file number k image starts names nets sizes rooms) where
   -- The tables have an entry for the module, which is one of 128.
   pub below-most : k < 128
   below-most = omega (arith, ap length (h .found .here), length-drop k (h .ms), h .desk .within .modules .count)
@@ -93,10 +93,10 @@ module _
 
 -- What seeking says of its answer.
 module _
-    (file : List ℕ) (number : ℕ) (numbers starts image nets sizes rooms : List ℕ) (r : Sought)
-    (s : Seeks r file number numbers starts image nets sizes rooms) where
-  pub held : (k : ℕ) → r ≡ At k → Held file number k numbers starts image nets sizes rooms
-  held k e = subst (λ (x : Sought). Seeks x file number numbers starts image nets sizes rooms) e s
+    (file : List ℕ) (number : ℕ) (image starts names nets sizes rooms : List ℕ) (r : Sought)
+    (s : Seeks r file number image starts names nets sizes rooms) where
+  pub held : (k : ℕ) → r ≡ At k → Held file number k image starts names nets sizes rooms
+  held k e = subst (λ (x : Sought). Seeks x file number image starts names nets sizes rooms) e s
 
   pub unheld : (n p : ℕ) → r ≡ Refused n p → Unheld file number n p
-  unheld n p e = subst (λ (x : Sought). Seeks x file number numbers starts image nets sizes rooms) e s
+  unheld n p e = subst (λ (x : Sought). Seeks x file number image starts names nets sizes rooms) e s

@@ -1,12 +1,13 @@
 // What a file holds: how many modules it has, and the number at a position.
 use desk::preparing::Prepared;
-ghost use Prim.Native.Nat.{_≤_};
 ghost use mathlib.Core.Path.{_≡_};
 ghost use mathlib.Core.List.{List};
 ghost use lib.ListN.{length};
 ghost use Rattle.meaning.specs.Syntax.{Module};
-ghost use Rattle.desk.specs.Finding.{Searchable, Standing};
+ghost use Rattle.checker.specs.Numbering.{Naming};
+ghost use Rattle.desk.specs.Finding.{Searchable};
 ghost use Rattle.desk.specs.Prepared.{Space};
+ghost use Rattle.desk.specs.Shortness.{Short};
 ghost use Rattle.counting.specs.Contents.{moduleCount, numberAt, listedOf, namedOf};
 ghost use Rattle.counting.specs.Looking.{NumberHere, Looks};
 
@@ -29,12 +30,12 @@ enum Looked {
 }
 
 // The number of the module at a position; 0 where there is none.
-fn number_here(numbers: &[u16], starts: &[usize], modules: usize, position: usize) -> u16
-    requires { ⌜ Searchable (now numbers) (now starts) modules ⌝ }
-    ensures { λ r. ⌜ ((ms : List Module) → Standing (now (numbers .entry)) (now (starts .entry)) ms → modules ≡ length ms → NumberHere ms position r) ⌝ }
+fn number_here(names: &[u16], modules: usize, position: usize) -> u16
+    requires { ⌜ Searchable (now names) modules ⌝ }
+    ensures { λ r. ⌜ ((ms : List Module) → Naming (now (names .entry)) ms → modules ≡ length ms → NumberHere ms position r) ⌝ }
 {
     if position < modules {
-        numbers[starts[position]]
+        names[position]
     } else {
         0
     }
@@ -44,20 +45,22 @@ fn number_here(numbers: &[u16], starts: &[usize], modules: usize, position: usiz
 fn look_in(
     file: &[u8],
     position: usize,
-    numbers: &mut [u16],
-    starts: &mut [usize],
     image: &mut [u16],
+    starts: &mut [usize],
+    names: &mut [u16],
     nets: &mut [usize],
     sizes: &mut [u32],
     rooms: &mut [u32],
+    first: &mut [u16],
+    slots: &mut [u32],
 ) -> Looked
-    requires { ⌜ Space (now file) (now numbers) (now starts) (now image) (now nets) (now sizes) (now rooms) ⌝ }
+    requires { ⌜ Space (now file) (now image) (now starts) (now names) (now nets) (now sizes) (now rooms) (now first) (now slots) ⌝ }
     ensures { λ r. ⌜ Looks r (now (file .entry)) position ⌝ }
 {
-    match desk::preparing::prepare(file, numbers, starts, image, nets, sizes, rooms) {
+    match desk::preparing::prepare(file, image, starts, names, nets, sizes, rooms, first, slots) {
         Prepared::Refused { number, place } => Looked::Refused { number, place },
         Prepared::Ready { modules, count: _ } => {
-            let number = number_here(numbers, starts, modules, position);
+            let number = number_here(names, modules, position);
             Looked::Open { modules, number }
         }
     }
@@ -65,24 +68,28 @@ fn look_in(
 
 // The look into a short file.
 fn look_short(file: &[u8], position: usize) -> Looked
-    requires { ⌜ length (now file) ≤ 1020 ⌝ }
+    requires { ⌜ Short (now file) ⌝ }
     ensures { λ r. ⌜ Looks r (now (file .entry)) position ⌝ }
 {
-    let mut numbers = [0u16; 1020];
+    let mut image = [0u16; 1024];
     let mut starts = [0usize; 128];
-    let mut image = [0u16; 1020];
+    let mut names = [0u16; 128];
     let mut nets = [0usize; 128];
     let mut sizes = [0u32; 128];
     let mut rooms = [0u32; 128];
+    let mut first = [0u16; 512];
+    let mut slots = [0u32; 512];
     look_in(
         file,
         position,
-        &mut numbers,
-        &mut starts,
         &mut image,
+        &mut starts,
+        &mut names,
         &mut nets,
         &mut sizes,
         &mut rooms,
+        &mut first,
+        &mut slots,
     )
 }
 
@@ -90,21 +97,25 @@ fn look_short(file: &[u8], position: usize) -> Looked
 fn look_large(file: &[u8], position: usize) -> Looked
     ensures { λ r. ⌜ Looks r (now (file .entry)) position ⌝ }
 {
-    let mut numbers = [1u16; 65536];
-    let mut image = [1u16; 65536];
-    let mut starts = [0usize; 128];
-    let mut nets = [0usize; 128];
-    let mut sizes = [0u32; 128];
-    let mut rooms = [0u32; 128];
+    let mut image = [0u16; 65535];
+    let mut starts = [1usize; 128];
+    let mut names = [1u16; 128];
+    let mut nets = [1usize; 128];
+    let mut sizes = [1u32; 128];
+    let mut rooms = [1u32; 128];
+    let mut first = [0u16; 16384];
+    let mut slots = [0u32; 16384];
     look_in(
         file,
         position,
-        &mut numbers,
-        &mut starts,
         &mut image,
+        &mut starts,
+        &mut names,
         &mut nets,
         &mut sizes,
         &mut rooms,
+        &mut first,
+        &mut slots,
     )
 }
 
@@ -112,7 +123,10 @@ fn look_large(file: &[u8], position: usize) -> Looked
 fn look(file: &[u8], position: usize) -> Looked
     ensures { λ r. ⌜ Looks r (now (file .entry)) position ⌝ }
 {
-    if file.len() <= 1020 {
+    if 1024 < file.len() {
+        return look_large(file, position);
+    }
+    if desk::shortness::is_short(file) {
         look_short(file, position)
     } else {
         look_large(file, position)

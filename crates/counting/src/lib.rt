@@ -13,7 +13,10 @@ ghost use Rattle.counting.specs.Answers.{Counts};
 pub fn count(file: &[u8], number: u16, scratch: &mut [u32]) -> Counted
     ensures { λ r. ⌜ Counts (counting (now (file .entry)) number (length (now (scratch .entry)))) (now (scratch .entry)) (now (scratch .exit)) r ⌝ }
 {
-    if file.len() <= 1020 {
+    if 1024 < file.len() {
+        return crate::working::count_large(file, number, scratch);
+    }
+    if desk::shortness::is_short(file) {
         crate::working::count_short(file, number, scratch)
     } else {
         crate::working::count_large(file, number, scratch)

@@ -6,6 +6,7 @@ ghost use Prim.Native.Nat.{_≤_};
 ghost use lib.ListN.{length};
 ghost use Rattle.meaning.specs.Calls.{counting};
 ghost use Rattle.desk.specs.Prepared.{Space};
+ghost use Rattle.desk.specs.Shortness.{Short};
 ghost use Rattle.counting.specs.Answers.{Counts};
 ghost use Rattle.counting.specs.Figuring.{Figurable, Figured};
 
@@ -49,20 +50,33 @@ fn figures_at(
 fn count_in(
     file: &[u8],
     number: u16,
-    numbers: &mut [u16],
-    starts: &mut [usize],
     image: &mut [u16],
+    starts: &mut [usize],
+    names: &mut [u16],
     nets: &mut [usize],
     sizes: &mut [u32],
     rooms: &mut [u32],
+    first: &mut [u16],
+    slots: &mut [u32],
     loads: &mut [u32],
     scratch: &mut [u32],
 ) -> Counted
-    requires { ⌜ Space (now file) (now numbers) (now starts) (now image) (now nets) (now sizes) (now rooms) ⌝ }
+    requires { ⌜ Space (now file) (now image) (now starts) (now names) (now nets) (now sizes) (now rooms) (now first) (now slots) ⌝ }
     requires { ⌜ length (now image) ≤ length (now loads) ⌝ }
     ensures { λ r. ⌜ Counts (counting (now (file .entry)) number (length (now (scratch .entry)))) (now (scratch .entry)) (now (scratch .exit)) r ⌝ }
 {
-    match desk::seeking::seek(file, number, numbers, starts, image, nets, sizes, rooms) {
+    match desk::seeking::seek(
+        file,
+        number,
+        image,
+        starts,
+        names,
+        nets,
+        sizes,
+        rooms,
+        first,
+        slots,
+    ) {
         Sought::Refused { number, place } => crate::answers::refused(number, place),
         Sought::At(k) => {
             let room = rooms[k];
@@ -81,25 +95,29 @@ fn count_in(
 
 // The count of a short file.
 pub(crate) fn count_short(file: &[u8], number: u16, scratch: &mut [u32]) -> Counted
-    requires { ⌜ length (now file) ≤ 1020 ⌝ }
+    requires { ⌜ Short (now file) ⌝ }
     ensures { λ r. ⌜ Counts (counting (now (file .entry)) number (length (now (scratch .entry)))) (now (scratch .entry)) (now (scratch .exit)) r ⌝ }
 {
-    let mut numbers = [0u16; 1020];
+    let mut image = [0u16; 1024];
     let mut starts = [0usize; 128];
-    let mut image = [0u16; 1020];
+    let mut names = [0u16; 128];
     let mut nets = [0usize; 128];
     let mut sizes = [0u32; 128];
     let mut rooms = [0u32; 128];
-    let mut loads = [0u32; 1020];
+    let mut first = [0u16; 512];
+    let mut slots = [0u32; 512];
+    let mut loads = [0u32; 1024];
     count_in(
         file,
         number,
-        &mut numbers,
-        &mut starts,
         &mut image,
+        &mut starts,
+        &mut names,
         &mut nets,
         &mut sizes,
         &mut rooms,
+        &mut first,
+        &mut slots,
         &mut loads,
         scratch,
     )
@@ -109,22 +127,26 @@ pub(crate) fn count_short(file: &[u8], number: u16, scratch: &mut [u32]) -> Coun
 pub(crate) fn count_large(file: &[u8], number: u16, scratch: &mut [u32]) -> Counted
     ensures { λ r. ⌜ Counts (counting (now (file .entry)) number (length (now (scratch .entry)))) (now (scratch .entry)) (now (scratch .exit)) r ⌝ }
 {
-    let mut numbers = [1u16; 65536];
-    let mut starts = [0usize; 128];
-    let mut image = [1u16; 65536];
-    let mut nets = [0usize; 128];
-    let mut sizes = [0u32; 128];
-    let mut rooms = [0u32; 128];
-    let mut loads = [1u32; 65536];
+    let mut image = [0u16; 65535];
+    let mut starts = [1usize; 128];
+    let mut names = [1u16; 128];
+    let mut nets = [1usize; 128];
+    let mut sizes = [1u32; 128];
+    let mut rooms = [1u32; 128];
+    let mut first = [0u16; 16384];
+    let mut slots = [0u32; 16384];
+    let mut loads = [0u32; 65535];
     count_in(
         file,
         number,
-        &mut numbers,
-        &mut starts,
         &mut image,
+        &mut starts,
+        &mut names,
         &mut nets,
         &mut sizes,
         &mut rooms,
+        &mut first,
+        &mut slots,
         &mut loads,
         scratch,
     )

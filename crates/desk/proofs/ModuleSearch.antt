@@ -1,17 +1,15 @@
 -- A search for the module of a number: what is left of the list says the same of the number as the whole.
 use Prim.Native.Nat.{ℕ, zero, suc, _+_, _≤_, _<_}
 use mathlib.Core.Path.{_≡_, refl, sym, ap, _∙_}
-use mathlib.Core.Bool.{true, false}
 use mathlib.Core.List.{List, [], _∷_}
 use native.Mathlib.Omega.{arith}
 use native.Mathlib.Nat.{suc-add}
-use lib.ListN.{length, getD, drop, drop-of-length-le}
+use lib.ListN.{length, drop, drop-of-length-le}
 use borrow.Author.Tests.{eq-eqb, ne-eqb}
 use Rattle.meaning.specs.Syntax.{Module}
-use Rattle.meaning.specs.Boxlist.{F, box, assoc}
-use Rattle.image.specs.Pieces.{ModuleAt, module-at}
+use Rattle.meaning.specs.Boxlist.{F, assoc}
 use Rattle.image.specs.Resolved.{positionOf}
-use Rattle.desk.specs.Finding.{Standing, FoundAt}
+use Rattle.desk.specs.Finding.{FoundAt}
 
 -- None of the first k modules has the number.
 pub record Sought (ms : List Module) (number k : ℕ) : Type 0 where
@@ -61,14 +59,3 @@ module _ {ms : List Module} {number k : ℕ} (s : Sought ms number k) where
   pub sought-all : length ms ≤ k → assoc number ms ≡ F
   unfolding assoc
   sought-all h = s .same ∙ ap (assoc number) (drop-of-length-le ms h)
-
--- Where the number of a module stands.
-pub record Numbered (numbers starts : List ℕ) (k : ℕ) (m : Module) : Type 0 where
-  pub start : k < length starts
-  pub inside : getD starts k 0 < length numbers
-  pub number : getD numbers (getD starts k 0) 0 ≡ m .number
-
-pub numbered : {numbers starts : List ℕ} {ms : List Module} {k : ℕ} → Standing numbers starts ms → k < length ms → (h : Here ms k) → Numbered numbers starts k (h .m)
-numbered {k = k} standing lt h =
-    let p = module-at (h .m) (standing .stands k (h .m) (h .later) (h .here)) in
-    record { start = omega (arith, standing .listed); inside = p .inside; number = p .number }

@@ -4,33 +4,33 @@ use mathlib.Core.Path.{_≡_, refl, subst}
 use mathlib.Core.List.{List}
 use lib.ListN.{length}
 use Rattle.meaning.specs.Syntax.{Module}
-use Rattle.desk.specs.Finding.{Standing, Searchable, Finds}
+use Rattle.desk.specs.Finding.{Searchable, Finds}
+use Rattle.checker.specs.Numbering.{Naming}
 use Rattle.desk.specs.Prepared.{Opened, Prepares}
 use Rattle.desk.specs.Sought.{Seeks, broken, absent}
-use Rattle.desk.specs.Holding.{opened-stands, opened-searchable}
 use Rattle.desk.specs.declared.finding.Place.{Place}
 use Rattle.desk.specs.declared.finding.Place.the-variants.{At, Nowhere}
 use Rattle.desk.specs.declared.preparing.Prepared.{Prepared}
 use Rattle.desk.specs.declared.preparing.Prepared.the-variants.{Ready, Refused}
 use Rattle.desk.specs.declared.seeking.Sought.the-variants as sought
 
-module _ (file numbers starts image nets sizes rooms : List ℕ) (prepared : Prepared) (p : Prepares prepared file numbers starts image nets sizes rooms) where
-  pub sought-refused : (number : ℕ) (n place : ℕ) → prepared ≡ Refused n place → Seeks (sought.Refused n place) file number numbers starts image nets sizes rooms
-  sought-refused number n place e = broken (subst (λ (r : Prepared). Prepares r file numbers starts image nets sizes rooms) e p)
+module _ (file image starts names nets sizes rooms : List ℕ) (prepared : Prepared) (p : Prepares prepared file image starts names nets sizes rooms) where
+  pub sought-refused : (number : ℕ) (n place : ℕ) → prepared ≡ Refused n place → Seeks (sought.Refused n place) file number image starts names nets sizes rooms
+  sought-refused number n place e = broken (subst (λ (r : Prepared). Prepares r file image starts names nets sizes rooms) e p)
 
   module _ (modules count : ℕ) (e : prepared ≡ Ready modules count) where
-    opened : Opened file modules count numbers starts image nets sizes rooms
-    opened = subst (λ (r : Prepared). Prepares r file numbers starts image nets sizes rooms) e p
+    opened : Opened file modules count image starts names nets sizes rooms
+    opened = subst (λ (r : Prepared). Prepares r file image starts names nets sizes rooms) e p
 
     -- The search can begin.
-    pub searchable : Searchable numbers starts modules
-    searchable = opened-searchable opened
+    pub searchable : Searchable names modules
+    searchable = record { ms = opened .ms; named = opened .desk .named; all = opened .desk .all }
 
-    module _ (number : ℕ) (place : Place) (f : (ms : List Module) → Standing numbers starts ms → modules ≡ length ms → Finds place ms number) where
+    module _ (number : ℕ) (place : Place) (f : (ms : List Module) → Naming names ms → modules ≡ length ms → Finds place ms number) where
       found : Finds place (opened .ms) number
-      found = f (opened .ms) (opened-stands opened) (opened .desk .all)
+      found = f (opened .ms) (opened .desk .named) (opened .desk .all)
 
-      pub sought-at : (k : ℕ) → place ≡ At k → Seeks (sought.At k) file number numbers starts image nets sizes rooms
+      pub sought-at : (k : ℕ) → place ≡ At k → Seeks (sought.At k) file number image starts names nets sizes rooms
       sought-at k at =
           record {
             ms = opened .ms;
@@ -41,5 +41,5 @@ module _ (file numbers starts image nets sizes rooms : List ℕ) (prepared : Pre
             found = subst (λ (q : Place). Finds q (opened .ms) number) at found;
           }
 
-      pub sought-nowhere : place ≡ Nowhere → Seeks (sought.Refused 18 0) file number numbers starts image nets sizes rooms
+      pub sought-nowhere : place ≡ Nowhere → Seeks (sought.Refused 18 0) file number image starts names nets sizes rooms
       sought-nowhere at = absent (opened .ms) (opened .reads) (opened .desk .accepted) (subst (λ (q : Place). Finds q (opened .ms) number) at found) refl refl

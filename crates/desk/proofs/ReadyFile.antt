@@ -1,46 +1,31 @@
--- From what reading leaves to the stage behind it, and from that stage's answer to the whole.
-use Prim.Native.Nat.{ℕ, suc, _+_, _≤_, _<_}
-use mathlib.Core.Path.{_≡_, refl, sym, ap, subst, _∙_}
-use mathlib.Core.List.{List, [], _∷_, _++_}
+-- From what reading leaves to the check of the modules, and from what that found to the answer on the file.
+use Prim.Native.Nat.{ℕ, _+_, _≤_, _<_}
+use mathlib.Core.Path.{_≡_, sym, ap, subst, _∙_}
+use mathlib.Core.List.{List, _++_}
 use native.Mathlib.Omega.{arith}
-use lib.ListN.{length, getD, take, drop, List·getD-eq-default}
-use lib.Seq.{take-at, length-take-le}
-use Rattle.meaning.specs.Lists.{All, none, more}
+use lib.ListN.{length, getD, take, drop}
+use lib.Seq.{take-at}
 use Rattle.meaning.specs.Syntax.{Module}
 use Rattle.meaning.specs.Layout.{fileNumbers}
-use Rattle.meaning.specs.Ceilings.{Bytes, Small, Within}
-use Rattle.meaning.specs.Reading.{File, holds, fails, read, mostModules}
-use Rattle.meaning.specs.Verdict.{Verdict, good, refused, fileVerdict, verdictOf, verdict}
+use Rattle.meaning.specs.Ceilings.{Bytes, Within}
+use Rattle.meaning.specs.Reading.{holds, read}
+use Rattle.meaning.specs.Verdict.{refused, verdictOf, verdict}
 use Rattle.laws.specs.Exactness.{exactness}
-use Rattle.image.specs.Resolved.{resolve}
+use Rattle.nets.specs.Slots.{Below}
 use Rattle.image.specs.ResolvedLayout.{startOf, length-of-image}
-use Rattle.reader.specs.Answer.{Decoded, readingOf}
-use Rattle.reader.specs.Held.{Held, held, IsRead, is-read, is-refused, inFront}
+use Rattle.reader.specs.Answer.{Decoded}
+use Rattle.reader.specs.Held.{Held, held, IsRead, is-read, is-refused}
 use Rattle.reader.specs.declared.Reading.{Reading}
-use Rattle.checker.specs.Files.{Laidout}
-use Rattle.desk.specs.Prepared.{Space, Desk, Opened, Prepares}
-use Rattle.desk.specs.Stages.{NumbersStage, Figured, Stage, Checks}
-use Rattle.desk.specs.declared.preparing.Prepared.{Prepared}
-use Rattle.desk.specs.declared.preparing.Prepared.the-variants.{Ready, Refused}
-
--- Numbers of a file are below 16,384, wherever they stand.
-small-below : (xs : List ℕ) → All Small xs → (i : ℕ) → getD xs i 0 < 16384
-small-below [] a i = omega arith
-small-below (x ∷ xs) (more s a) ℕ.zero = omega (arith, s)
-small-below (x ∷ xs) (more s a) (suc i) = small-below xs a i
+use Rattle.checker.specs.Files.{Laidout, Outcome, FileReady, FileFound}
+use Rattle.checker.specs.declared.files.Found.{Found}
+use Rattle.checker.specs.declared.files.Found.the-variants.{Fine, Over, Broken}
+use Rattle.desk.specs.Prepared.{Space, Opened}
 
 -- A refusal of reading is the file's verdict.
 pub read-refused : {file numbers numbers′ starts starts′ offsets offsets′ : List ℕ} {reading : Reading} (number place : ℕ) → Decoded file numbers numbers′ starts starts′ offsets offsets′ reading
     → reading ≡ Reading.Refused number place → verdict file ≡ refused number place
 unfolding verdict
 read-refused {file} number place d e = ap verdictOf (is-refused {file = read file} {number = number} {place = place} (sym e ∙ d .answers))
-
--- The tables by position have an entry for each module.
-pub record Long (starts nets sizes rooms : List ℕ) : Type 0 where
-  pub startsLong : mostModules ≤ length starts
-  pub netsLong : mostModules ≤ length nets
-  pub sizesLong : mostModules ≤ length sizes
-  pub roomsLong : mostModules ≤ length rooms
 
 module _ {file numbers numbers′ starts starts′ offsets offsets′ : List ℕ} {reading : Reading} (bytes : Bytes file)
     (d : Decoded file numbers numbers′ starts starts′ offsets offsets′ reading) (modules count : ℕ) (e : reading ≡ Reading.Read modules count)
@@ -92,53 +77,76 @@ module _ {file numbers numbers′ starts starts′ offsets offsets′ : List ℕ
           listed = omega (arith, within .modules .count);
         }
 
-    -- The stage behind reading can be entered.
-    pub stage-ready : {image nets sizes rooms : List ℕ} → Space file numbers starts image nets sizes rooms → length starts′ ≡ length starts → length numbers′ ≡ length numbers
-        → NumbersStage 16384 (take count numbers′) starts′ modules (take count image) nets sizes rooms
-    stage-ready {image} s startsKept numbersKept =
-        let l = laidout (omega (arith, s .startsLong)) in
-        let long : length (take count numbers′) ≡ count = length-take-le count numbers′ (omega (arith, count-long .0, count-long .1, s .numbersLong)) in
-        let wide : length (take count image) ≡ count = length-take-le count image (omega (arith, count-long .0, count-long .1, s .imageLong)) in
-        record {
-          ms = ms;
-          laidout = l;
-          below = record { below = λ i. subst (λ (xs : List ℕ). getD xs i 0 < 16384) (sym numbers-are) (small-below (fileNumbers ms) (kept .small) i) };
-          short = omega (arith, count-long .0);
-          exact = wide ∙ sym long;
-          netsLong = omega (arith, all, within .modules .count, s .netsLong);
-          sizesLong = omega (arith, all, within .modules .count, s .sizesLong);
-          roomsLong = omega (arith, all, within .modules .count, s .roomsLong);
-        }
+    module _
+        {names nets sizes rooms first slots : List ℕ} (s : Space file numbers starts names nets sizes rooms first slots)
+        (startsKept : length starts′ ≡ length starts) where
+      -- The check can begin.
+      pub file-ready : FileReady (take count numbers′) starts′ modules first slots names nets sizes rooms
+      file-ready =
+          let few = within .modules .count in
+          let indexed = s .indexes ms reads in
+          record {
+            ms = ms;
+            laidout = laidout (omega (arith, s .startsLong));
+            indexes =
+                record {
+                  inFirst = subst (Below (length first)) (sym numbers-are) (indexed .inFirst);
+                  inSlots = subst (Below (length slots)) (sym numbers-are) (indexed .inSlots);
+                };
+            short = omega (arith, count-long .0, many, ap length numbers-are);
+            namesLong = omega (arith, all, s .namesLong);
+            netsLong = omega (arith, all, s .netsLong);
+            figured =
+                record {
+                  sizesLong = omega (arith, s .sizesLong);
+                  roomsLong = omega (arith, s .roomsLong);
+                  small = s .lowSizes;
+                };
+            clearFirst = s .clearFirst;
+            lowSlots = s .lowSlots;
+            lowRooms = s .lowRooms;
+          }
 
-    -- The answer of the stage is the answer on the file.
-    pub prepared : (r : Prepared) (image image₁ nets sizes rooms : List ℕ) → Long starts′ nets sizes rooms → count ≤ length numbers′ → Checks r (take count numbers′) starts′ modules image₁ nets sizes rooms
-        → Prepares r file numbers′ starts′ (image₁ ++ drop count image) nets sizes rooms
-    unfolding verdict
-    prepared (Refused number place) image image₁ nets sizes rooms long room checks = ap verdictOf reads ∙ checks .checks ms (laidout (long .startsLong))
-    prepared (Ready n count′) image image₁ nets sizes rooms long room checks =
-        let few = within .modules .count in
-        let c = checks .checks ms (laidout (long .startsLong)) in
-        let f = c .2 in
-        let same : count′ ≡ count = c .1 ∙ length-take-le count numbers′ room in
-        record {
-          ms = ms;
-          reads = reads;
-          desk =
-              record {
-                accepted = f .accepted;
-                within = within;
-                all = c .0 ∙ all;
-                many = same ∙ many;
-                numbersAre = ap (λ (k : ℕ). take k numbers′) same ∙ numbers-are;
-                imageIs =
-                    take-at image₁ (drop count image) count′ (ap length (f .imageIs) ∙ length-of-image ms ∙ sym (same ∙ many)) ∙ f .imageIs;
-                startsLong = omega (arith, few, long .startsLong);
-                netsLong = omega (arith, few, long .netsLong);
-                sizesLong = omega (arith, few, long .sizesLong);
-                roomsLong = omega (arith, few, long .roomsLong);
-                startsAre = starts-are;
-                netsAre = f .netsAre;
-                sizesAre = f .sizesAre;
-                roomsAre = f .roomsAre;
-              };
-        }
+      -- What it found is the answer on the file.
+      module _
+          {r : Found} {image names′ nets′ sizes′ rooms′ : List ℕ}
+          (found : (ms : List Module) → Laidout (take count numbers′) starts′ modules ms → FileFound r ms image names′ nets′ sizes′ rooms′) where
+        outcome : {r′ : Found} → r ≡ r′ → Outcome r′ ms image nets′ sizes′ rooms′
+        outcome same =
+            subst (λ (f : Found). Outcome f ms image nets′ sizes′ rooms′) same (found ms (laidout (omega (arith, s .startsLong))) .outcome)
+
+        pub file-broken : (rule place : ℕ) → r ≡ Broken rule place → verdict file ≡ refused rule place
+        unfolding verdict
+        file-broken rule place same = ap verdictOf reads ∙ outcome same
+
+        pub file-over : (place : ℕ) → r ≡ Over place → verdict file ≡ refused 17 place
+        unfolding verdict
+        file-over place same = ap verdictOf reads ∙ outcome same
+
+        pub file-fine :
+            r ≡ Fine → length nets′ ≡ length nets → length sizes′ ≡ length sizes → length rooms′ ≡ length rooms
+            → Opened file modules count (image ++ drop count numbers′) starts′ names′ nets′ sizes′ rooms′
+        file-fine same netsKept sizesKept roomsKept =
+            let few = within .modules .count in
+            let o = outcome same in
+            record {
+              ms = ms;
+              reads = reads;
+              desk =
+                  record {
+                    accepted = o .accepted;
+                    within = within;
+                    all = all;
+                    many = many;
+                    imageIs = take-at image (drop count numbers′) count (ap length (o .image) ∙ length-of-image ms ∙ sym many) ∙ o .image;
+                    named = found ms (laidout (omega (arith, s .startsLong))) .named;
+                    startsLong = omega (arith, s .startsLong);
+                    netsLong = omega (arith, s .netsLong);
+                    sizesLong = omega (arith, s .sizesLong);
+                    roomsLong = omega (arith, s .roomsLong);
+                    startsAre = starts-are;
+                    netsAre = o .counted .count;
+                    sizesAre = λ k m later e. o .tabled .size k m later (omega arith) e;
+                    roomsAre = λ k m later e. o .tabled .room k m later (omega arith) e;
+                  };
+            }

@@ -22,7 +22,7 @@ use Rattle.image.specs.Fitting.{accepted-fits}
 use Rattle.image.specs.Searching.{expandedSize-search, room-search}
 use Rattle.image.specs.OwnNumbers.{says-own}
 use Rattle.image.specs.ResolvedLayout.{startOf, stands-at-start, start-of-resolved, resolved-at}
-use Rattle.desk.specs.Finding.{Standing, Searchable}
+use Rattle.desk.specs.Finding.{Searchable}
 use Rattle.desk.specs.Prepared.{Opened}
 use Rattle.desk.specs.Sought.{Held, Unheld, broken, absent}
 
@@ -40,26 +40,15 @@ stands-in-front im n {at} {xs} s =
       within = omega (arith, s .within, ap length parts, length-append (take n im) (drop n im));
     }
 
--- The modules of a file that was opened stand in its numbers, so that one can be sought there.
-module _ {file : List ℕ} {modules count : ℕ} {numbers starts image nets sizes rooms : List ℕ}
-    (o : Opened file modules count numbers starts image nets sizes rooms) where
-  pub opened-stands : Standing numbers starts (o .ms)
-  opened-stands =
-      record {
-        stands = λ k m later there.
-            let inside : k < length (o .ms) = omega (arith, ap length there, length-drop k (o .ms)) in
-            stands-in-front numbers count
-            (moved (startOf (o .ms) k) (o .desk .startsAre k inside)
-            (subst (λ (xs : List ℕ). Stands xs (startOf (o .ms) k) (moduleNumbers m)) (sym (o .desk .numbersAre))
-            (stands-at-start (o .ms) k there)));
-        listed = o .desk .startsLong;
-      }
+-- The numbers of a file that was opened are known by position, so that a module can be sought there.
+pub opened-searchable :
+    {file : List ℕ} {modules count : ℕ} {image starts names nets sizes rooms : List ℕ}
+    → Opened file modules count image starts names nets sizes rooms
+    → Searchable names modules
+opened-searchable o = record { ms = o .ms; named = o .desk .named; all = o .desk .all }
 
-  pub opened-searchable : Searchable numbers starts modules
-  opened-searchable = record { ms = o .ms; standing = opened-stands; all = o .desk .all }
-
-module _ {file : List ℕ} {number k : ℕ} {numbers starts image nets sizes rooms : List ℕ}
-    (h : Held file number k numbers starts image nets sizes rooms) where
+module _ {file : List ℕ} {number k : ℕ} {image starts names nets sizes rooms : List ℕ}
+    (h : Held file number k image starts names nets sizes rooms) where
   pub held-accepted : Accepted (h .ms)
   held-accepted = good-accepted (h .ms) (h .desk .accepted)
 

@@ -12,12 +12,12 @@ use Rattle.desk.specs.declared.seeking.Sought.{Sought}
 use Rattle.desk.specs.declared.seeking.Sought.the-variants.{At, Refused}
 
 -- The file is accepted, the lists hold it, and the module of the number is at position k.
-pub record Held (file : List ℕ) (number k : ℕ) (numbers starts image nets sizes rooms : List ℕ) : Type 0 where
+pub record Held (file : List ℕ) (number k : ℕ) (image starts names nets sizes rooms : List ℕ) : Type 0 where
   pub ms : List Module
   pub modules : ℕ
   pub count : ℕ
   pub reads : read file ≡ holds ms
-  pub desk : Desk ms modules count numbers starts image nets sizes rooms
+  pub desk : Desk ms modules count image starts names nets sizes rooms
   pub found : FoundAt ms number k
 
 -- The file is refused, or it has no module of the number.
@@ -32,6 +32,6 @@ pub data Unheld (file : List ℕ) (number : ℕ) (refusal place : ℕ) : Type 0 
       → place ≡ 0
       → Unheld file number refusal place
 
-abbrev pub Seeks : Sought → (file : List ℕ) → (number : ℕ) → (numbers starts image nets sizes rooms : List ℕ) → Type 0
-Seeks (At k) file number numbers starts image nets sizes rooms = Held file number k numbers starts image nets sizes rooms
-Seeks (Refused refusal place) file number numbers starts image nets sizes rooms = Unheld file number refusal place
+abbrev pub Seeks : Sought → (file : List ℕ) → (number : ℕ) → (image starts names nets sizes rooms : List ℕ) → Type 0
+Seeks (At k) file number image starts names nets sizes rooms = Held file number k image starts names nets sizes rooms
+Seeks (Refused refusal place) file number image starts names nets sizes rooms = Unheld file number refusal place

@@ -1,5 +1,5 @@
 // A file made ready for calls.
-mod checking;
 pub mod finding;
 pub mod preparing;
 pub mod seeking;
+pub mod shortness;

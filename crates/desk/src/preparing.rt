@@ -1,4 +1,5 @@
 // A file read, checked and measured: refusals 1 to 17, and what every call on an accepted file rests on.
+use checker::files::Found;
 use reader::Reading;
 ghost use Rattle.desk.specs.Prepared.{Space, Prepares};
 
@@ -8,33 +9,45 @@ pub enum Prepared {
     Refused { number: u16, place: usize },
 }
 
-// Reads a file, checks it and measures its modules.
+// Reads a file, checks it and measures its modules. The list of the image holds the file's numbers first, and the image takes their place;
+// so the modules' numbers are kept apart.
 pub fn prepare(
     file: &[u8],
-    numbers: &mut [u16],
-    starts: &mut [usize],
     image: &mut [u16],
+    starts: &mut [usize],
+    names: &mut [u16],
     nets: &mut [usize],
     sizes: &mut [u32],
     rooms: &mut [u32],
+    first: &mut [u16],
+    slots: &mut [u32],
 ) -> Prepared
-    requires { ⌜ Space (now file) (now numbers) (now starts) (now image) (now nets) (now sizes) (now rooms) ⌝ }
-    ensures { λ r. ⌜ Prepares r (now (file .entry)) (now (numbers .exit)) (now (starts .exit)) (now (image .exit)) (now (nets .exit)) (now (sizes .exit)) (now (rooms .exit)) ⌝ }
+    requires { ⌜ Space (now file) (now image) (now starts) (now names) (now nets) (now sizes) (now rooms) (now first) (now slots) ⌝ }
+    ensures { λ r. ⌜ Prepares r (now (file .entry)) (now (image .exit)) (now (starts .exit)) (now (names .exit)) (now (nets .exit)) (now (sizes .exit)) (now (rooms .exit)) ⌝ }
 {
     let mut offsets = [0usize; 128];
-    match reader::read(file, numbers, starts, &mut offsets) {
+    match reader::read(file, image, starts, &mut offsets) {
         Reading::Refused { number, place } => Prepared::Refused { number, place },
         Reading::Read {
             modules,
             numbers: count,
-        } => crate::checking::check_numbers(
-            &numbers[..count],
+        } => match checker::files::check_modules(
+            &mut image[..count],
             starts,
             modules,
-            &mut image[..count],
+            first,
+            slots,
+            names,
             nets,
             sizes,
             rooms,
-        ),
+        ) {
+            Found::Broken { rule, place } => Prepared::Refused {
+                number: rule,
+                place,
+            },
+            Found::Over { place } => Prepared::Refused { number: 17, place },
+            Found::Fine => Prepared::Ready { modules, count },
+        },
     }
 }

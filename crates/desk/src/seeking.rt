@@ -14,20 +14,22 @@ pub enum Sought {
 pub fn seek(
     file: &[u8],
     number: u16,
-    numbers: &mut [u16],
-    starts: &mut [usize],
     image: &mut [u16],
+    starts: &mut [usize],
+    names: &mut [u16],
     nets: &mut [usize],
     sizes: &mut [u32],
     rooms: &mut [u32],
+    first: &mut [u16],
+    slots: &mut [u32],
 ) -> Sought
-    requires { ⌜ Space (now file) (now numbers) (now starts) (now image) (now nets) (now sizes) (now rooms) ⌝ }
-    ensures { λ r. ⌜ Seeks r (now (file .entry)) number (now (numbers .exit)) (now (starts .exit)) (now (image .exit)) (now (nets .exit)) (now (sizes .exit)) (now (rooms .exit)) ⌝ }
+    requires { ⌜ Space (now file) (now image) (now starts) (now names) (now nets) (now sizes) (now rooms) (now first) (now slots) ⌝ }
+    ensures { λ r. ⌜ Seeks r (now (file .entry)) number (now (image .exit)) (now (starts .exit)) (now (names .exit)) (now (nets .exit)) (now (sizes .exit)) (now (rooms .exit)) ⌝ }
 {
-    match crate::preparing::prepare(file, numbers, starts, image, nets, sizes, rooms) {
+    match crate::preparing::prepare(file, image, starts, names, nets, sizes, rooms, first, slots) {
         Prepared::Refused { number, place } => Sought::Refused { number, place },
         Prepared::Ready { modules, count: _ } => {
-            match crate::finding::find(numbers, starts, modules, number) {
+            match crate::finding::find(names, modules, number) {
                 Place::At(k) => Sought::At(k),
                 Place::Nowhere => Sought::Refused {
                     number: 18,

@@ -18,8 +18,8 @@ use Rattle.evaluating.specs.Ready.{Ready}
 use Rattle.evaluating.proofs.Refusing.{refused}
 
 module _
-    (file : List ℕ) (number : ℕ) (numbers starts image nets sizes rooms : List ℕ) (sought : Sought)
-    (seeks : Seeks sought file number numbers starts image nets sizes rooms)
+    (file : List ℕ) (number : ℕ) (image starts names nets sizes rooms : List ℕ) (sought : Sought)
+    (seeks : Seeks sought file number image starts names nets sizes rooms)
   where
     -- The refusals of 1 to 18.
     pub unsought :
@@ -30,11 +30,11 @@ module _
         refused scratch out (unheld-refuses unheld (evaluationOn number values (length scratch) (length out)))
       where
         unheld : Unheld file number n place
-        unheld = subst (λ (s : Sought). Seeks s file number numbers starts image nets sizes rooms) e seeks
+        unheld = subst (λ (s : Sought). Seeks s file number image starts names nets sizes rooms) e seeks
 
     module _ (k : ℕ) (e : sought ≡ At k) where
-      abbrev held : Held file number k numbers starts image nets sizes rooms
-      held = subst (λ (s : Sought). Seeks s file number numbers starts image nets sizes rooms) e seeks
+      abbrev held : Held file number k image starts names nets sizes rooms
+      held = subst (λ (s : Sought). Seeks s file number image starts names nets sizes rooms) e seeks
 
       present : k < length (held .ms)
       present = omega (arith, ap length (held .found .here), length-drop k (held .ms))

@@ -1,9 +1,9 @@
 // Evaluation: a module of a file run on values, some of which may be unknown.
 use desk::seeking::Sought;
 use writer::Writing;
-ghost use Prim.Native.Nat.{_≤_};
 ghost use lib.ListN.{length};
 ghost use Rattle.desk.specs.Prepared.{Space};
+ghost use Rattle.desk.specs.Shortness.{Short};
 ghost use Rattle.writer.specs.Settled.{Settles};
 ghost use Rattle.evaluating.specs.Evaluates.{Evaluates};
 ghost use Rattle.meaning.specs.Calls.{evaluationOn};
@@ -62,20 +62,33 @@ fn evaluate_at(
 fn evaluate_in(
     file: &[u8],
     number: u16,
-    numbers: &mut [u16],
-    starts: &mut [usize],
     image: &mut [u16],
+    starts: &mut [usize],
+    names: &mut [u16],
     nets: &mut [usize],
     sizes: &mut [u32],
     rooms: &mut [u32],
+    first: &mut [u16],
+    slots: &mut [u32],
     values: &[u8],
     scratch: &mut [u32],
     out: &mut [u8],
 ) -> Writing
-    requires { ⌜ Space (now file) (now numbers) (now starts) (now image) (now nets) (now sizes) (now rooms) ⌝ }
+    requires { ⌜ Space (now file) (now image) (now starts) (now names) (now nets) (now sizes) (now rooms) (now first) (now slots) ⌝ }
     ensures { λ r. ⌜ Evaluates (now (file .entry)) number (now (values .entry)) (now (scratch .entry)) (now (out .entry)) (now (scratch .exit)) (now (out .exit)) r ⌝ }
 {
-    match desk::seeking::seek(file, number, numbers, starts, image, nets, sizes, rooms) {
+    match desk::seeking::seek(
+        file,
+        number,
+        image,
+        starts,
+        names,
+        nets,
+        sizes,
+        rooms,
+        first,
+        slots,
+    ) {
         Sought::Refused { number, place } => Writing::Refused { number, place },
         Sought::At(k) => {
             let room = rooms[k] as usize;
@@ -84,7 +97,7 @@ fn evaluate_in(
     }
 }
 
-// The call on a file of at most 1,020 bytes, which should not pay for clearing long lists.
+// The call on a file that is short, which should not pay for clearing long lists.
 fn evaluate_short(
     file: &[u8],
     number: u16,
@@ -92,24 +105,28 @@ fn evaluate_short(
     scratch: &mut [u32],
     out: &mut [u8],
 ) -> Writing
-    requires { ⌜ length (now file) ≤ 1020 ⌝ }
+    requires { ⌜ Short (now file) ⌝ }
     ensures { λ r. ⌜ Evaluates (now (file .entry)) number (now (values .entry)) (now (scratch .entry)) (now (out .entry)) (now (scratch .exit)) (now (out .exit)) r ⌝ }
 {
-    let mut numbers = [0u16; 1020];
+    let mut image = [0u16; 1024];
     let mut starts = [0usize; 128];
-    let mut image = [0u16; 1020];
+    let mut names = [0u16; 128];
     let mut nets = [0usize; 128];
     let mut sizes = [0u32; 128];
     let mut rooms = [0u32; 128];
+    let mut first = [0u16; 512];
+    let mut slots = [0u32; 512];
     evaluate_in(
         file,
         number,
-        &mut numbers,
-        &mut starts,
         &mut image,
+        &mut starts,
+        &mut names,
         &mut nets,
         &mut sizes,
         &mut rooms,
+        &mut first,
+        &mut slots,
         values,
         scratch,
         out,
@@ -126,21 +143,25 @@ fn evaluate_large(
 ) -> Writing
     ensures { λ r. ⌜ Evaluates (now (file .entry)) number (now (values .entry)) (now (scratch .entry)) (now (out .entry)) (now (scratch .exit)) (now (out .exit)) r ⌝ }
 {
-    let mut numbers = [1u16; 65536];
-    let mut starts = [0usize; 128];
-    let mut image = [1u16; 65536];
-    let mut nets = [0usize; 128];
-    let mut sizes = [0u32; 128];
-    let mut rooms = [0u32; 128];
+    let mut image = [0u16; 65535];
+    let mut starts = [1usize; 128];
+    let mut names = [1u16; 128];
+    let mut nets = [1usize; 128];
+    let mut sizes = [1u32; 128];
+    let mut rooms = [1u32; 128];
+    let mut first = [0u16; 16384];
+    let mut slots = [0u32; 16384];
     evaluate_in(
         file,
         number,
-        &mut numbers,
-        &mut starts,
         &mut image,
+        &mut starts,
+        &mut names,
         &mut nets,
         &mut sizes,
         &mut rooms,
+        &mut first,
+        &mut slots,
         values,
         scratch,
         out,
@@ -158,7 +179,10 @@ pub fn evaluate(
 ) -> Writing
     ensures { λ r. ⌜ Evaluates (now (file .entry)) number (now (values .entry)) (now (scratch .entry)) (now (out .entry)) (now (scratch .exit)) (now (out .exit)) r ⌝ }
 {
-    if file.len() <= 1020 {
+    if 1024 < file.len() {
+        return evaluate_large(file, number, values, scratch, out);
+    }
+    if desk::shortness::is_short(file) {
         evaluate_short(file, number, values, scratch, out)
     } else {
         evaluate_large(file, number, values, scratch, out)

@@ -16,8 +16,8 @@ use Rattle.flattener.specs.Imaging.{imaged}
 use Rattle.writer.specs.Settled.{Settles}
 use Rattle.flattening.specs.Found.{Sized}
 
-module _ (file : List ℕ) (number : ℕ) (numbers starts image nets sizes rooms : List ℕ) (r : Sought)
-    (seeks : Seeks r file number numbers starts image nets sizes rooms) where
+module _ (file : List ℕ) (number : ℕ) (image starts names nets sizes rooms : List ℕ) (r : Sought)
+    (seeks : Seeks r file number image starts names nets sizes rooms) where
   pub sought-refused :
       (n place : ℕ)
       → r ≡ sought.Refused n place
@@ -25,13 +25,13 @@ module _ (file : List ℕ) (number : ℕ) (numbers starts image nets sizes rooms
       → Settles (flattening file number (length scratch) (length out)) scratch out scratch out (Refused n place)
   unfolding flattening
   sought-refused n place e scratch out =
-      let none = subst (λ (s : Sought). Seeks s file number numbers starts image nets sizes rooms) e seeks in
+      let none = subst (λ (s : Sought). Seeks s file number image starts names nets sizes rooms) e seeks in
       rw (unheld-refuses none (flatteningOn number (length scratch) (length out)))
       (record { answered = record { is = refl; out = refl }; scratched = refl })
 
   module _ (k : ℕ) (e : r ≡ sought.At k) where
-    held : Held file number k numbers starts image nets sizes rooms
-    held = subst (λ (s : Sought). Seeks s file number numbers starts image nets sizes rooms) e seeks
+    held : Held file number k image starts names nets sizes rooms
+    held = subst (λ (s : Sought). Seeks s file number image starts names nets sizes rooms) e seeks
 
     pub sought-few : k < 128
     sought-few = omega (arith, ap length (held .found .here), length-drop k (held .ms), held .desk .within .modules .count)

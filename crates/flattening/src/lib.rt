@@ -1,10 +1,10 @@
 // Flattening: one module of a file with all that it refers to set down in it, written as a file of its own.
 use desk::seeking::Sought;
 use writer::Writing;
-ghost use Prim.Native.Nat.{_≤_};
 ghost use lib.ListN.{length};
 ghost use Rattle.meaning.specs.Calls.{flattening, flatteningOn};
 ghost use Rattle.desk.specs.Prepared.{Space};
+ghost use Rattle.desk.specs.Shortness.{Short};
 ghost use Rattle.writer.specs.Settled.{Settles};
 ghost use Rattle.flattening.specs.Found.{Sized};
 
@@ -60,21 +60,34 @@ fn flatten_at(
 fn flatten_in(
     file: &[u8],
     number: u16,
-    numbers: &mut [u16],
-    starts: &mut [usize],
     image: &mut [u16],
+    starts: &mut [usize],
+    names: &mut [u16],
     nets: &mut [usize],
     sizes: &mut [u32],
     rooms: &mut [u32],
+    first: &mut [u16],
+    slots: &mut [u32],
     scratch: &mut [u32],
     out: &mut [u8],
 ) -> Writing
-    requires { ⌜ Space (now file) (now numbers) (now starts) (now image) (now nets) (now sizes) (now rooms) ⌝ }
+    requires { ⌜ Space (now file) (now image) (now starts) (now names) (now nets) (now sizes) (now rooms) (now first) (now slots) ⌝ }
     ensures { λ r.
         ⌜ Settles (flattening (now (file .entry)) number (length (now (scratch .entry))) (length (now (out .entry))))
         (now (scratch .entry)) (now (out .entry)) (now (scratch .exit)) (now (out .exit)) r ⌝ }
 {
-    match desk::seeking::seek(file, number, numbers, starts, image, nets, sizes, rooms) {
+    match desk::seeking::seek(
+        file,
+        number,
+        image,
+        starts,
+        names,
+        nets,
+        sizes,
+        rooms,
+        first,
+        slots,
+    ) {
         Sought::Refused { number, place } => Writing::Refused { number, place },
         Sought::At(k) => {
             let size = sizes[k] as usize;
@@ -84,28 +97,32 @@ fn flatten_in(
     }
 }
 
-// A file of at most 1,020 bytes.
+// A file that is short.
 fn flatten_short(file: &[u8], number: u16, scratch: &mut [u32], out: &mut [u8]) -> Writing
-    requires { ⌜ length (now file) ≤ 1020 ⌝ }
+    requires { ⌜ Short (now file) ⌝ }
     ensures { λ r.
         ⌜ Settles (flattening (now (file .entry)) number (length (now (scratch .entry))) (length (now (out .entry))))
         (now (scratch .entry)) (now (out .entry)) (now (scratch .exit)) (now (out .exit)) r ⌝ }
 {
-    let mut numbers = [0u16; 1020];
+    let mut image = [0u16; 1024];
     let mut starts = [0usize; 128];
-    let mut image = [0u16; 1020];
+    let mut names = [0u16; 128];
     let mut nets = [0usize; 128];
     let mut sizes = [0u32; 128];
     let mut rooms = [0u32; 128];
+    let mut first = [0u16; 512];
+    let mut slots = [0u32; 512];
     flatten_in(
         file,
         number,
-        &mut numbers,
-        &mut starts,
         &mut image,
+        &mut starts,
+        &mut names,
         &mut nets,
         &mut sizes,
         &mut rooms,
+        &mut first,
+        &mut slots,
         scratch,
         out,
     )
@@ -117,21 +134,25 @@ fn flatten_large(file: &[u8], number: u16, scratch: &mut [u32], out: &mut [u8]) 
         ⌜ Settles (flattening (now (file .entry)) number (length (now (scratch .entry))) (length (now (out .entry))))
         (now (scratch .entry)) (now (out .entry)) (now (scratch .exit)) (now (out .exit)) r ⌝ }
 {
-    let mut numbers = [1u16; 65536];
-    let mut starts = [0usize; 128];
-    let mut image = [1u16; 65536];
-    let mut nets = [0usize; 128];
-    let mut sizes = [0u32; 128];
-    let mut rooms = [0u32; 128];
+    let mut image = [0u16; 65535];
+    let mut starts = [1usize; 128];
+    let mut names = [1u16; 128];
+    let mut nets = [1usize; 128];
+    let mut sizes = [1u32; 128];
+    let mut rooms = [1u32; 128];
+    let mut first = [0u16; 16384];
+    let mut slots = [0u32; 16384];
     flatten_in(
         file,
         number,
-        &mut numbers,
-        &mut starts,
         &mut image,
+        &mut starts,
+        &mut names,
         &mut nets,
         &mut sizes,
         &mut rooms,
+        &mut first,
+        &mut slots,
         scratch,
         out,
     )
@@ -144,7 +165,10 @@ pub fn flatten(file: &[u8], number: u16, scratch: &mut [u32], out: &mut [u8]) ->
         ⌜ Settles (flattening (now (file .entry)) number (length (now (scratch .entry))) (length (now (out .entry))))
         (now (scratch .entry)) (now (out .entry)) (now (scratch .exit)) (now (out .exit)) r ⌝ }
 {
-    if file.len() <= 1020 {
+    if 1024 < file.len() {
+        return flatten_large(file, number, scratch, out);
+    }
+    if desk::shortness::is_short(file) {
         flatten_short(file, number, scratch, out)
     } else {
         flatten_large(file, number, scratch, out)

@@ -6,7 +6,7 @@ use mathlib.Core.List.{List, [], _∷_, _++_}
 use native.Mathlib.Omega.{arith}
 use lib.Dec.{leb}
 use lib.ListN.{length, take, drop, getD, length-drop, length-map, List·getD-append, List·getD-map}
-use lib.Seq.{take-append-seam, length-take-le}
+use lib.Seq.{take-append-seam, take-length, length-take-le}
 use Rattle.meaning.specs.Lists.{All}
 use Rattle.meaning.specs.Syntax.{Module}
 use Rattle.meaning.specs.Layout.{each, numberBytes, moduleNumbers, fileNumbers}
@@ -14,6 +14,7 @@ use Rattle.meaning.specs.Reading.{Step, got, refused, File, holds, fails, onwar
 use Rattle.meaning.specs.Ceilings.{Bytes, Small}
 use Rattle.laws.specs.Reading.{refused-not-got}
 use Rattle.reader.specs.Numbers.{atMost, numbersIn, before, laid}
+use Rattle.reader.specs.Spelled.{Spells}
 use Rattle.reader.specs.Exact.{bytes-take, spells-bytes, spells-small}
 use Rattle.reader.specs.Places.{Front, at-start, before-length}
 use Rattle.reader.specs.Sound.{Kept, on, ended, one, sound-count, sound-modules, many-length}
@@ -121,10 +122,11 @@ module _ (bytes : List ℕ) (ms : List Module) (file : read bytes ≡ holds ms) 
   pub holds-few : length (fileNumbers ms) ≤ length bytes
   holds-few = rw (← all-passed bytes ms file .numbers) (before-length bytes (length bytes))
 
+  pub holds-spelled : Spells bytes (fileNumbers ms)
+  holds-spelled = let p = all-passed bytes ms file in rw (take-length bytes, p .numbers) at (p .front .spells)
+
   pub holds-small : Bytes bytes → All Small (fileNumbers ms)
-  holds-small h =
-      let p = all-passed bytes ms file in
-      rw (← p .numbers) (spells-small (p .front .spells) (bytes-take (length bytes) h))
+  holds-small h = spells-small holds-spelled h
 
   pub offsets-length : length (offsetsOf bytes) ≡ length ms
   offsets-length = placed-length (opened bytes ms file .places)
