@@ -93,7 +93,8 @@ fn look_short(file: &[u8], position: usize) -> Looked
     )
 }
 
-// The look into any file.
+// The look into any file. Its lists by position begin with 1, which is filled in here, so that it is not
+// put into its callers (docs/DECISIONS.md, 'What the compiler inlines').
 fn look_large(file: &[u8], position: usize) -> Looked
     ensures { λ r. ⌜ Looks r (now (file .entry)) position ⌝ }
 {
@@ -123,6 +124,8 @@ fn look_large(file: &[u8], position: usize) -> Looked
 fn look(file: &[u8], position: usize) -> Looked
     ensures { λ r. ⌜ Looks r (now (file .entry)) position ⌝ }
 {
+    // A long file goes the long way at once. Called from two places that way stays a function of its own, and a short file does not pay
+    // for its stack.
     if 1024 < file.len() {
         return look_large(file, position);
     }

@@ -13,6 +13,8 @@ ghost use Rattle.counting.specs.Answers.{Counts};
 pub fn count(file: &[u8], number: u16, scratch: &mut [u32]) -> Counted
     ensures { λ r. ⌜ Counts (counting (now (file .entry)) number (length (now (scratch .entry)))) (now (scratch .entry)) (now (scratch .exit)) r ⌝ }
 {
+    // A long file goes the long way at once. Called from two places that way stays a function of its own, and a short file does not pay
+    // for its stack.
     if 1024 < file.len() {
         return crate::working::count_large(file, number, scratch);
     }

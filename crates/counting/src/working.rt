@@ -123,7 +123,8 @@ pub(crate) fn count_short(file: &[u8], number: u16, scratch: &mut [u32]) -> Coun
     )
 }
 
-// The count of any file.
+// The count of any file. Its lists by position begin with 1, which is filled in here, so that it is not
+// put into its callers (docs/DECISIONS.md, 'What the compiler inlines').
 pub(crate) fn count_large(file: &[u8], number: u16, scratch: &mut [u32]) -> Counted
     ensures { λ r. ⌜ Counts (counting (now (file .entry)) number (length (now (scratch .entry)))) (now (scratch .entry)) (now (scratch .exit)) r ⌝ }
 {

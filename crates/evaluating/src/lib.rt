@@ -133,7 +133,8 @@ fn evaluate_short(
     )
 }
 
-// The call on any file.
+// The call on any file. Its lists by position begin with 1, which is filled in here, so that it is not
+// put into its callers (docs/DECISIONS.md, 'What the compiler inlines').
 fn evaluate_large(
     file: &[u8],
     number: u16,
@@ -179,6 +180,8 @@ pub fn evaluate(
 ) -> Writing
     ensures { λ r. ⌜ Evaluates (now (file .entry)) number (now (values .entry)) (now (scratch .entry)) (now (out .entry)) (now (scratch .exit)) (now (out .exit)) r ⌝ }
 {
+    // A long file goes the long way at once. Called from two places that way stays a function of its own, and a short file does not pay
+    // for its stack.
     if 1024 < file.len() {
         return evaluate_large(file, number, values, scratch, out);
     }

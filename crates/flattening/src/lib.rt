@@ -128,7 +128,8 @@ fn flatten_short(file: &[u8], number: u16, scratch: &mut [u32], out: &mut [u8]) 
     )
 }
 
-// A file of any length.
+// A file of any length. Its lists by position begin with 1, which is filled in here, so that it is not
+// put into its callers (docs/DECISIONS.md, 'What the compiler inlines').
 fn flatten_large(file: &[u8], number: u16, scratch: &mut [u32], out: &mut [u8]) -> Writing
     ensures { λ r.
         ⌜ Settles (flattening (now (file .entry)) number (length (now (scratch .entry))) (length (now (out .entry))))
@@ -165,6 +166,8 @@ pub fn flatten(file: &[u8], number: u16, scratch: &mut [u32], out: &mut [u8]) ->
         ⌜ Settles (flattening (now (file .entry)) number (length (now (scratch .entry))) (length (now (out .entry))))
         (now (scratch .entry)) (now (out .entry)) (now (scratch .exit)) (now (out .exit)) r ⌝ }
 {
+    // A long file goes the long way at once. Called from two places that way stays a function of its own, and a short file does not pay
+    // for its stack.
     if 1024 < file.len() {
         return flatten_large(file, number, scratch, out);
     }
