@@ -1,15 +1,14 @@
 -- The tables that know the modules from a position on: one more module in front of those.
 use Prim.Native.Nat.{ℕ, zero, suc, _+_, _≤_, _<_}
-use mathlib.Core.Path.{_≡_, refl, sym, ap, _∙_}
-use mathlib.Core.List.{List, [], _∷_}
+use mathlib.Core.Path.{_≡_, refl, _∙_}
+use mathlib.Core.List.{List, []}
 use mathlib.Core.Logic.{_⊎_, ⊎-elim}
-use native.Mathlib.Decide.{ℕ-discrete}
 use native.Mathlib.Omega.{arith}
 use native.Mathlib.Nat.{zero-add}
 use lib.ListN.{length, getD, set, drop, drop-of-length-le}
-use lib.Seq.{getD-set-same, getD-set-other}
 use Rattle.meaning.specs.Syntax.{Module}
 use Rattle.sizes.specs.Behind.{Here, inside, behind}
+use Rattle.sizes.specs.Measuring.{stored}
 use Rattle.checker.specs.Filed.{At}
 use Rattle.checker.specs.Numbering.{shifted, firstOf, firstRepeat, Entered}
 use Rattle.checker.proofs.Numbers.{Tabled, tabled-more, repeat-here, repeat-later}
@@ -29,16 +28,7 @@ module _ {of : Module → ℕ} {table : List ℕ} {ms : List Module} {k : ℕ} w
       → Filled of table (k + 1) ms
       → v ≡ of m
       → Filled of (set table k v) k ms
-  filled-more {m} {later} {v} here room before is = record { entry = λ j n rest le e. pick j n rest le e (ℕ-discrete j k) }
-    where
-      pick : (j : ℕ) (n : Module) (rest : List Module) → k ≤ j → At ms j n rest → Dec (j ≡ k) → getD (set table k v) j 0 ≡ of n
-      pick j n rest le e (yes same) =
-          let alike : n ∷ rest ≡ m ∷ later = sym e ∙ ap (λ (i : ℕ). drop i ms) same ∙ here in
-          let own : n ≡ m = cc in
-          rw (same, own) (getD-set-same table k v 0 room ∙ is)
-      pick j n rest le e (no differ) =
-          let further : k + 1 ≤ j = omega (arith, differ) in
-          getD-set-other table k j v 0 differ ∙ before .entry j n rest further e
+  filled-more {v = v} here room before is = record { entry = stored ms k here (λ m later. of m) table v room is (before .entry) }
 
 -- What all four tables know of the modules from position k on, and where the first of these is that repeats.
 pub record Known (ms : List Module) (k : ℕ) (first names inputs outputs : List ℕ) (repeated : ℕ) : Type 0 where

@@ -4,16 +4,15 @@ use mathlib.Core.Path.{_≡_, refl, sym, ap, _∙_}
 use mathlib.Core.List.{List, [], _∷_, _++_}
 use native.Mathlib.Omega.{arith}
 use native.Mathlib.Numerals.{add-one}
-use lib.ListN.{length, getD, drop, set, drop-of-length-le}
+use lib.ListN.{length, drop, set, drop-of-length-le}
 use lib.Seq.{drop-drop}
 use Rattle.meaning.specs.Syntax.{Module}
 use Rattle.meaning.specs.Layout.{each, moduleNumbers, fileNumbers}
 use Rattle.meaning.specs.Limits.{netCount, mostSize}
 use Rattle.meaning.specs.Verdict.{Verdict, good, refused, moduleVerdict, modulesVerdict, sizesVerdict, fileVerdict}
 use Rattle.image.specs.Resolved.{resolve}
-use Rattle.image.specs.ResolvedLayout.{startOf, resolved-at, length-of-resolve}
-use Rattle.image.specs.Fitting.{Fits, good-fits}
-use Rattle.sizes.specs.Measured.{Tabled}
+use Rattle.image.specs.ResolvedLayout.{resolved-at, length-of-resolve}
+use Rattle.image.specs.Fitting.{good-fits}
 use Rattle.sizes.specs.Behind.{inside, behind}
 use Rattle.sizes.specs.SizeRule.{sizes-broken-later}
 use Rattle.sizes.specs.Measuring.{stored, tabled-none, measured-fine, measured-over, tabled-more}

@@ -1,8 +1,8 @@
 -- What a reference comes to, case by case, and what the tables say of the module that it means.
-use Prim.Native.Nat.{ℕ, suc, _+_, _-_, _≤_, _<_}
+use Prim.Native.Nat.{ℕ, suc, _+_, _-_, _<_}
 use mathlib.Core.Path.{_≡_, refl, sym, ap, ap₂, _∙_}
-use mathlib.Core.Bool.{Bool, true, false, _&&_, cond, and-false, true≢false}
-use mathlib.Core.List.{List, [], _∷_}
+use mathlib.Core.Bool.{Bool, true, false, _&&_, and-false, true≢false}
+use mathlib.Core.List.{List, []}
 use native.Mathlib.Omega.{arith}
 use borrow.Author.Tests.{eq-eqb, ne-eqb}
 use lib.Dec.{eqb}
@@ -96,12 +96,3 @@ module _
         to-module ms k number takes drives g (t .m) (t .found) true
         (ap₂ _&&_ (eq-eqb (length takes) (length (t .m .inputs)) takes-agree) (eq-eqb (length drives) (length (t .m .outputs)) drives-agree))
         ∙ ap reference.Module (t .placed)
-
-pub repeat-inside : (ms : List Module) → firstRepeat ms ≤ length ms
-unfolding firstRepeat
-repeat-inside [] = omega arith
-repeat-inside (m ∷ ms) = go (isBox (assoc (m .number) ms)) (repeat-inside ms)
-  where
-    go : (b : Bool) → firstRepeat ms ≤ length ms → cond b 0 (suc (firstRepeat ms)) ≤ suc (length ms)
-    go true h = omega arith
-    go false h = omega arith

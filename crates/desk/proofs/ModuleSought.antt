@@ -8,6 +8,7 @@ use Rattle.desk.specs.Finding.{Searchable, Finds}
 use Rattle.checker.specs.Numbering.{Naming}
 use Rattle.desk.specs.Prepared.{Opened, Prepares}
 use Rattle.desk.specs.Sought.{Seeks, broken, absent}
+use Rattle.desk.specs.Holding.{opened-searchable}
 use Rattle.desk.specs.declared.finding.Place.{Place}
 use Rattle.desk.specs.declared.finding.Place.the-variants.{At, Nowhere}
 use Rattle.desk.specs.declared.preparing.Prepared.{Prepared}
@@ -24,7 +25,7 @@ module _ (file image starts names nets sizes rooms : List ℕ) (prepared : Prepa
 
     -- The search can begin.
     pub searchable : Searchable names modules
-    searchable = record { ms = opened .ms; named = opened .desk .named; all = opened .desk .all }
+    searchable = opened-searchable opened
 
     module _ (number : ℕ) (place : Place) (f : (ms : List Module) → Naming names ms → modules ≡ length ms → Finds place ms number) where
       found : Finds place (opened .ms) number

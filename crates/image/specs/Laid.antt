@@ -1,12 +1,12 @@
 -- A list of numbers laid over a longer one from a place on; pieces laid side by side are one piece.
-use Prim.Native.Nat.{ℕ, suc, _+_, _-_, _≤_, _<_}
+use Prim.Native.Nat.{ℕ, _+_, _-_, _≤_, _<_}
 use mathlib.Core.Path.{_≡_, sym, ap, ap₂, _∙_}
 use mathlib.Core.List.{List, [], _∷_, _++_, append-assoc}
 use native.Mathlib.Omega.{arith}
 use native.Mathlib.Nat.{add-zero}
 use native.Mathlib.Numerals.{add-one}
-use lib.ListN.{length, getD, take, drop, set, length-append, length-drop, length-take, take-append-drop}
-use lib.Seq.{drop-drop, drop-append-seam, take-append-seam, take-at, drop-at, take-append-le, drop-append-le, take-take, length-take-le, set-split, drop-append-add, take-append-add}
+use lib.ListN.{length, take, drop, set, length-append, length-drop, take-append-drop}
+use lib.Seq.{drop-drop, drop-append-seam, take-at, drop-at, take-take, length-take-le, set-split}
 use Rattle.image.specs.Stands.{Stands}
 
 unfoldable pub laid : List ℕ → ℕ → List ℕ → List ℕ

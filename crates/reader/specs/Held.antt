@@ -160,7 +160,6 @@ pub record Held (bytes : List ℕ) (ms : List Module) (numbers starts offsets : 
   pub startsAre : (i : ℕ) → i < length ms → getD starts i 0 ≡ length (inFront ms i)
   pub offsetsAre : (i : ℕ) → i < length ms → getD offsets i 0 ≡ length (each numberBytes (inFront ms i))
   pub few : length (fileNumbers ms) ≤ length bytes
-  pub small : All Small (fileNumbers ms)
 
 laid-front : (xs old : List ℕ) (i : ℕ) → i < length xs → getD (laid xs old) i 0 ≡ getD xs i 0
 laid-front xs old i h = List·getD-append xs (drop (length xs) old) 0 i h
@@ -178,5 +177,4 @@ held {bytes} {numbers} {starts} {offsets} {ms} b d file =
           let l = offsets-length bytes ms file in
           rw (d .offsetsLaid, laid-front (offsetsOf bytes) offsets i (omega arith)) (offset-at bytes ms file i h b);
       few = holds-few bytes ms file;
-      small = holds-small bytes ms file b;
     }

@@ -1,8 +1,8 @@
 -- `checker::files::check_at` meets its contract: the module breaks a rule, or it is fine and its size within the limit, or above.
 -- Assumes nothing.
-use Prim.Native.Nat.{_+_, _<_, _≤_}
+use Prim.Native.Nat.{_+_}
 use mathlib.Core.Logic.{⊎-elim, inl, inr}
-use mathlib.Core.Path.{_≡_, _∙_}
+use mathlib.Core.Path.{_≡_}
 use native.Mathlib.Omega.{arith}
 use borrow.Author.Needs.{needs}
 use Rattle.checker.specs.Going.{endOf}

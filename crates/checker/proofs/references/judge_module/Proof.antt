@@ -7,7 +7,8 @@ use mathlib.Core.List.{List}
 use Rattle.meaning.specs.Syntax.{Module}
 use Rattle.checker.specs.Numbering.{Numbered, Ported, firstRepeat}
 use Rattle.checker.proofs.Later.{later-none}
-use Rattle.checker.proofs.Targets.{Target, target, to-none, inputs-differ, outputs-differ, counts-agree, repeat-inside}
+use Rattle.checker.proofs.Repeats.{repeat-inside}
+use Rattle.checker.proofs.Targets.{Target, target, to-none, inputs-differ, outputs-differ, counts-agree}
 use Rattle.checker.proofs.references.judge_module.Statement.{statement}
 use Rattle.checker.proofs.references.judge_module.Tie as tie
 
