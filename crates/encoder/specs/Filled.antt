@@ -1,16 +1,8 @@
 -- What stands in a lent buffer once something is written into it.
-use Prim.Native.Nat.{ℕ, _+_, _≤_}
+use Prim.Native.Nat.{ℕ, _+_}
 use mathlib.Core.Path.{_≡_}
 use mathlib.Core.List.{List, _++_}
 use lib.ListN.{length, take, drop}
-use Rattle.meaning.specs.Lists.{All}
-use Rattle.meaning.specs.Ceilings.{Small}
-use Rattle.meaning.specs.Layout.{each, numberBytes}
-
--- Numbers that a file can hold, and a buffer that has room for their bytes.
-pub record Writable (numbers out : List ℕ) : Type 0 where
-  pub small : All Small numbers
-  pub room : length (each numberBytes numbers) ≤ length out
 
 -- An answer fills the first bytes of the buffer and leaves the rest.
 pub record Filled (answer before after : List ℕ) (count : ℕ) : Type 0 where

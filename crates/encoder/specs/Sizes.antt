@@ -1,27 +1,13 @@
 -- How many bytes the first numbers of a list have, up to all of them: the state of a loop that goes through the numbers.
-use Prim.Native.Nat.{ℕ, _+_, _*_, _≤_, _<_}
-use native.Mathlib.Decide.{decLt}
+use Prim.Native.Nat.{ℕ, _+_, _≤_, _<_}
 use native.Mathlib.Numerals.{add-one}
 use native.Mathlib.Omega.{arith}
-use mathlib.Core.Path.{_≡_, refl}
-use mathlib.Core.List.{List, [], _∷_, _++_, append-nil}
+use mathlib.Core.Path.{_≡_}
+use mathlib.Core.List.{List, _++_, append-nil}
 use lib.ListN.{length, take, getD, length-append, take-append-drop}
-use lib.Seq.{take-suc, take-all}
+use lib.Seq.{take-suc}
 use Rattle.meaning.specs.Layout.{each, numberBytes}
 use Rattle.laws.specs.Lists.{each-append}
-use Rattle.laws.specs.Written.{bytes-of-low, bytes-of-high}
-
-two-at-most : (n : ℕ) → length (numberBytes n) ≤ 2
-two-at-most n = go (decLt n 128)
-  where
-    go : Dec (n < 128) → length (numberBytes n) ≤ 2
-    go (yes low) = rw (bytes-of-low n low) (omega arith)
-    go (no high) = rw (bytes-of-high n (omega arith)) (omega arith)
-
-pub at-most-double : (xs : List ℕ) → length (each numberBytes xs) ≤ 2 * length xs
-unfolding each
-at-most-double [] = omega arith
-at-most-double (x ∷ xs) = rw length-append (omega (arith, two-at-most x, at-most-double xs))
 
 pub bytes-of-one-more : (xs : List ℕ) (i : ℕ) → i < length xs
     → each numberBytes (take (i + 1) xs) ≡ each numberBytes (take i xs) ++ numberBytes (getD xs i 0)
@@ -33,10 +19,6 @@ pub record Sized (numbers : List ℕ) (i size : ℕ) : Type 0 where
   pub within : i ≤ length numbers
   pub is : size ≡ length (each numberBytes (take i numbers))
 
-pub sized-none : (numbers : List ℕ) → Sized numbers 0 0
-unfolding each
-sized-none numbers = record { within = omega arith; is = refl }
-
 module _ {numbers : List ℕ} {i size : ℕ} (s : Sized numbers i size) where
   pub sized-more : {next : ℕ} → i < length numbers → next ≡ size + length (numberBytes (getD numbers i 0))
       → Sized numbers (i + 1) next
@@ -45,6 +27,3 @@ module _ {numbers : List ℕ} {i size : ℕ} (s : Sized numbers i size) where
 
   pub sized-part : size ≤ length (each numberBytes numbers)
   sized-part = rw (← take-append-drop i numbers, each-append, length-append) (omega arith)
-
-  pub sized-all : length numbers ≤ i → size ≡ length (each numberBytes numbers)
-  sized-all h = rw (s .is, take-all i numbers)

@@ -1,19 +1,15 @@
--- A list of numbers that is put into a longer one piece by piece, from a place on: what is laid and what is left make the whole.
+-- Pieces that are put one behind the other, in the forms that the writers use: with what is left named, and with the room for it.
 use Prim.Native.Nat.{ℕ, _+_, _≤_}
 use native.Mathlib.Omega.{arith}
-use mathlib.Core.Path.{_≡_, refl, ap}
-use mathlib.Core.List.{List, [], _∷_, _++_, append-assoc, append-nil}
+use mathlib.Core.Path.{_≡_, refl, ap, subst}
+use mathlib.Core.List.{List, [], _∷_, _++_, append-nil}
 use lib.ListN.{length, set, length-append}
 use Rattle.encoder.specs.Filled.{Put}
 use Rattle.encoder.proofs.Filling.{put-stores}
 use Rattle.writer.specs.Rooms.{Room}
-use Rattle.encoder.specs.Puts.{put-none, put-more, length-put}
-
-pub record Laying (whole left before : List ℕ) (at : ℕ) (after : List ℕ) (next : ℕ) : Type 0 where
-  pub room : at + length whole ≤ length before
-  pub laid : List ℕ
-  pub all : laid ++ left ≡ whole
-  pub put : Put laid before at after next
+use Rattle.encoder.specs.Puts.{put-none, length-put}
+use Rattle.encoder.specs.Laying.{Laying}
+use Rattle.encoder.specs.Laying as bytes
 
 pub laying-none : {whole left : List ℕ} (before : List ℕ) (at : ℕ) → left ≡ whole → at + length whole ≤ length before
     → Laying whole left before at before at
@@ -39,13 +35,7 @@ module _ {whole left before after : List ℕ} {at next : ℕ} (l : Laying whole 
 
   pub laying-more : (piece rest : List ℕ) {later : List ℕ} {place : ℕ} → left ≡ piece ++ rest → Put piece after next later place
       → Laying whole rest before at later place
-  laying-more piece rest e p =
-      record {
-        room = l .room;
-        laid = l .laid ++ piece;
-        all = rw (append-assoc, ← e) (l .all);
-        put = put-more (l .put) (omega arith) p;
-      }
+  laying-more piece rest e p = bytes.laying-more piece rest (subst (λ (xs : List ℕ). Laying whole xs before at after next) e l) p
 
   -- One number, stored.
   pub laying-store : {x : ℕ} {rest : List ℕ} → left ≡ x ∷ rest → Laying whole rest before at (set after next x) (next + 1)
@@ -66,4 +56,4 @@ laying-put {piece} {rest} p l = laying-more l piece rest refl p
 
 pub laying-last : {left whole before after later : List ℕ} {at next place : ℕ}
     → Put left after next later place → Laying whole left before at after next → Put whole before at later place
-laying-last p l = rw (← l .all) (put-more (l .put) (omega (arith, l .room)) p)
+laying-last p l = bytes.laying-last l p

@@ -11,7 +11,8 @@ use lib.Pow.{pow-mono}
 use Rattle.meaning.specs.Counter.{digits}
 use Rattle.encoder.specs.Filled.{Put}
 use Rattle.writer.specs.Rooms.{Room}
-use Rattle.writer.proofs.Laying.{Laying, laying-start, laying-left, laying-put, room-first}
+use Rattle.encoder.specs.Laying.{Laying}
+use Rattle.writer.proofs.Laying.{laying-start, laying-left, laying-put, room-first}
 use Rattle.writer.proofs.Digits.{digit-one, digit-zero}
 use Rattle.writer.proofs.PartNumbers.{partsNumbers, parts-behind-0, parts-behind-1}
 use Rattle.writer.proofs.Running.{Running, running-start, running-one, running-zero, level-within}

@@ -5,7 +5,8 @@ use native.Mathlib.Omega.{arith}
 use mathlib.Core.Path.{refl}
 use Rattle.meaning.specs.Layout.{each, moduleNumbers}
 use Rattle.meaning.specs.Counter.{block, blocks}
-use Rattle.writer.proofs.Laying.{Laying, laying-none, laying-length, laying-room, laying-more, laying-all}
+use Rattle.encoder.specs.Laying.{Laying}
+use Rattle.writer.proofs.Laying.{laying-none, laying-length, laying-room, laying-more, laying-all}
 use Rattle.writer.proofs.BlockNumbers.{rest-of-blocks, no-blocks}
 use Rattle.writer.proofs.blocks.blocks.Statement.{statement}
 use Rattle.writer.proofs.blocks.blocks.Tie as tie

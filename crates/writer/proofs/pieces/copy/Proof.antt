@@ -4,7 +4,8 @@ use native.Mathlib.Omega.{arith}
 use mathlib.Core.Path.{_≡_, refl}
 use mathlib.Core.List.{[], _∷_}
 use lib.ListN.{length, drop, drop-of-length-le}
-use Rattle.writer.proofs.Laying.{Laying, laying-none, laying-length, laying-room, laying-store, laying-all}
+use Rattle.encoder.specs.Laying.{Laying}
+use Rattle.writer.proofs.Laying.{laying-none, laying-length, laying-room, laying-store, laying-all}
 use Rattle.writer.proofs.Runs.{rest-of-list}
 use Rattle.writer.proofs.pieces.copy.Statement.{statement}
 use Rattle.writer.proofs.pieces.copy.Tie as tie

@@ -6,7 +6,8 @@ use mathlib.Core.List.{[], _∷_}
 use lib.ListN.{length}
 use Rattle.meaning.specs.Adder.{upFrom}
 use Rattle.laws.specs.Adder.Nets.{length-upFrom}
-use Rattle.writer.proofs.Laying.{Laying, laying-none, laying-length, laying-room, laying-store, laying-all}
+use Rattle.encoder.specs.Laying.{Laying}
+use Rattle.writer.proofs.Laying.{laying-none, laying-length, laying-room, laying-store, laying-all}
 use Rattle.writer.proofs.Runs.{whole-run, rest-of-run, no-run}
 use Rattle.writer.proofs.pieces.run.Statement.{statement}
 use Rattle.writer.proofs.pieces.run.Tie as tie

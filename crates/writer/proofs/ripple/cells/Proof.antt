@@ -7,7 +7,8 @@ use mathlib.Core.List.{_++_}
 use Rattle.meaning.specs.Layout.{each, numberBytes}
 use Rattle.meaning.specs.Adder.{rippleAdder}
 use Rattle.laws.specs.Adder.Numbers.{cellsNumbers}
-use Rattle.writer.proofs.Laying.{Laying, laying-none, laying-length, laying-room, laying-more, laying-all}
+use Rattle.encoder.specs.Laying.{Laying}
+use Rattle.writer.proofs.Laying.{laying-none, laying-length, laying-room, laying-more, laying-all}
 use Rattle.writer.proofs.Encoding.{bytes-of-piece, no-bytes}
 use Rattle.writer.proofs.Cells.{cellsFrom, cellOf, small-cell, all-cells, rest-of-cells, no-cells}
 use Rattle.writer.proofs.ripple.cells.Statement.{statement}

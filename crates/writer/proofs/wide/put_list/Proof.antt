@@ -7,7 +7,8 @@ use mathlib.Core.List.{_++_}
 use lib.ListN.{drop, getD, drop-of-length-le}
 use Rattle.meaning.specs.Layout.{each, numberBytes}
 use Rattle.laws.specs.Lists.{all-at}
-use Rattle.writer.proofs.Laying.{Laying, laying-start, laying-length, laying-room, laying-more, laying-all}
+use Rattle.encoder.specs.Laying.{Laying}
+use Rattle.writer.proofs.Laying.{laying-start, laying-length, laying-room, laying-more, laying-all}
 use Rattle.writer.proofs.Encoding.{bytes-of-next, no-bytes}
 use Rattle.writer.proofs.Runs.{rest-of-list}
 use Rattle.writer.proofs.wide.put_list.Statement.{statement}

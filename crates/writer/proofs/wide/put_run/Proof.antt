@@ -6,7 +6,8 @@ use mathlib.Core.Path.{_≡_, ap}
 use mathlib.Core.List.{_++_}
 use Rattle.meaning.specs.Layout.{each, numberBytes}
 use Rattle.meaning.specs.Adder.{upFrom}
-use Rattle.writer.proofs.Laying.{Laying, laying-none, laying-length, laying-room, laying-more, laying-all}
+use Rattle.encoder.specs.Laying.{Laying}
+use Rattle.writer.proofs.Laying.{laying-none, laying-length, laying-room, laying-more, laying-all}
 use Rattle.writer.proofs.Encoding.{bytes-of-next, no-bytes}
 use Rattle.writer.proofs.Runs.{whole-run, rest-of-run, no-run}
 use Rattle.writer.proofs.wide.put_run.Statement.{statement}
