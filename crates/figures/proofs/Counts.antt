@@ -1,34 +1,15 @@
--- Counts made larger: one of them, and all of them one after the other.
-use Prim.Native.Nat.{ℕ, _+_, _≤_, _<_}
-use mathlib.Core.Path.{_≡_, refl, sym, ap, _∙_}
+-- Counts made larger one after the other, each by what is added at its kind.
+use Prim.Native.Nat.{ℕ, _+_, _≤_, _<_, _^_}
+use mathlib.Core.Path.{_≡_, refl, ap, _∙_}
 use mathlib.Core.Bool.{Bool, true, false, cond}
 use mathlib.Core.List.{List}
 use native.Mathlib.Omega.{arith}
-use borrow.Author.Tests.{eqb-true, eqb-false, eq-eqb, ne-eqb}
+use borrow.Author.Tests.{eqb-true, eqb-false}
 use lib.Dec.{eqb}
 use lib.ListN.{length, getD, set, length-set}
 use lib.Seq.{getD-set-other}
-use Rattle.figures.specs.Tallies.{oneOf, Added}
+use Rattle.figures.specs.Tallies.{Addable, Added}
 use Rattle.figures.proofs.Entries.{entry-more}
-
-eqb-turned : (a b : ℕ) → eqb a b ≡ eqb b a
-eqb-turned a b = go (eqb b a) refl
-  where
-    go : (t : Bool) → eqb b a ≡ t → eqb a b ≡ t
-    go true e = eq-eqb a b (sym (eqb-true b a e))
-    go false e = ne-eqb a b (λ same. eqb-false b a e (sym same))
-
--- One gate more of a kind.
-pub one-more :
-    (counts : List ℕ) (gate : ℕ)
-    → length counts ≡ 16
-    → gate < 16
-    → Added counts (oneOf gate) (set counts gate (getD counts gate 0 + 1))
-one-more counts gate long below =
-    record {
-      long = simp length-set long;
-      sum = λ kind less. rw (eqb-turned gate kind) (entry-more counts gate 1 kind (omega arith));
-    }
 
 -- The counts of the first kinds are so many more, the others as they were.
 pub record Partly (counts : List ℕ) (more : ℕ → ℕ) (first : ℕ) (counts′ : List ℕ) : Type 0 where
@@ -38,6 +19,15 @@ pub record Partly (counts : List ℕ) (more : ℕ → ℕ) (first : ℕ) (counts
 
 pub partly-none : (counts : List ℕ) (more : ℕ → ℕ) → length counts ≡ 16 → Partly counts more 0 counts
 partly-none counts more long = record { long = long; passed = λ kind h. absurd (omega arith); ahead = λ kind h. refl }
+
+-- The next count can hold what is added at its kind.
+pub partly-fits :
+    {counts : List ℕ} {more : ℕ → ℕ} {i : ℕ} {counts′ : List ℕ}
+    → i < 16
+    → Addable counts more
+    → Partly counts more i counts′
+    → getD counts′ i 0 + more i < 2 ^ 32
+partly-fits {i = i} h room p = omega (arith, room .fits i h, p .ahead i (omega arith))
 
 pub partly-more :
     {counts : List ℕ} {more : ℕ → ℕ} {i : ℕ} {counts′ : List ℕ}

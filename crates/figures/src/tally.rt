@@ -21,13 +21,15 @@ impl Tally {
         Tally { counts: [0u32; 16] }
     }
 
-    // One gate more of a kind.
+    // One gate more of a kind. Each count is added to, so that no count is found by its place in memory and the record stays in registers.
     fn with_gate(mut self, kind: usize) -> Tally
         requires { ⌜ kind < 16 ⌝ }
         requires { ⌜ Addable (self .counts) (oneOf kind) ⌝ }
         ensures { λ r. ⌜ Added (self .counts) (oneOf kind) (r .counts) ⌝ }
     {
-        self.counts[kind] += 1;
+        for i in 0..16 {
+            self.counts[i] += if i == kind { 1 } else { 0 };
+        }
         self
     }
 
@@ -36,8 +38,8 @@ impl Tally {
         requires { ⌜ Addable (self .counts) (λ kind. getD (other .counts) kind 0) ⌝ }
         ensures { λ r. ⌜ Added (self .counts) (λ kind. getD (other .counts) kind 0) (r .counts) ⌝ }
     {
-        for i in 0..16 {
-            self.counts[i] += other.counts[i];
+        for kind in 0..16 {
+            self.counts[kind] += other.counts[kind];
         }
         self
     }

@@ -1,98 +1,25 @@
--- `figures::load::load_once` meets its contract. It calls itself at later positions alone, so the measure is how many starts lie
--- ahead. The loop's invariant: what the frame holds and what the occurrences ahead add are the loads, and what is kept is of the file.
--- Assumes nothing.
-use Prim.Native.Nat.{ℕ, _+_, _-_, _≤_, _<_}
-use mathlib.Core.Path.{_≡_, refl, _∙_}
+-- `figures::load::load_once` meets its contract. What is kept is the answer; else a turn of the loop adds the loads of an occurrence, at a
+-- gate or at a module, and at its end the module's loads are kept. Assumes nothing.
+mod Setting
+use Prim.Native.Nat.{ℕ}
+use mathlib.Core.Path.{refl, _∙_}
 use native.Mathlib.Nat.{le-refl}
 use native.Mathlib.Omega.{arith}
 use borrow.Author.Needs.{needs}
-use borrow.Fn.Kinds.{In}
-use borrow.Fn.PlainCycle.{Measures, is, falls, and}
-use lib.ListN.{length, getD}
-use Rattle.figures.specs.Loads.{LoadsKept, Workable}
+use lib.ListN.{length}
 use Rattle.figures.proofs.Beyond.{scene-inside, module-stands, module-there}
-use Rattle.figures.proofs.Loading.{Loading, FrameLoaded, nets-inside, frame-is, frame-fits, cleared, kept-behind, none-loaded, all-loaded}
-use Rattle.figures.proofs.LoadTurns.{at-gate, AtModule, at-module}
+use Rattle.figures.proofs.Loading.{nets-inside, frame-is, frame-fits, cleared, none-loaded}
+use Rattle.figures.proofs.LoadTurns.{at-gate}
 use Rattle.figures.proofs.KeptLoads.{work-moved, looked-up, keepable, now-kept}
 use Rattle.figures.proofs.Walks.{occurrence-there}
 use Rattle.figures.proofs.load.load_once.Reads as reads
-use Rattle.figures.proofs.load.load_once.Kinds as kinds
 use Rattle.figures.proofs.load.+load_once.Lts-load_once as lts
-use Rattle.figures.proofs.places.body_at.Reads as body-at
-use Rattle.figures.proofs.places.occurrence_at.Reads as occurrence-at
-use Rattle.figures.proofs.load.kept_at.Reads as kept-at
-use Rattle.figures.proofs.load.clear.Reads as clear
-use Rattle.figures.proofs.load.larger.Reads as larger
-use Rattle.figures.proofs.load.largest.Reads as largest
-use Rattle.figures.proofs.load.add_loads.Reads as add-loads
-use Rattle.figures.proofs.load.keep.Reads as keep
 use Rattle.figures.proofs.load.+load_once.{statement}
 use Rattle.figures.proofs.load.+load_once.Tie.{close}
-
-abbrev μ : Measures 6 kinds.ps ℕ
-μ κs a = length (a .1 .0 .now) - a .1 .1 .1 .0
-
-abbrev Given : ℕ → In 6 kinds.ps
-Given t = and 6 kinds.ps (is 6 kinds.ps μ t) reads.Pre
-
-abbrev Below : ℕ → In 6 kinds.ps
-Below t = and 6 kinds.ps (falls 6 kinds.ps _<_ μ t) reads.Pre
-
-abbrev claims : ℕ → lts.Claims
-claims t = (
-  kept-at.Asked,
-  kept-at.Learnt,
-  clear.Asked,
-  clear.Learnt,
-  body-at.Asked,
-  body-at.Learnt,
-  occurrence-at.Asked,
-  occurrence-at.Learnt,
-  add-loads.Asked,
-  add-loads.Learnt,
-  Below t,
-  reads.Post,
-  larger.Asked,
-  larger.Learnt,
-  largest.Asked,
-  largest.Learnt,
-  keep.Asked,
-  keep.Learnt,
-)
-
-abbrev Inv-loop : lts.InvT-loop
-Inv-loop image starts nets k scratch₀ loads₀ known₀ kept frame start at₀ left₀ most₀ scratch loads known at left most =
-    (length loads ≡ length loads₀)
-    × (length known ≡ length known₀)
-    × ((s : Workable image starts nets k (length scratch₀) loads₀ known₀)
-    → Loading (s .loadable) scratch₀ at left most scratch × LoadsKept image starts (s .loadable .rs) loads known)
-
-abbrev μ-loop : lts.MeasureT-loop
-μ-loop image starts nets k scratch₀ loads₀ known₀ kept frame start at₀ left₀ most₀ scratch loads known at left most = left
+use Rattle.figures.proofs.load.+load_once.Proof.Setting.{μ, Given, claims, Inv-loop, μ-loop}
+use Rattle.figures.proofs.load.+load_once.Proof.Setting.{start, module-at, frame-inside, referred, all-framed}
 
 module _ (t : ℕ) where
-  -- Where the function began, from a turn of its loop.
-  abbrev start : lts.At-loop (claims t) (Given t) reads.Post Inv-loop μ-loop → lts.Start (claims t) (Given t) reads.Post Inv-loop μ-loop
-  start c = c .before .before .before .before .before .before .before .before .before .before .before .before .before .before .before .before .before
-
-  -- The module, in the entries that the loop works with.
-  module-at :
-      (c : lts.At-loop (claims t) (Given t) reads.Post Inv-loop μ-loop)
-      → let args = start c .args in
-      Workable (args .image .now) (args .starts .now) (args .nets .now) (args .k) (length (c .before .before .before .before .before .clear .last .0)) (args .loads .now) (args .known .now)
-  module-at c =
-      let s = start c .pre .1 in
-      work-moved s (omega (arith, s .loadable .room, c .before .before .before .before .before .clear .kept .0))
-
-  -- The frame lies within scratch.
-  frame-inside :
-      (c : lts.At-loop (claims t) (Given t) reads.Post Inv-loop μ-loop)
-      → let args = start c .args in
-      getD (args .nets .now) (args .k) 0 ≤ length (c .loop .scratch)
-  frame-inside c =
-      let s = module-at c in
-      omega (arith, frame-is (s .loadable), frame-fits (s .loadable), c .loop .inv .2 s .0 .long)
-
   clear-requires : lts.Need-clear-requires (claims t) (Given t) reads.Post Inv-loop μ-loop
   clear-requires c κs =
       let s = c .before .before .before .before .before .before .before .before .before .before .before .pre .1 .loadable in
@@ -109,14 +36,14 @@ module _ (t : ℕ) where
   )
 
   occurrence-at-requires : lts.Need-occurrence-at-requires (claims t) (Given t) reads.Post Inv-loop μ-loop
-  occurrence-at-requires c κs = occurrence-there (c .loop-test .taken) (c .before .loop .inv .2 (module-at (c .before)) .0 .ahead)
+  occurrence-at-requires c κs = occurrence-there (c .loop-test .taken) (c .before .loop .inv .2 (module-at t (c .before)) .0 .ahead)
 
   -- At a gate each argument place adds 1.
   gate-places : lts.Need-add-loads-requires (claims t) (Given t) reads.Post Inv-loop μ-loop
   gate-places c κs =
       let read = c .before .before .before .before in
       let loop = read .before .before in
-      let w = module-at loop in
+      let w = module-at t loop in
       at-gate (w .loadable) (loop .loop .inv .2 w .0) (read .before .loop-test .taken) (read .occurrence-at .ensures) (frame-is (w .loadable)) _ _
       (c .before .before .enum-told .given .1) .placed
 
@@ -136,17 +63,6 @@ module _ (t : ℕ) where
       )
 
   -- At a module the part behind the frame is lent on, and each argument place adds the load of its input.
-  referred :
-      (c : lts.After-known-told (claims t) (Given t) reads.Post Inv-loop μ-loop)
-      → let loop = c .before .before .before .before .before in
-      let args = start loop .args in
-      (w : Workable (args .image .now) (args .starts .now) (args .nets .now) (args .k) (length (loop .before .before .before .before .before .clear .last .0)) (args .loads .now) (args .known .now))
-      → AtModule (w .loadable) (loop .loop .inv .2 w .0) (c .before .before .before .before .loop-test .taken) (c .before .before .before .occurrence-at .ensures) (frame-is (w .loadable))
-      (c .before .to .given .0 .0)
-  referred c w =
-      at-module (w .loadable) (c .before .before .before .before .before .loop .inv .2 w .0) (c .before .before .before .before .loop-test .taken) (c .before .before .before .occurrence-at .ensures) (frame-is (w .loadable)) _
-      (c .before .to .given .1)
-
   lent-offset : lts.Need-mul-load-once (claims t) (Given t) reads.Post Inv-loop μ-loop
   lent-offset c =
       let began = c .before .before .before .before .before .before .before .before .before .before .before .before .before .before .before .before .before .before .before .before .before .before in
@@ -156,16 +72,16 @@ module _ (t : ℕ) where
   load-once-requires : lts.Need-load-once-requires (claims t) (Given t) reads.Post Inv-loop μ-loop
   load-once-requires c κs =
       let loop = c .before .before .before .before .before .before .before .before in
-      let w = module-at loop in
-      let inner = referred (c .before .before .before) w in
-      (omega (arith, start loop .pre .0, inner .after, inner .inside), inner .workable (loop .loop .inv .2 w .1))
+      let w = module-at t loop in
+      let inner = referred t (c .before .before .before) w in
+      (omega (arith, start t loop .pre .0, inner .after, inner .inside), inner .workable (loop .loop .inv .2 w .1))
 
   module-places : lts.Need-add-loads-requires-2 (claims t) (Given t) reads.Post Inv-loop μ-loop
   module-places c κs =
       let loop = c .before .before .before .before .before .before .before .before .before .before .before .before .before .before .before .before .before .before .before in
-      let w = module-at loop in
+      let w = module-at t loop in
       let called = c .before .before .before .before .before .before .before .before .before .before .load-once in
-      referred (c .before .before .before .before .before .before .before .before .before .before .before .before .before .before) w .step (loop .loop .inv .2 w .1) (called .ensures) (called .kept .1 .1 .1 .1 .0) (c .before .before .before .larger .ensures) .0 .placed
+      referred t (c .before .before .before .before .before .before .before .before .before .before .before .before .before .before) w .step (loop .loop .inv .2 w .1) (called .ensures) (called .kept .1 .1 .1 .1 .0) (c .before .before .before .larger .ensures) .0 .placed
 
   again-at-module : lts.Need-loop-again-2 (claims t) (Given t) reads.Post Inv-loop μ-loop
   again-at-module c =
@@ -175,29 +91,17 @@ module _ (t : ℕ) where
         called .kept .1 .1 .1 .1 .1 .0 ∙ loop .loop .inv .0,
         called .kept .1 .1 .1 .1 .1 .1 .0 ∙ loop .loop .inv .1,
         λ w.
-            let stepped = referred (c .before .before .before .before .before .before .before .before .before .before .before .before .before .before .before .before .before) w .step (loop .loop .inv .2 w .1) (called .ensures) (called .kept .1 .1 .1 .1 .0) (c .before .before .before .before .before .before .larger .ensures) in
+            let stepped = referred t (c .before .before .before .before .before .before .before .before .before .before .before .before .before .before .before .before .before) w .step (loop .loop .inv .2 w .1) (called .ensures) (called .kept .1 .1 .1 .1 .0) (c .before .before .before .before .before .before .larger .ensures) in
             (stepped .0 .next (omega (arith, c .before .before .before .before .before .before .before .before .before .before .before .before .before .before .before .before .before .before .before .before .before .loop-test .taken)) (added .kept .1 .1 .1 .1 .1 .1 .0) (added .ensures), stepped .1),
       )
 
-  -- With no occurrence left the loads stand in the frame; those of the inputs are kept.
-  all-framed :
-      (c : lts.After-larger2 (claims t) (Given t) reads.Post Inv-loop μ-loop)
-      → let loop = c .before .before .before .before in
-      let args = start loop .args in
-      (w : Workable (args .image .now) (args .starts .now) (args .nets .now) (args .k) (length (loop .before .before .before .before .before .clear .last .0)) (args .loads .now) (args .known .now))
-      → FrameLoaded (w .loadable .rs) (w .loadable .scene .m) (w .loadable .scene .later) (args .k) (c .larger2 .result) (args .scratch .now) (loop .loop .scratch)
-  all-framed c w =
-      let loop = c .before .before .before .before in
-      let s = w .loadable in
-      all-loaded s _ (omega arith) (loop .loop .inv .2 w .0) (kept-behind s _ (frame-is s) (loop .before .before .before .before .before .clear .ensures)) (frame-is s)
-      (c .before .largest .ensures) (c .larger2 .ensures)
-
+  -- With no occurrence left the loads of the inputs are kept.
   keep-requires : lts.Need-keep-requires (claims t) (Given t) reads.Post Inv-loop μ-loop
   keep-requires c κs =
       let loop = c .before .before .before .before .before .before .before in
-      let w = module-at loop in
+      let w = module-at t loop in
       let sofar = loop .loop .inv .2 w in
-      keepable (w .loadable) (sofar .1) (all-framed (c .before .before .before) w) (sofar .0 .long)
+      keepable (w .loadable) (sofar .1) (all-framed t (c .before .before .before) w) (sofar .0 .long)
 
   returns : lts.Need-returns-2 (claims t) (Given t) reads.Post Inv-loop μ-loop
   returns c s =
@@ -206,7 +110,7 @@ module _ (t : ℕ) where
       let w = work-moved {entries′ = length (clearing .last .0)} s (omega (arith, s .loadable .room, clearing .kept .0)) in
       let sofar = loop .loop .inv .2 w in
       let kept = c .before .before .before .before .keep in
-      now-kept (w .loadable) (sofar .1) (all-framed (c .before .before .before .before .before .before .before .before) w) (sofar .0 .long)
+      now-kept (w .loadable) (sofar .1) (all-framed t (c .before .before .before .before .before .before .before .before) w) (sofar .0 .long)
       (kept .ensures _ (module-stands (w .loadable .scene))) (kept .kept .1 .1 .1 .1 .1 .0)
 
 pub +load-once-spec : {M : Type 1} → statement M

@@ -4,24 +4,23 @@ use Prim.Native.Nat.{_-_}
 use native.Mathlib.Omega.{arith}
 use borrow.Author.Needs.{needs}
 use lib.ListN.{getD}
-use Rattle.figures.proofs.Counts.{Partly, partly-none, partly-more, partly-all}
+use Rattle.figures.proofs.Counts.{Partly, partly-none, partly-fits, partly-more, partly-all}
 use Rattle.figures.proofs.tally.Tally.with_tally.Statement.{statement}
 use Rattle.figures.proofs.tally.Tally.with_tally.Tie as tie
 
 abbrev Inv-loop : tie.InvT-loop
-Inv-loop self₀ other i₀ self i = Partly (self₀ .counts) (λ kind. getD (other .counts) kind 0) i (self .counts)
+Inv-loop self₀ other kind₀ self kind = Partly (self₀ .counts) (λ each. getD (other .counts) each 0) kind (self .counts)
 
 abbrev μ-loop : tie.MeasureT-loop
-μ-loop self₀ other i₀ self i = 16 - i
+μ-loop self₀ other kind₀ self kind = 16 - kind
 
 loop-holds : tie.Need-loop-holds Inv-loop μ-loop
 loop-holds c = partly-none _ _ (search needs)
 
 add-self : tie.Need-add-self Inv-loop μ-loop
 add-self c =
-    let head = c .before .before .before .loop in
-    let room = c .before .before .before .before .pre .fits (head .i) (omega arith) in
-    omega (arith, room, head .inv .ahead (head .i) (omega arith))
+    let loop = c .before .before .before in
+    omega (arith, partly-fits (omega arith) (loop .before .pre) (loop .loop .inv))
 
 loop-again : tie.Need-loop-again Inv-loop μ-loop
 loop-again c = partly-more (omega arith) (c .before .before .before .loop .inv)
