@@ -30,8 +30,8 @@ use Rattle.runner.proofs.Positions.{in-starts, module-there, inputs-wit
 use Rattle.runner.proofs.Parts.{lent-is, Back, back}
 use Rattle.runner.proofs.Called.{Called, called}
 use Rattle.runner.proofs.Calls.{module-step}
-use Rattle.runner.proofs.Progress.{Progress, advance}
-use Rattle.runner.proofs.Turns.{Turn, arguments, arguments-end, frame-room, scratch-room, turn-readable}
+use Rattle.runner.proofs.Progress.{Progress}
+use Rattle.runner.proofs.Turns.{Turn, arguments, arguments-end, frame-room, scratch-room, turn-readable, past}
 
 module _
     {job : Job} {image starts nets : List ℕ} {k : ℕ} {scratch₀ : List ℕ} {s : Runnable image starts nets k scratch₀} {at left filled : ℕ}
@@ -145,7 +145,7 @@ module _
               → scratch₃ ≡ laid returned filled (valuesAt image (sub .from) (sub .to) (getD nets k 0) returned)
               → Progress job image (s .m) (s .later) scratch₀ (place .to) (left - 1) (filled + place .drives) scratch₃
           turn-module ran fetched =
-              advance (t .progress) (t .now) (t .read .to) (omega (arith, t .more)) (ap (λ (n : ℕ). filled + n) (t .read .drives))
+              past t
               (module-step target
               (record {
                 slots = t .now .slots;

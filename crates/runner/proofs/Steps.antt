@@ -1,12 +1,13 @@
--- One occurrence is run: the frame grows by what it refers to makes of its arguments, at a gate and at a module.
+-- One occurrence is run: the frame grows by what it refers to makes of its arguments, at a gate and at a module; and by nothing, with no
+-- run, where no net is driven.
 use Prim.Native.Nat.{ℕ, suc, _+_, _<_}
 use mathlib.Core.Path.{_≡_, refl, sym, ap, _∙_}
 use mathlib.Core.Bool.{Bool, true, cond, true≢false}
-use mathlib.Core.List.{List, [], _∷_, _++_}
+use mathlib.Core.List.{List, [], _∷_, _++_, append-nil}
 use native.Mathlib.Omega.{arith}
 use borrow.Author.Tests.{lt-ltb}
 use lib.ListN.{length, take, drop, set, length-set}
-use lib.Seq.{take-suc-set, drop-set-lt}
+use lib.Seq.{take-all, take-suc-set, drop-set-lt}
 use Rattle.meaning.specs.Syntax.{Occurrence, Module}
 use Rattle.meaning.specs.Gates.{isGate, gate}
 use Rattle.meaning.specs.Evaluation.{apply}
@@ -16,7 +17,7 @@ use Rattle.gates.specs.Gates.{GateIs, gate-of-kind, value-of-all}
 use Rattle.gates.specs.declared.Rule.{Rule}
 use Rattle.gates.specs.declared.Kind.the-variants.{Gate}
 use Rattle.image.specs.Frames.{readSlots, runFrames, Filled}
-use Rattle.image.specs.FrameLengths.{length-of-readSlots}
+use Rattle.image.specs.FrameLengths.{length-of-readSlots, length-of-apply}
 use Rattle.runner.specs.Job.{atGate, jobMeaning, byRule}
 use Rattle.runner.specs.declared.gate.Job.{Job}
 use Rattle.runner.specs.declared.gate.Job.the-variants.{Value, Arrival}
@@ -52,6 +53,27 @@ refers-to-gate (toGate h takes drives) below = record { is-gate = h; takes = tak
 refers-to-gate {o = o} (toModule m h e takes drives) below = absurd (true≢false (sym (lt-ltb (o .refers) 16 below) ∙ h))
 
 module _ (job : Job) {later : List Module} {o : Occurrence} (reference : Reference later o) where
+  -- What an occurrence without nets refers to gives nothing, so scratch may stay as it is.
+  pub idle-step : {filled bound : ℕ} {scratch : List ℕ} → length (o .drives) ≡ 0 → Stepped job later o filled bound scratch scratch
+  idle-step {filled} {scratch = scratch} none =
+      record {
+        size = refl;
+        grown =
+            ap (λ (n : ℕ). take n scratch) same
+            ∙ sym (append-nil (take filled scratch))
+            ∙ ap (λ (l : List ℕ). take filled scratch ++ l) nothing;
+        behind = refl;
+      }
+    where
+      same : filled + length (o .drives) ≡ filled
+      same = omega arith
+
+      args : List ℕ
+      args = readSlots 0 (take filled scratch) (o .takes)
+
+      nothing : [] ≡ apply (jobMeaning job) (runFrames 0 (jobMeaning job) later) (o .refers) args
+      nothing = take-all 0 _ (omega (arith, length-of-apply 0 (jobMeaning job) (λ kind xs is-gate. refl) reference args))
+
   pub gate-drives-one : {rule : Rule} {arity : ℕ} → kindOf (o .refers) ≡ Gate rule arity → 1 ≡ length (o .drives)
   gate-drives-one k = refers-to-gate reference (gate-of-kind (o .refers) k .below) .drives
 

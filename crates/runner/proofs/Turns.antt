@@ -15,12 +15,12 @@ use Rattle.image.specs.Pieces.{module-at, occurrence-at}
 use Rattle.runner.specs.Job.{byRule}
 use Rattle.runner.specs.Slots.{Readable, valuesAt}
 use Rattle.runner.specs.Places.{PlaceOf}
-use Rattle.runner.specs.Running.{Runnable, Walkable}
+use Rattle.runner.specs.Running.{needed, Runnable, Walkable}
 use Rattle.runner.specs.declared.gate.Job.{Job}
 use Rattle.runner.specs.declared.places.Header.{Header}
 use Rattle.runner.specs.declared.places.Place.{Place}
 use Rattle.runner.proofs.Standing.{values-stand, readable-stands}
-use Rattle.runner.proofs.Steps.{gate-drives-one, gate-step}
+use Rattle.runner.proofs.Steps.{Stepped, idle-step, gate-drives-one, gate-step}
 use Rattle.runner.proofs.Progress.{Progress, begin, Current, advance}
 
 -- Where the walk starts: at the module's occurrences, all of them left, with the inputs in the frame.
@@ -87,6 +87,20 @@ module _
         readable-stands (place .from) arguments arguments-end 0 (length scratch) (t .now .slots)
         (omega (arith, frame-room, scratch-room))
 
+    -- Once the occurrence is run the walk has come past it.
+    pub past :
+        {scratch′ : List ℕ}
+        → Stepped job (s .later) (t .now .o) filled (needed (s .m) (s .later)) scratch scratch′
+        → Progress job image (s .m) (s .later) scratch₀ (place .to) (left - 1) (filled + place .drives) scratch′
+    past =
+        advance (t .progress) (t .now) (t .read .to) (omega (arith, t .more)) (ap (λ (n : ℕ). filled + n) (t .read .drives))
+
+    -- Where no net is driven nothing need be run.
+    pub turn-idle :
+        place .drives ≤ 0
+        → Progress job image (s .m) (s .later) scratch₀ (place .to) (left - 1) (filled + place .drives) scratch
+    turn-idle none = past (idle-step job (t .now .reference) (omega (arith, t .read .drives)))
+
     module _ {rule : Rule} {arity : ℕ} (kind : kindOf (place .refers) ≡ Gate rule arity) where
       own-kind : kindOf (t .now .o .refers) ≡ Gate rule arity
       own-kind = ap kindOf (sym (t .read .refers)) ∙ kind
@@ -99,7 +113,7 @@ module _
           → v ≡ byRule job rule (valuesAt image (place .from) (place .to) 0 scratch)
           → Progress job image (s .m) (s .later) scratch₀ (place .to) (left - 1) (filled + place .drives) (set scratch filled v)
       turn-gate e =
-          advance (t .progress) (t .now) (t .read .to) (omega (arith, t .more)) (ap (λ (n : ℕ). filled + n) (t .read .drives))
+          past
           (gate-step job (t .now .reference) (t .now .slots) gate-room
           (omega (arith, frame-room, t .read .drives, gate-drives-one job (t .now .reference) own-kind))
           own-kind

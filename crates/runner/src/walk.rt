@@ -1,5 +1,6 @@
 // A module and its list of occurrences, evaluated through each other: a module by the walk over its occurrences, which evaluates each
-// module that it meets, in the part of scratch behind its own frame. So the stack grows with the nesting of modules only.
+// module that it meets, in the part of scratch behind its own frame. So the stack grows with the nesting of modules only. An occurrence
+// that drives no net leaves nothing behind, so the module that it refers to is not evaluated.
 use crate::gate::Job;
 use crate::places::Header;
 use gates::Kind;
@@ -53,11 +54,14 @@ fn walk(
                 scratch[here] = crate::gate::at_gate(job, rule, image, o.from, o.to, scratch);
             }
             Kind::Module => {
-                let j = o.refers as usize - 16;
-                let sub = crate::places::module_at(image, starts[j]);
-                crate::slots::copy(image, o.from, o.to, 0, frame, scratch);
-                run_module(job, image, starts, nets, j, &mut scratch[frame..]);
-                crate::slots::copy(image, sub.from, sub.to, frame, here, scratch);
+                // A module that gives nothing need not run.
+                if 0 < o.drives {
+                    let j = o.refers as usize - 16;
+                    let sub = crate::places::module_at(image, starts[j]);
+                    crate::slots::copy(image, o.from, o.to, 0, frame, scratch);
+                    run_module(job, image, starts, nets, j, &mut scratch[frame..]);
+                    crate::slots::copy(image, sub.from, sub.to, frame, here, scratch);
+                }
             }
         }
     }
