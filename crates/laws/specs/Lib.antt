@@ -36,6 +36,7 @@ pub mod Heval
 pub mod WrongEvaluators
 pub mod EvaluationRows
 pub mod Calls
+pub mod SameTail
 pub mod Adder
 pub mod Flatten
 pub mod Figures

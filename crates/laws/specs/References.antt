@@ -66,7 +66,7 @@ resolves-behind m ms number (aModule found e) = go (eqb number (m .number)) refl
     go false h = aModule found (rw h e)
 
 -- A number that a list has and one that it has not are two.
-another-number : (x y : ℕ) (ms : List Module) {m : Module} → assoc x ms ≡ box m → assoc y ms ≡ F → eqb x y ≡ false
+pub another-number : (x y : ℕ) (ms : List Module) {m : Module} → assoc x ms ≡ box m → assoc y ms ≡ F → eqb x y ≡ false
 another-number x y ms e unique = go (eqb x y) refl
   where
     go : (b : Bool) → eqb x y ≡ b → b ≡ false
