@@ -10,11 +10,11 @@ use lib.ListN.{length, length-append}
 use Rattle.meaning.specs.Syntax.{Occurrence, Module}
 use Rattle.meaning.specs.Gates.{isGate}
 use Rattle.meaning.specs.Boxlist.{box, assoc}
-use Rattle.meaning.specs.Limits.{driven, netCount}
+use Rattle.meaning.specs.Limits.{driven}
 use Rattle.meaning.specs.Evaluation.{Meaning, apply}
 use Rattle.laws.specs.WellFormed.{Reference, toGate, toModule}
 use Rattle.laws.specs.OutputCount.{outputCount}
-use Rattle.image.specs.Frames.{readSlots, walkFrame, runFrame, runFrames, Framed, done, step, FrameOk}
+use Rattle.image.specs.Frames.{readSlots, walkFrame, runFrame, runFrames, Framed, done, step}
 
 module _ {A : Type 0} (unset : A) where
   pub length-of-readSlots : (frame : List A) (slots : List ℕ) → length (readSlots unset frame slots) ≡ length slots
@@ -67,13 +67,3 @@ module _ {A : Type 0} (unset : A) where
           let longer : length (frame ++ values) ≡ filled + length (o .drives) = omega (arith, length-append frame values, more) in
           length-of-walkFrame rest (frame ++ values) longer
           ∙ omega (arith, length-append (o .drives) (driven os))
-
-      -- At the end of a module's walk the frame has all its nets.
-      pub length-of-frame :
-          {position : ℕ} {m : Module} {later : List Module}
-          → FrameOk position m later
-          → (vs : List A)
-          → length vs ≡ length (m .inputs)
-          → length (walkFrame unset gateMeaning (runFrames unset gateMeaning later) (m .occurrences) vs) ≡ netCount m
-      unfolding netCount
-      length-of-frame ok vs count = length-of-walkFrame (ok .framed) vs count

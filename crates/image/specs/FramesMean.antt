@@ -1,10 +1,10 @@
 -- Running a resolved file on frames means what the file means: each module of a file that fits gives the same values, if it is given as
 -- many as it has inputs and each gate gives one.
-use Prim.Native.Nat.{ℕ, suc, _+_, zero-le}
+use Prim.Native.Nat.{ℕ, suc, _+_}
 use mathlib.Core.Path.{_≡_, refl, sym, ap, subst, _∙_}
 use mathlib.Core.Bool.{true}
 use mathlib.Core.List.{List, _∷_, _++_, map, append-assoc, append-nil}
-use lib.ListN.{length, drop}
+use lib.ListN.{length}
 use Rattle.meaning.specs.Syntax.{Occurrence, Module}
 use Rattle.meaning.specs.Gates.{isGate}
 use Rattle.meaning.specs.Boxlist.{box, assoc}
@@ -17,8 +17,6 @@ use Rattle.image.specs.Resolved.{positionOf, netsOf, resolveOccurrence, 
 use Rattle.image.specs.Frames.{readSlots, walkFrame, runFrame, runFrames}
 use Rattle.image.specs.Fitting.{Fits}
 use Rattle.image.specs.Searching.{run-search, runFrames-search}
-use Rattle.image.specs.Positions.{says-from}
-use Rattle.image.specs.ResolvedLayout.{numbered-resolve}
 use Rattle.image.specs.Referring.{Refers, refer-no-gate}
 use Rattle.image.specs.Keeping.{Kept, Turn, kept-in-file}
 use Rattle.image.specs.Ordered.{Ordered, done, step, ordered, slot-known, outputs-known}
@@ -127,20 +125,3 @@ module _
       → runFrames unset gateMeaning (resolve ms) (16 + positionOf number ms) vs ≡ run unset gateMeaning ms number vs
   frames-mean fits number m e =
       kept-in-file Alike (run-search unset gateMeaning) (runFrames-search unset gateMeaning) module-alike fits number m e .same
-
-  -- The same for the outputs read from the frame at the end of the walk through the module's resolved occurrences.
-  pub outputs-mean :
-      {ms : List Module}
-      → Fits ms
-      → (number : ℕ) (m : Module)
-      → assoc number ms ≡ box m
-      → {r : Module} {later : List Module}
-      → drop (positionOf number ms) (resolve ms) ≡ r ∷ later
-      → (vs : List A)
-      → length vs ≡ length (m .inputs)
-      → readSlots unset (walkFrame unset gateMeaning (runFrames unset gateMeaning later) (r .occurrences) vs) (r .outputs)
-      ≡ run unset gateMeaning ms number vs
-  unfolding runFrame
-  outputs-mean {ms} fits number m e there vs count =
-      let said = says-from (runFrames-search unset gateMeaning) 0 (positionOf number ms) (numbered-resolve ms) zero-le there in
-      sym (ap (λ (f : List A → List A). f vs) said) ∙ frames-mean fits number m e vs count

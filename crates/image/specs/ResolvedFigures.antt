@@ -1,10 +1,9 @@
 -- Resolution keeps the figures of a module that go by what its occurrences refer to: expanded size, gates counted with any weight, and
 -- room.
 use Prim.Native.Nat.{ℕ, suc, _+_, max}
-use mathlib.Core.Path.{_≡_, refl, sym, ap, ap₂, _∙_}
+use mathlib.Core.Path.{_≡_, refl, ap₂}
 use mathlib.Core.Bool.{cond}
-use mathlib.Core.List.{List, _∷_, map}
-use lib.ListN.{drop}
+use mathlib.Core.List.{List, map}
 use Rattle.meaning.specs.Syntax.{Occurrence, Module}
 use Rattle.meaning.specs.Gates.{isGate}
 use Rattle.meaning.specs.Boxlist.{box, assoc}
@@ -16,7 +15,6 @@ use Rattle.image.specs.Fitting.{Fits}
 use Rattle.image.specs.Shapes.{netCount-of-resolved}
 use Rattle.image.specs.Searching.{expandedSize-search, gateWeight-search, room-search}
 use Rattle.image.specs.Referring.{Refers, refer-no-gate}
-use Rattle.image.specs.OwnNumbers.{own-number, says-own}
 use Rattle.image.specs.Keeping.{Kept, kept-in-file}
 
 -- A figure of a module is the same after resolution.
@@ -100,16 +98,3 @@ module _ {ms : List Module} (fits : Fits ms) (number : ℕ) (m : Module) (found 
       ap₂ _+_ (netCount-of-resolved refer position m)
       (largestReferred-kept (references-same (turn .refers) (turn .before)) (slotIn m) (turn .ok .body)))
       fits number m found
-
--- The expanded size that rule 17 asks for, of the module at a position.
-pub size-at :
-    {ms : List Module}
-    → Fits ms
-    → (k : ℕ) {m : Module} {later : List Module}
-    → drop k ms ≡ m ∷ later
-    → expandedSize (resolve ms) (16 + k) ≡ bodySize (expandedSize later) (m .occurrences)
-size-at {ms} fits k {m} e =
-    let own = own-number fits k e in
-    ap (λ (p : ℕ). expandedSize (resolve ms) (16 + p)) (sym (own .placed))
-    ∙ expandedSize-resolved fits (m .number) m (own .found)
-    ∙ says-own expandedSize-search fits k e

@@ -126,8 +126,5 @@ largestLoad-kept refer position m later turn =
     (largestReferred-kept (references-same (turn .refers) (turn .before)) (slotIn m) (turn .ok .body))
 
 module _ {ms : List Module} (fits : Fits ms) (number : ℕ) (m : Module) (found : assoc number ms ≡ box m) where
-  pub inputLoads-resolved : inputLoads (resolve ms) (16 + positionOf number ms) ≡ inputLoads ms number
-  inputLoads-resolved = kept-in-file Equal inputLoads-search inputLoads-search inputLoads-kept fits number m found
-
   pub largestLoad-resolved : largestLoad (resolve ms) (16 + positionOf number ms) ≡ largestLoad ms number
   largestLoad-resolved = kept-in-file Equal largestLoad-search largestLoad-search largestLoad-kept fits number m found

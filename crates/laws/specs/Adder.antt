@@ -17,6 +17,5 @@ pub mod Distinct
 pub mod Accepted
 pub mod ByTest
 pub mod File
-pub mod Small
 -- What is printed of it.
 pub mod Rows

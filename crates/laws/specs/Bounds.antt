@@ -1,7 +1,6 @@
 -- Bounds on an accepted list of modules that code needs: the nets of a module that is found, the gates, which expanded size bounds,
 -- and the room.
 use Prim.Native.Nat.{ℕ, suc, _+_, _*_, _≤_, max}
-use mathlib.Core.Path.{_≡_}
 use mathlib.Core.Bool.{Bool, true, false, cond}
 use mathlib.Core.List.{List, [], _∷_}
 use native.Mathlib.Nat.{le-refl}
@@ -10,15 +9,10 @@ use lib.Dec.{eqb}
 use lib.ListN.{length}
 use Rattle.meaning.specs.Syntax.{Occurrence, Module}
 use Rattle.meaning.specs.Gates.{isGate}
-use Rattle.meaning.specs.Boxlist.{box, assoc}
 use Rattle.meaning.specs.Limits.{netCount, bodySize, expandedSize, mostModuleNets, mostSize}
 use Rattle.meaning.specs.Figures.{bodyWeight, gateWeight, gateCount, kindCount, largestReferred, room}
 use Rattle.laws.specs.WellFormed.{Accepted, none, some}
-use Rattle.laws.specs.Finding.{found-every}
 use Rattle.laws.specs.Acceptable.{size-within}
-
-pub found-nets : {ms : List Module} → Accepted ms → (x : ℕ) (k : Module) → assoc x ms ≡ box k → netCount k ≤ mostModuleNets
-found-nets = found-every (λ m later ok below. ok .nets)
 
 -- Gates, or gates of one kind, are at most the expanded size: each of them is a visit.
 module _ (weight : ℕ → ℕ) (light : (kind : ℕ) → weight kind ≤ 1) where

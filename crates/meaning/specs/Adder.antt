@@ -1,6 +1,6 @@
 -- The written adder of width n (document 01, 'Written modules'): modules 18, 17 and 16.
 use Prim.Native.Nat.{ℕ, zero, suc, _+_, _*_}
-use mathlib.Core.Bool.{Bool, true, false, cond}
+use mathlib.Core.Bool.{Bool, cond}
 use mathlib.Core.List.{List, [], _∷_, _++_}
 use Rattle.meaning.specs.Syntax.{Occurrence, Module}
 

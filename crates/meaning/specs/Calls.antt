@@ -1,7 +1,7 @@
 -- The calls on a file (document 01, 'Refusal numbers'): refusals 1 to 17 first, then those of the call in their order; and what the
 -- lent buffers hold afterwards. A call that is refused changes no lent buffer. An answer fills the first bytes of the output buffer and
 -- leaves the rest; it leaves 0 in the first room entries of scratch and the rest unchanged.
-use Prim.Native.Nat.{ℕ, zero, suc, _+_}
+use Prim.Native.Nat.{ℕ, suc, _+_}
 use mathlib.Core.Bool.{Bool, true, false, cond}
 use mathlib.Core.List.{List, [], _∷_, _++_, map}
 use lib.Dec.{eqb, leb}

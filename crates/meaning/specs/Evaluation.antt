@@ -3,7 +3,7 @@
 -- One interpreter serves every kind of value: what a gate makes of its arguments is a parameter, and so is what a net reads as
 -- that nothing gave a value (in a file that passes the check there is none).
 use Prim.Native.Nat.{ℕ}
-use mathlib.Core.Bool.{Bool, true, false, cond}
+use mathlib.Core.Bool.{false, cond}
 use mathlib.Core.List.{List, [], _∷_, _++_}
 use lib.Dec.{eqb}
 use Rattle.meaning.specs.Syntax.{Occurrence, Module}

@@ -1,8 +1,8 @@
 -- The figures of a module (document 01, 'What a module means'): gates, tally, room, arrival and delay, load. Each is a function of
 -- the list of modules and the module's number: of the first module that has it, its references among the modules after it.
 -- Expanded size stands among the limits.
-use Prim.Native.Nat.{ℕ, zero, suc, _+_, max}
-use mathlib.Core.Bool.{Bool, true, false, cond}
+use Prim.Native.Nat.{ℕ, _+_, max}
+use mathlib.Core.Bool.{cond}
 use mathlib.Core.List.{List, [], _∷_, _++_, map}
 use lib.Dec.{eqb}
 use lib.ListN.{length, replicate}

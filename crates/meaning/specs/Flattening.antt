@@ -1,11 +1,10 @@
 -- Flattening (document 01): one module of the same number; inputs become 0, 1, 2 and so on; gates stand in the order in which
 -- evaluation reaches them, and each drives the next number. It is evaluation with nets of the new module for values, and the
 -- gates set down so far carried along.
-use Prim.Native.Nat.{ℕ, zero, suc}
-use mathlib.Core.Bool.{Bool, true, false, cond}
+use Prim.Native.Nat.{ℕ, suc}
+use mathlib.Core.Bool.{cond}
 use mathlib.Core.List.{List, [], _∷_, _++_}
 use lib.Dec.{eqb}
-use lib.ListN.{length}
 use Rattle.meaning.specs.Syntax.{Occurrence, Module}
 use Rattle.meaning.specs.Gates.{isGate}
 use Rattle.meaning.specs.Evaluation.{Env, lookAll, pairs}

@@ -2,7 +2,7 @@
 -- As printed, a module's body is evaluated in (CDR BOXLIST), whichever module of the list was found. The flag's two cases are two
 -- functions: HEVAL F takes the HEVAL T of its list as an argument, so that each recursion is on one list.
 use Prim.Native.Nat.{ℕ}
-use mathlib.Core.Bool.{Bool, true, false, cond}
+use mathlib.Core.Bool.{Bool, false, cond}
 use mathlib.Core.List.{List, [], _∷_, _++_}
 use lib.Dec.{eqb}
 use Rattle.meaning.specs.Syntax.{Occurrence, Module}

@@ -1,6 +1,6 @@
 -- Membership as a type, and what the rules say by it: a net listed twice, a net in two lists, a net that a list lacks.
 use Prim.Native.Nat.{ℕ}
-use mathlib.Core.List.{List, [], _∷_, List·Memᴰ}
+use mathlib.Core.List.{List, _∷_, List·Memᴰ}
 
 infix 50 _∈_
 -- `x` stands somewhere in the list: at its head or in its tail.

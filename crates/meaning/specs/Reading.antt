@@ -1,6 +1,6 @@
 -- Reading a file's bytes, front to back: the file, or the one refusal of 1 to 5 with its place (document 01, 'Refusal numbers').
 use Prim.Native.Nat.{ℕ, zero, suc, _+_, _*_, _-_}
-use mathlib.Core.Bool.{Bool, cond, _||_}
+use mathlib.Core.Bool.{cond, _||_}
 use mathlib.Core.List.{List, [], _∷_}
 use lib.Dec.{leb, ltb, eqb}
 use lib.ListN.{length}

@@ -1,12 +1,10 @@
 -- The check: which one refusal of 1 to 17 a file gets, and where (document 01, 'Refusal numbers').
-use Prim.Native.Nat.{ℕ, zero, suc}
-use mathlib.Core.Bool.{Bool, true, false, not, _&&_, _||_, cond}
+use Prim.Native.Nat.{ℕ, suc}
+use mathlib.Core.Bool.{Bool, true, false, not, _&&_, _||_}
 use mathlib.Core.List.{List, [], _∷_, _++_}
-use lib.Dec.{eqb, leb}
-use lib.ListN.{length}
 use Rattle.meaning.specs.Syntax.{Occurrence, Module}
 use Rattle.meaning.specs.Gates.{isGate}
-use Rattle.meaning.specs.Boxlist.{member, disjoint, duplicates, subset, Found, box, F, assoc, isBox, arityOkp}
+use Rattle.meaning.specs.Boxlist.{disjoint, duplicates, subset, assoc, isBox, arityOkp}
 use Rattle.meaning.specs.Limits.{driven, numberOk, netsOk, sizeOk}
 use Rattle.meaning.specs.Reading.{File, holds, fails, read}
 

@@ -11,7 +11,7 @@ use Rattle.counting.specs.declared.contents.Listed.the-variants as listed
 use Rattle.counting.specs.declared.contents.Named.the-variants as named
 use Rattle.writer.specs.Answers.{writingOf}
 use Rattle.writer.specs.declared.answer.Writing.{Writing}
-use Rattle.shelf_c.specs.Results.{writtenOf, answerOf, Reports, numberIn, writtenIn, placeIn, figuresIn, tallyIn}
+use Rattle.shelf_c.specs.Results.{answerOf, Reports, numberIn, writtenIn, placeIn, figuresIn, tallyIn}
 
 of-decision : (d : Decision Written) → Reports d (numberIn (writingOf d)) (writtenIn (writingOf d)) (placeIn (writingOf d))
 of-decision (refusal number place) = record { numberIs = refl; writtenIs = refl; placeIs = refl }
