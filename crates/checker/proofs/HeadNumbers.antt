@@ -1,15 +1,17 @@
 -- The numbers of a module in front of its occurrences: where they stand, and what putting its position and slots in their places leaves.
 use Prim.Native.Nat.{ℕ, suc, _+_, _<_}
 use mathlib.Core.Path.{_≡_, refl, sym, ap, ap₂, subst, _∙_}
-use mathlib.Core.Bool.{Bool}
 use mathlib.Core.List.{List, [], _∷_, _++_, map, append-assoc, append-nil}
 use native.Mathlib.Omega.{arith}
+use borrow.Author.Tests.{eqb-true}
+use lib.Dec.{eqb}
 use lib.ListN.{length, getD, drop, set, length-append, length-map, length-set}
 use lib.Seq.{drop-set-lt}
 use Rattle.meaning.specs.Syntax.{Module}
 use Rattle.meaning.specs.Layout.{each, listNumbers, occurrenceNumbers, moduleNumbers}
 use Rattle.nets.specs.Slots.{Knows, slotOf}
-use Rattle.image.specs.Stands.{Stands, stands-tail, stands-front, stands-skip, stands-alike}
+use Rattle.nets.specs.Fronts.{passes-whole}
+use Rattle.image.specs.Stands.{Stands, stands-head, stands-tail, stands-front, stands-skip, stands-alike}
 use Rattle.image.specs.Pieces.{moved, module-at}
 use Rattle.image.specs.Laid.{laid, laid-after, laid-before-own, set-laid}
 use Rattle.checker.specs.Lists.{ListReady, ListWritten}
@@ -93,7 +95,7 @@ module _ {numbers : List ℕ} (number : ℕ) (m : Module) (stands : Stands numbe
   inputs-left = stands-alike (drop-set-lt 1 numbers 0 number (omega arith)) (length-set numbers 0 number) (inputs-in-head m stands)
 
   outputs-left :
-      {slots numbers₁ : List ℕ} {base nets o : ℕ} {r : Bool} → Behind numbers 1 o → length numbers₁ ≡ length (set numbers 0 number)
+      {slots numbers₁ : List ℕ} {base nets o r : ℕ} → Behind numbers 1 o → length numbers₁ ≡ length (set numbers 0 number)
       → ListWritten (set numbers 0 number) slots base 1 nets numbers₁ r → Stands numbers₁ o (listNumbers (m .outputs))
   outputs-left {numbers₁ = numbers₁} {o = o} behind sized w =
       let e : o ≡ 1 + 1 + length (m .inputs) = behind (m .inputs) (inputs-in-head m stands) in
@@ -134,7 +136,7 @@ module _ {numbers slots : List ℕ} {base k nets : ℕ} where
         }
 
     pub outputs-ready :
-        {numbers₁ : List ℕ} {o : ℕ} {r : Bool} → Behind numbers 1 o → length numbers₁ ≡ length (set numbers 0 (16 + k))
+        {numbers₁ : List ℕ} {o r : ℕ} → Behind numbers 1 o → length numbers₁ ≡ length (set numbers 0 (16 + k))
         → ListWritten (set numbers 0 (16 + k)) slots base 1 nets numbers₁ r → ListReady numbers₁ slots base o nets
     outputs-ready behind sized ins =
         record {
@@ -146,25 +148,28 @@ module _ {numbers slots : List ℕ} {base k nets : ℕ} where
         }
 
   pub head-written :
-      {numbers₁ numbers₂ : List ℕ} {o : ℕ} {inputs outputs : Bool} → Behind numbers 1 o → length numbers₁ ≡ length (set numbers 0 (16 + k))
+      {numbers₁ numbers₂ : List ℕ} {o inputs written outputs : ℕ} → Behind numbers 1 o → length numbers₁ ≡ length (set numbers 0 (16 + k))
       → ListWritten (set numbers 0 (16 + k)) slots base 1 nets numbers₁ inputs
-      → ListWritten numbers₁ slots base o nets numbers₂ outputs
-      → HeadWritten numbers slots base k nets numbers₂ outputs
-  head-written {numbers₁} {numbers₂} {o} behind sized ins outs =
+      → outputs ≡ getD numbers₁ o 0
+      → ListWritten numbers₁ slots base o nets numbers₂ written
+      → HeadWritten numbers slots base k nets numbers₂ (eqb written outputs)
+  head-written {numbers₁} {numbers₂} {o} {inputs} {written} {outputs} behind sized ins counted outs =
       record {
         written = λ m known stands knows count inputsKnown.
             let some = all known knows in
             let i = ins .written (m .inputs) known [] (inputs-left (16 + k) m stands) some count in
-            let q = outs .written (m .outputs) known [] (outputs-left (16 + k) m stands behind sized ins) some count in
+            let there = outputs-left (16 + k) m stands behind sized ins in
+            let q = outs .written (m .outputs) known [] there some count in
+            let many : outputs ≡ length (m .outputs) = counted ∙ stands-head there in
             let xs = map (λ (x : ℕ). slotOf x known) (m .inputs) in
             let ys = map (λ (x : ℕ). slotOf x known) (m .outputs) in
             let longer : length xs ≡ length (m .inputs) = length-map (m .inputs) (λ (x : ℕ). slotOf x known) in
             let longest : length ys ≡ length (m .outputs) = length-map (m .outputs) (λ (x : ℕ). slotOf x known) in (
-              q .0,
+              ap (eqb written) many ∙ q .0 .whole,
               λ t.
                   lay-head (16 + k) xs ys (length (m .occurrences)) o
-                  (i .1 (i .0 ∙ inputsKnown) ∙ none (set numbers 0 (16 + k)) 1 known (m .inputs))
-                  (q .1 t ∙ none numbers₁ o known (m .outputs))
+                  (i .1 (passes-whole (i .0) inputsKnown) ∙ none (set numbers 0 (16 + k)) 1 known (m .inputs))
+                  (q .1 (eqb-true written outputs t ∙ many) ∙ none numbers₁ o known (m .outputs))
                   (behind (m .inputs) (inputs-in-head m stands) ∙ omega arith)
                   (count-in-head m stands (3 + length xs + length ys) (omega arith)),
             );

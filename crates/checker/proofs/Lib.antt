@@ -13,6 +13,7 @@ pub mod Growing
 pub mod Progress
 pub mod OneMore
 pub mod Advancing
+pub mod Passing
 pub mod Stepping
 pub mod Walking
 pub mod Rules

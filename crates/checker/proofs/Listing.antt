@@ -1,7 +1,6 @@
 -- A count with its list of nets: where the nets stand, and what putting slots in their places leaves.
 use Prim.Native.Nat.{ℕ, _+_, _-_, _≤_}
 use mathlib.Core.Path.{_≡_, sym, ap, subst, _∙_}
-use mathlib.Core.Bool.{Bool}
 use mathlib.Core.List.{List, [], _∷_, _++_, map}
 use native.Mathlib.Omega.{arith}
 use borrow.Rule.Slice.PartMut.{putMid, post-is, drop-put}
@@ -59,7 +58,7 @@ module _ {numbers slots : List ℕ} {base at limit e : ℕ} where
     pub resolvable : Resolvable (part (at + 1) e numbers) slots base limit
     resolvable = record { inTable = inTable; few = w .few; high = w .high }
 
-  module _ {xs : List ℕ} {r : Bool} (behind : Behind numbers at e) where
+  module _ {xs : List ℕ} {r : ℕ} (behind : Behind numbers at e) where
     pub list-learnt :
         {slots′ : List ℕ}
         → ((nets : List ℕ) → Knows slots base nets → limit ≡ length nets → Learnt nets (part (at + 1) e numbers) base xs slots′ r)
@@ -70,7 +69,7 @@ module _ {numbers slots : List ℕ} {base at limit e : ℕ} where
           learnt = λ list nets s k count.
               let l = list-at list s behind in
               let a = subst (λ (ys : List ℕ). Learnt nets ys base xs slots′ r) (l .is) (learnt nets k count) in
-              (a .answer, a .knows, λ t. listed (λ (x : ℕ). slotOf x (nets ++ list)) s l (a .written t));
+              (a .front, a .knows, λ t. listed (λ (x : ℕ). slotOf x (nets ++ list)) s l (a .written t));
           low = low;
         }
 
@@ -83,7 +82,7 @@ module _ {numbers slots : List ℕ} {base at limit e : ℕ} where
           written = λ list nets more s k count.
               let l = list-at list s behind in
               let a = subst (λ (ys : List ℕ). Resolved nets more ys xs r) (l .is) (resolved nets more k count) in
-              (a .answer, λ t. listed (λ (x : ℕ). slotOf x (nets ++ more)) s l (a .written t));
+              (a .front, λ t. listed (λ (x : ℕ). slotOf x (nets ++ more)) s l (a .written t));
           behind = λ list s.
               let l = list-at list s behind in
               subst (λ (p : ℕ). drop p (replacing numbers at e xs) ≡ drop p numbers) (l .behind)

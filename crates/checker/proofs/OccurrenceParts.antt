@@ -1,9 +1,9 @@
--- The parts of an occurrence by the places that the code computes from its two counts, and the numbers of one among many.
+-- The parts of an occurrence by the places that the code computes, and the numbers of one among many.
 use Prim.Native.Nat.{ℕ, suc, _+_, _*_, _≤_, _<_}
-use mathlib.Core.Path.{_≡_, refl, subst, _∙_}
+use mathlib.Core.Path.{_≡_, refl, subst}
 use mathlib.Core.List.{List, [], _∷_, _++_}
 use native.Mathlib.Omega.{arith}
-use lib.ListN.{length, getD, length-append}
+use lib.ListN.{length, length-append}
 use lib.Seq.{drop-append-seam}
 use Rattle.meaning.specs.Syntax.{Occurrence}
 use Rattle.meaning.specs.Layout.{each, listNumbers, occurrenceNumbers}
@@ -13,34 +13,15 @@ use Rattle.nets.specs.Bounds.{below-part}
 use Rattle.image.specs.Stands.{Stands, stands-part, stands-front, stands-skip, stands-whole}
 use Rattle.image.specs.Pieces.{OccurrenceAt, moved, length-of-occurrence, occurrence-at}
 
--- An occurrence by its place and its two counts.
-pub record Parts (numbers : List ℕ) (at driven taken : ℕ) (o : Occurrence) : Type 0 where
-  pub drivenCount : driven ≡ length (o .drives)
-  pub takenCount : taken ≡ length (o .takes)
-  pub drives : Stands numbers at (listNumbers (o .drives))
-  pub behind : Stands numbers (at + 1 + driven) (o .refers ∷ listNumbers (o .takes))
-  pub end : at + 3 + driven + taken ≤ length numbers
-  pub long : length (occurrenceNumbers o) ≡ 3 + driven + taken
-
-module _ {numbers : List ℕ} {at driven : ℕ} (o : Occurrence) (s : Stands numbers at (occurrenceNumbers o)) where
-  -- Behind the nets that it drives stand a reference and a count.
-  pub driven-inside : driven ≡ getD numbers at 0 → at + 3 + driven ≤ length numbers
-  driven-inside e = let p = occurrence-at o s in omega arith
-
-  pub parts : {taken : ℕ} → driven ≡ getD numbers at 0 → taken ≡ getD numbers (at + 1 + driven + 1) 0 → Parts numbers at driven taken o
+module _ {numbers : List ℕ} {at : ℕ} (o : Occurrence) (s : Stands numbers at (occurrenceNumbers o)) where
+  pub drives-stand : Stands numbers at (listNumbers (o .drives))
   unfolding occurrenceNumbers
-  parts {taken} d t =
-      let p = occurrence-at o s in
-      let drivenCount : driven ≡ length (o .drives) = d ∙ p .drivenCount in
-      let takenCount : taken ≡ length (o .takes) = t ∙ p .takenCount (at + 1 + driven + 1) (omega arith) in
-      record {
-        drivenCount = drivenCount;
-        takenCount = takenCount;
-        drives = stands-front (o .refers ∷ listNumbers (o .takes)) s;
-        behind = moved (at + suc (length (o .drives))) (omega arith) (stands-skip (listNumbers (o .drives)) s);
-        end = omega arith;
-        long = p .long ∙ omega arith;
-      }
+  drives-stand = stands-front (o .refers ∷ listNumbers (o .takes)) s
+
+  -- Behind as many places as it drives nets.
+  pub behind-drives : {driven : ℕ} → driven ≡ length (o .drives) → Stands numbers (at + 1 + driven) (o .refers ∷ listNumbers (o .takes))
+  unfolding occurrenceNumbers
+  behind-drives e = moved (at + suc (length (o .drives))) (omega arith) (stands-skip (listNumbers (o .drives)) s)
 
 -- What bounds every entry bounds those that stand among them.
 below-standing : {bound : ℕ} {l : List ℕ} {at : ℕ} {xs : List ℕ} → Stands l at xs → Below bound l → Below bound xs

@@ -1,13 +1,13 @@
 -- What reading a list of nets with its count, and putting slots in the places of its nets, asks and answers.
 use Prim.Native.Nat.{ℕ, _+_, _≤_, _^_}
 use mathlib.Core.Path.{_≡_}
-use mathlib.Core.Bool.{Bool, true}
 use mathlib.Core.List.{List, _++_, map}
 use lib.ListN.{length, drop}
 use Rattle.meaning.specs.Layout.{listNumbers}
 use Rattle.meaning.specs.Boxlist.{subset}
 use Rattle.nets.specs.Slots.{Knows, Below, slotOf}
 use Rattle.nets.specs.Walks.{apart}
+use Rattle.nets.specs.Fronts.{Front}
 use Rattle.image.specs.Stands.{Stands}
 use Rattle.image.specs.Laid.{laid}
 
@@ -24,21 +24,21 @@ pub record ListReady (numbers slots : List ℕ) (base at limit : ℕ) : Type 0 w
   pub high : base + 65536 ≤ 2 ^ 32
   pub short : length numbers ≤ 65535
 
--- A list of nets behind `nets`: whether it is new, and where it is what the table knows and what stands in its place. No entry of the
--- table is above the slots of the base.
-pub record ListLearnt (numbers slots : List ℕ) (base at first : ℕ) (slots′ numbers′ : List ℕ) (r : Bool) : Type 0 where
+-- A list of nets behind `nets`: a count at its front, of all nets just if they are new, and then what the table knows and what stands in
+-- their places. No entry of the table is above the slots of the base.
+pub record ListLearnt (numbers slots : List ℕ) (base at first : ℕ) (slots′ numbers′ : List ℕ) (r : ℕ) : Type 0 where
   pub learnt :
       (list nets : List ℕ) → Stands numbers at (listNumbers list) → Knows slots base nets → first ≡ length nets
-      → (r ≡ apart list nets)
-      × (r ≡ true → Knows slots′ base (nets ++ list))
-      × (r ≡ true → numbers′ ≡ laid numbers at (listNumbers (map (λ (x : ℕ). slotOf x (nets ++ list)) list)))
+      → Front list (apart list nets) r
+      × (r ≡ length list → Knows slots′ base (nets ++ list))
+      × (r ≡ length list → numbers′ ≡ laid numbers at (listNumbers (map (λ (x : ℕ). slotOf x (nets ++ list)) list)))
   pub low : Below (base + 65536) slots → Below (base + 65536) slots′
 
--- A list of nets where the table knows `more` behind `nets`: whether it has none but `nets`, and where it does what stands in its place.
--- What stands behind it is as it was.
-pub record ListWritten (numbers slots : List ℕ) (base at limit : ℕ) (numbers′ : List ℕ) (r : Bool) : Type 0 where
+-- A list of nets where the table knows `more` behind `nets`: a count at its front, of all nets just if they are among `nets`, and then what
+-- stands in their places. What stands behind the list is as it was.
+pub record ListWritten (numbers slots : List ℕ) (base at limit : ℕ) (numbers′ : List ℕ) (r : ℕ) : Type 0 where
   pub written :
       (list nets more : List ℕ) → Stands numbers at (listNumbers list) → Knows slots base (nets ++ more) → limit ≡ length nets
-      → (r ≡ subset list nets)
-      × (r ≡ true → numbers′ ≡ laid numbers at (listNumbers (map (λ (x : ℕ). slotOf x (nets ++ more)) list)))
+      → Front list (subset list nets) r
+      × (r ≡ length list → numbers′ ≡ laid numbers at (listNumbers (map (λ (x : ℕ). slotOf x (nets ++ more)) list)))
   pub behind : (list : List ℕ) → Stands numbers at (listNumbers list) → drop (at + 1 + length list) numbers′ ≡ drop (at + 1 + length list) numbers

@@ -42,5 +42,6 @@ pub fn write_head(numbers: &mut [u16], k: usize, slots: &[u32], base: u32, nets:
     let o = crate::lists::list_end(numbers, 1);
     numbers[0] = (16 + k) as u16;
     crate::lists::write_list(numbers, 1, slots, base, nets);
-    crate::lists::write_list(numbers, o, slots, base, nets)
+    let outputs = image::entry(numbers, o);
+    crate::lists::write_list(numbers, o, slots, base, nets) == outputs
 }

@@ -15,8 +15,9 @@ pub fn list_end(numbers: &[u16], at: usize) -> usize
     at + 1 + image::entry(numbers, at)
 }
 
-// Each net takes the next slot from `first` on, and the slot its place. Answers whether all of them are new.
-pub fn learn_list(numbers: &mut [u16], at: usize, slots: &mut [u32], base: u32, first: u32) -> bool
+// Each net takes the next slot from `first` on, and the slot its place. Answers how many at the front are new: a caller goes on behind
+// the list from where the loop ended.
+pub fn learn_list(numbers: &mut [u16], at: usize, slots: &mut [u32], base: u32, first: u32) -> usize
     requires { ⌜ ListReady (now numbers) (now slots) base at first ⌝ }
     requires { ⌜ first ≤ at ⌝ }
     ensures { λ r. ⌜ ListLearnt (now (numbers .entry)) (now (slots .entry)) base at first (now (slots .exit)) (now (numbers .exit)) r ⌝ }
@@ -26,8 +27,8 @@ pub fn learn_list(numbers: &mut [u16], at: usize, slots: &mut [u32], base: u32, 
     nets::table::learn_new(&mut numbers[a..e], slots, base, first)
 }
 
-// Each net's slot takes its place. Answers whether all of them are known, with slots below the limit.
-pub fn write_list(numbers: &mut [u16], at: usize, slots: &[u32], base: u32, limit: u32) -> bool
+// Each net's slot takes its place. Answers how many at the front are known with slots below the limit, likewise.
+pub fn write_list(numbers: &mut [u16], at: usize, slots: &[u32], base: u32, limit: u32) -> usize
     requires { ⌜ ListReady (now numbers) (now slots) base at limit ⌝ }
     ensures { λ r. ⌜ ListWritten (now (numbers .entry)) (now (slots .entry)) base at limit (now (numbers .exit)) r ⌝ }
 {

@@ -15,8 +15,8 @@ pub enum Walked {
 }
 
 // The occurrence at a place behind which `filled` nets are known. Each of its lists is passed over once: what is asked of its nets, what
-// the table learns of them and what takes their places go together. The nets that it drives are learnt first; those that it takes must
-// have been known before, so they are asked for below the slots of those.
+// the table learns of them and what takes their places go together, and the place behind the list follows from the pass. The nets that it
+// drives are learnt first; those that it takes must have been known before, so they are asked for below the slots of those.
 pub fn check_occurrence(
     numbers: &mut [u16],
     at: usize,
@@ -35,26 +35,28 @@ pub fn check_occurrence(
     ensures { λ r. ⌜ Stepped (now (numbers .entry)) (now (first .entry)) (now (inputs .entry)) (now (outputs .entry)) (now (slots .entry)) base k at filled (now (sizes .entry)) (now (rooms .entry)) sums (now (numbers .exit)) (now (slots .exit)) r ⌝ }
 {
     let driven = image::entry(numbers, at);
-    let r = at + 1 + driven;
-    let t = r + 1;
-    let taken = image::entry(numbers, t);
-    if !crate::lists::learn_list(numbers, at, slots, base, filled as u32) {
+    let learnt = crate::lists::learn_list(numbers, at, slots, base, filled as u32);
+    if learnt < driven {
         return Walked::Broken(11);
     }
-    if !crate::lists::write_list(numbers, t, slots, base, filled as u32) {
+    let r = at + 1 + learnt;
+    let t = r + 1;
+    let taken = image::entry(numbers, t);
+    let written = crate::lists::write_list(numbers, t, slots, base, filled as u32);
+    if written < taken {
         return Walked::Broken(12);
     }
     match crate::references::judge_reference(numbers[r], taken, driven, k, first, inputs, outputs) {
         Reference::Broken(rule) => Walked::Broken(rule),
         Reference::Gate => Walked::Fine {
-            next: t + 1 + taken,
+            next: t + 1 + written,
             nets: filled + driven,
             sums: sums.with_gate(),
         },
         Reference::Module(j) => {
             numbers[r] = (16 + j) as u16;
             Walked::Fine {
-                next: t + 1 + taken,
+                next: t + 1 + written,
                 nets: filled + driven,
                 sums: sums.with_module(j, sizes, rooms),
             }

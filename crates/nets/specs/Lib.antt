@@ -6,5 +6,6 @@ pub mod Walks
 pub mod Bounds
 pub mod Marks
 pub mod Writing
+pub mod Fronts
 pub mod SlotLaws
 pub mod Tables

@@ -14,6 +14,7 @@ use Rattle.nets.specs.Slots.{slotOf, Knows, Below}
 use Rattle.nets.specs.Booleans.{or-left, or-right}
 use Rattle.nets.specs.Members.{member-append}
 use Rattle.nets.specs.Walks.{apart}
+use Rattle.nets.specs.Fronts.{Front}
 use Rattle.nets.specs.SlotLaws.{slot-below, slot-append, slot-behind, slot-fresh}
 
 -- A net is known if its entry is not below the base.
@@ -106,12 +107,12 @@ pub record Learnable (list table : List ℕ) (base first : ℕ) : Type 0 where
   pub few : first + length list ≤ 65536
   pub high : base + 65536 ≤ 2 ^ 32
 
--- What it comes to where the table knew `nets`: whether the nets of the list are new, and then the table knows them too and their slots
--- have taken their places.
-pub record Learnt (nets list : List ℕ) (base : ℕ) (list′ table′ : List ℕ) (r : Bool) : Type 0 where
-  pub answer : r ≡ apart list nets
-  pub knows : r ≡ true → Knows table′ base (nets ++ list)
-  pub written : r ≡ true → list′ ≡ map (λ (x : ℕ). slotOf x (nets ++ list)) list
+-- What it comes to where the table knew `nets`: a count at the list's front, of all nets just if they are new, and then the table knows them
+-- too and their slots have taken their places.
+pub record Learnt (nets list : List ℕ) (base : ℕ) (list′ table′ : List ℕ) (r : ℕ) : Type 0 where
+  pub front : Front list (apart list nets) r
+  pub knows : r ≡ length list → Knows table′ base (nets ++ list)
+  pub written : r ≡ length list → list′ ≡ map (λ (x : ℕ). slotOf x (nets ++ list)) list
 
 -- What resolving a list of nets asks likewise.
 pub record Resolvable (list table : List ℕ) (base limit : ℕ) : Type 0 where
@@ -119,8 +120,8 @@ pub record Resolvable (list table : List ℕ) (base limit : ℕ) : Type 0 where
   pub few : limit ≤ 65536
   pub high : base + 65536 ≤ 2 ^ 32
 
--- What it comes to where the table knows `more` behind `nets`: whether the list has none but `nets`, and then their slots have taken
--- their places.
-pub record Resolved (nets more list list′ : List ℕ) (r : Bool) : Type 0 where
-  pub answer : r ≡ subset list nets
-  pub written : r ≡ true → list′ ≡ map (λ (x : ℕ). slotOf x (nets ++ more)) list
+-- What it comes to where the table knows `more` behind `nets`: a count at the list's front, of all nets just if they are among `nets`, and
+-- then their slots have taken their places.
+pub record Resolved (nets more list list′ : List ℕ) (r : ℕ) : Type 0 where
+  pub front : Front list (subset list nets) r
+  pub written : r ≡ length list → list′ ≡ map (λ (x : ℕ). slotOf x (nets ++ more)) list

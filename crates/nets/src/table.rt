@@ -37,9 +37,11 @@ pub fn learn(list: &[u16], table: &mut [u32], base: u32)
     }
 }
 
-// Whether the nets of the list are new, to the table and to each other. One pass asks, learns and writes: each net takes the next slot
-// from `first` on, and its slot takes its place in the list. It ends at the first net that the table knows already.
-pub fn learn_new(list: &mut [u16], table: &mut [u32], base: u32, first: u32) -> bool
+// How many nets at the front of the list are new, to the table and to each other: all of them, or those in front of the first that is
+// not. One pass asks, learns and writes: each net takes the next slot from `first` on, and its slot takes its place in the list. The
+// answer is a count and not a yes or no, so that the place behind the list comes from the loop, whose end the processor foresees, and
+// the next list need not wait for a count to be loaded.
+pub fn learn_new(list: &mut [u16], table: &mut [u32], base: u32, first: u32) -> usize
     requires { ⌜ Learnable (now list) (now table) base first ⌝ }
     ensures learnt { λ r. ⌜ ((nets : List ℕ) → Knows (now (table .entry)) base nets → first ≡ length nets → Learnt nets (now (list .entry)) base (now (list .exit)) (now (table .exit)) r) ⌝ }
     ensures low { λ _. ⌜ (Below (base + 65536) (now (table .entry)) → Below (base + 65536) (now (table .exit))) ⌝ }
@@ -48,19 +50,20 @@ pub fn learn_new(list: &mut [u16], table: &mut [u32], base: u32, first: u32) -> 
     while i < list.len() {
         let net = list[i] as usize;
         if base <= table[net] {
-            return false;
+            return i;
         }
         let slot = first + i as u32;
         table[net] = base + slot;
         list[i] = slot as u16;
         i += 1;
     }
-    true
+    i
 }
 
-// Whether the table knows each net of the list, with a slot below the limit. The same pass puts the slots in the nets' places. An entry
-// below the base wraps round to a number above every limit, so one test asks for both bounds.
-pub fn resolve_known(list: &mut [u16], table: &[u32], base: u32, limit: u32) -> bool
+// How many nets at the front of the list the table knows with a slot below the limit: all of them, or those in front of the first that it
+// does not. The same pass puts the slots in the nets' places. An entry below the base wraps round to a number above every limit, so one
+// test asks for both bounds. The answer is a count for the sake of the place behind the list, as in `learn_new`.
+pub fn resolve_known(list: &mut [u16], table: &[u32], base: u32, limit: u32) -> usize
     requires { ⌜ Resolvable (now list) (now table) base limit ⌝ }
     ensures { λ r. ⌜ ((nets more : List ℕ) → Knows (now (table .entry)) base (nets ++ more) → limit ≡ length nets → Resolved nets more (now (list .entry)) (now (list .exit)) r) ⌝ }
 {
@@ -68,10 +71,10 @@ pub fn resolve_known(list: &mut [u16], table: &[u32], base: u32, limit: u32) -> 
     while i < list.len() {
         let above = std::num::wrapping_sub_u32(table[list[i] as usize], base);
         if limit <= above {
-            return false;
+            return i;
         }
         list[i] = above as u16;
         i += 1;
     }
-    true
+    i
 }

@@ -1,6 +1,8 @@
 -- `checker::heads::write_head` meets its contract: slots can take the places of both lists, and with the count behind them what is left is
 -- the head in the image. Assumes nothing.
+use native.Mathlib.Omega.{arith}
 use borrow.Author.Needs.{needs}
+use Rattle.checker.specs.Lists.{ListReady}
 use Rattle.checker.proofs.HeadNumbers.{inputs-in-head, inputs-ready, outputs-ready, head-written}
 use Rattle.checker.proofs.heads.write_head.Statement.{statement}
 use Rattle.checker.proofs.heads.write_head.Tie as tie
@@ -11,17 +13,29 @@ list-end-requires c κs = let p = c .before .before .before .pre in record { lis
 write-list-requires : tie.Need-write-list-requires
 write-list-requires c κs = inputs-ready (c .before .before .before .before .before .pre)
 
+-- What slots in the outputs' places ask, once the inputs have theirs.
+outputs :
+    (c : tie.After-write-list)
+    → (let l = c .before .before in
+    let a = l .before .before .before .before .args in
+    ListReady (c .write-list .last .0) (a .slots .now) (a .base) (l .list-end .result) (a .nets))
+outputs c =
+    let l = c .before .before in
+    outputs-ready (l .before .before .before .before .pre) (l .list-end .ensures) (c .write-list .kept .0) (c .write-list .ensures)
+
+entry-requires : tie.Need-entry-requires
+entry-requires c κs = omega (arith, outputs (c .before .before .before) .listed .stands .within)
+
 write-list-requires-2 : tie.Need-write-list-requires-2
-write-list-requires-2 c κs =
-    let w = c .before .before .before in
-    let l = w .before .before in
-    outputs-ready (l .before .before .before .before .pre) (l .list-end .ensures) (w .write-list .kept .0) (w .write-list .ensures)
+write-list-requires-2 c κs = outputs (c .before .before .before .before .before)
 
 returns : tie.Need-returns
 returns c =
     let w₂ = c .before .before in
-    let w = w₂ .before .before .before .before in
-    head-written (w .before .before .list-end .ensures) (w .write-list .kept .0) (w .write-list .ensures) (w₂ .write-list2 .ensures)
+    let e = w₂ .before .before in
+    let w = e .before .before .before .before in
+    head-written (w .before .before .list-end .ensures) (w .write-list .kept .0) (w .write-list .ensures) (e .entry .ensures)
+    (w₂ .write-list2 .ensures)
 
 pub write-head-spec : {M : Type 1} → statement M
 write-head-spec =
@@ -32,6 +46,7 @@ write-head-spec =
     (λ c. search needs)
     (λ c. search needs)
     write-list-requires
+    entry-requires
     write-list-requires-2
     (λ c. search needs)
     returns)

@@ -3,7 +3,7 @@
 use Prim.Native.Nat.{ℕ, suc, _+_, _-_, _<_, _≤_}
 use native.Mathlib.Omega.{arith}
 use mathlib.Core.Path.{_≡_, refl, sym, ap, ap₂, _∙_}
-use mathlib.Core.Bool.{true, false, true≢false}
+use mathlib.Core.Bool.{false}
 use mathlib.Core.List.{List, [], _∷_, _++_, append-assoc, append-nil}
 use borrow.Author.Tests.{le-leb, lt-leb}
 use lib.ListN.{length, getD, take, drop, set, length-set, length-append}
@@ -13,6 +13,7 @@ use Rattle.nets.specs.Slots.{slotOf, Knows, Below}
 use Rattle.nets.specs.Bounds.{below-set}
 use Rattle.nets.specs.SlotLaws.{slot-fresh}
 use Rattle.nets.specs.Walks.{apart, up-to-here, apart-here, apart-end}
+use Rattle.nets.specs.Fronts.{front-whole, front-short}
 use Rattle.nets.specs.Writing.{replaced, replaced-next, replaced-all}
 use Rattle.nets.specs.Tables.{Learnt, known-member, knows-one}
 use Rattle.nets.proofs.table.learn_new.Statement.{statement}
@@ -34,29 +35,30 @@ record Passed (list₀ table₀ : List ℕ) (base first : ℕ) (list table : Lis
 
 module _ {nets list₀ : List ℕ} {base : ℕ} {list table : List ℕ} {i : ℕ} (l : Learning nets list₀ base list table i) where
   -- Behind the last net all were new.
-  learnt : length list₀ ≤ i → Learnt nets list₀ base list table true
-  learnt end =
+  learnt : i ≤ length list₀ → length list₀ ≤ i → Learnt nets list₀ base list table i
+  learnt within end =
       record {
-        answer = sym (l .left ∙ apart-end list₀ i end (nets ++ take i list₀));
+        front = front-whole (omega arith) (sym (l .left ∙ apart-end list₀ i end (nets ++ take i list₀)));
         knows = λ e. rw (← take-all i list₀ end) (l .knows);
         written = λ e. l .written ∙ replaced-all (λ (x : ℕ). slotOf x (nets ++ list₀)) list₀ i end;
       }
 
   module _ (here : i < length list₀) where
     -- The net at i is known: it is not new.
-    met : base ≤ getD table (getD list₀ i 0) 0 → Learnt nets list₀ base list table false
+    met : base ≤ getD table (getD list₀ i 0) 0 → Learnt nets list₀ base list table i
     met known =
         record {
-          answer =
-              sym
+          front =
+              front-short here
+              (sym
               (l .left
               ∙ rw (
                 apart-here list₀ i here (nets ++ take i list₀),
                 known-member table base (nets ++ take i list₀) (l .knows) (getD list₀ i 0),
                 le-leb base (getD table (getD list₀ i 0) 0) known,
-              ));
-          knows = λ e. absurd (true≢false (sym e));
-          written = λ e. absurd (true≢false (sym e));
+              )));
+          knows = λ e. absurd (omega arith);
+          written = λ e. absurd (omega arith);
         }
 
     -- It is not: it takes the next slot.
@@ -155,7 +157,7 @@ loop-again c =
 returns-2 : tie.Need-returns-2 Inv-loop μ-loop
 returns-2 c =
     let inv = c .before .loop .inv in
-    ((λ nets k e. learnt (inv .learning nets k e) (omega arith)), inv .low)
+    ((λ nets k e. learnt (inv .learning nets k e) (omega arith) (omega arith)), inv .low)
 
 pub learn-new-spec : {M : Type 1} → statement M
 learn-new-spec =

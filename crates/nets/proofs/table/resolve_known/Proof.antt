@@ -3,7 +3,6 @@
 use Prim.Native.Nat.{ℕ, _+_, _-_, _%_, _^_, _<_, _≤_}
 use native.Mathlib.Omega.{arith}
 use mathlib.Core.Path.{_≡_, refl, sym, ap₂, _∙_}
-use mathlib.Core.Bool.{true, false, true≢false}
 use mathlib.Core.List.{List, _++_}
 use borrow.Author.Needs.{needs}
 use lib.ListN.{length, getD, drop, set, length-set}
@@ -11,6 +10,7 @@ use lib.Seq.{getD-set-other}
 use Rattle.meaning.specs.Boxlist.{subset}
 use Rattle.nets.specs.Slots.{slotOf, Knows}
 use Rattle.nets.specs.Walks.{subset-here, subset-end}
+use Rattle.nets.specs.Fronts.{front-whole, front-short}
 use Rattle.nets.specs.Writing.{replaced, replaced-next, replaced-all}
 use Rattle.nets.specs.Tables.{Resolved, slot-in-front, front-below, front-above}
 use Rattle.nets.proofs.table.resolve_known.Statement.{statement}
@@ -29,10 +29,10 @@ record Passed (list₀ table : List ℕ) (base limit : ℕ) (list : List ℕ) (i
 
 module _ {nets more list₀ list : List ℕ} {i : ℕ} (r : Resolving nets more list₀ list i) where
   -- Behind the last net all were known.
-  resolved : length list₀ ≤ i → Resolved nets more list₀ list true
-  resolved end =
+  resolved : i ≤ length list₀ → length list₀ ≤ i → Resolved nets more list₀ list i
+  resolved within end =
       record {
-        answer = sym (r .left ∙ subset-end list₀ i end nets);
+        front = front-whole (omega arith) (sym (r .left ∙ subset-end list₀ i end nets));
         written = λ e. r .written ∙ replaced-all (λ (x : ℕ). slotOf x (nets ++ more)) list₀ i end;
       }
 
@@ -41,11 +41,13 @@ module _ {nets more list₀ list : List ℕ} {i : ℕ} (r : Resolving nets more 
       (high : base + limit ≤ 2 ^ 32) (slot : ℕ) (small : slot < 2 ^ 32)
       (counted : (slot + base) % 2 ^ 32 ≡ getD table (getD list₀ i 0) 0) where
     -- The net at i has no slot below the limit.
-    met : limit ≤ slot → Resolved nets more list₀ list false
+    met : limit ≤ slot → Resolved nets more list₀ list i
     met above =
         record {
-          answer = sym (r .left ∙ rw (subset-here list₀ i here nets, front-above nets more k between high (getD list₀ i 0) slot small counted above));
-          written = λ e. absurd (true≢false (sym e));
+          front =
+              front-short here
+              (sym (r .left ∙ rw (subset-here list₀ i here nets, front-above nets more k between high (getD list₀ i 0) slot small counted above)));
+          written = λ e. absurd (omega arith);
         }
 
     -- It has one, which takes its place.
@@ -114,7 +116,7 @@ loop-again c =
     }
 
 returns-2 : tie.Need-returns-2 Inv-loop μ-loop
-returns-2 c nets more k e = resolved (c .before .loop .inv .resolving nets more k e) (omega arith)
+returns-2 c nets more k e = resolved (c .before .loop .inv .resolving nets more k e) (omega arith) (omega arith)
 
 pub resolve-known-spec : {M : Type 1} → statement M
 resolve-known-spec =
