@@ -1,17 +1,23 @@
 -- The numbers of a file in parts: the count and the modules in front of a position, the module there, and what stands behind it.
 use Prim.Native.Nat.{ℕ, zero, suc, _+_, _-_, _≤_}
 use mathlib.Core.Path.{_≡_, refl, sym, ap, _∙_}
+use mathlib.Core.Bool.{Bool, true, false, cond}
 use mathlib.Core.List.{List, [], _∷_, _++_, append-assoc, append-nil}
 use native.Mathlib.Omega.{arith}
 use native.Mathlib.Numerals.{add-one}
-use lib.ListN.{length, take, drop, length-append, take-append-drop}
+use borrow.Author.Tests.{ltb-true, ltb-false}
+use lib.Dec.{ltb}
+use lib.ListN.{length, getD, take, drop, length-append, take-append-drop, drop-of-length-le}
 use lib.Seq.{take-at, drop-at}
 use Rattle.meaning.specs.Syntax.{Module}
 use Rattle.meaning.specs.Layout.{each, moduleNumbers, fileNumbers}
 use Rattle.laws.specs.Lists.{each-append}
-use Rattle.image.specs.ResolvedLayout.{startOf}
-use Rattle.checker.specs.Filed.{At}
-use Rattle.checker.specs.Going.{front}
+use Rattle.image.specs.Stands.{Stands}
+use Rattle.image.specs.ResolvedLayout.{startOf, stands-at-start}
+use Rattle.sizes.specs.Behind.{inside}
+use Rattle.checker.specs.Filed.{At, Filed}
+use Rattle.checker.specs.Files.{Laidout}
+use Rattle.checker.specs.Going.{front, endBefore}
 
 -- One more entry taken.
 take-snoc : (ms : List Module) (k : ℕ) {m : Module} {later : List Module} → drop k ms ≡ m ∷ later → take (suc k) ms ≡ take k ms ++ (m ∷ [])
@@ -25,7 +31,7 @@ module _ (ms : List Module) (k : ℕ) where
   unfolding front startOf
   length-of-front = refl
 
-  pub file-parts : fileNumbers ms ≡ front ms k ++ each moduleNumbers (drop k ms)
+  file-parts : fileNumbers ms ≡ front ms k ++ each moduleNumbers (drop k ms)
   unfolding front fileNumbers
   file-parts =
       ap (λ (l : List ℕ). length ms ∷ l)
@@ -33,6 +39,16 @@ module _ (ms : List Module) (k : ℕ) where
 
   pub front-taken : take (startOf ms k) (fileNumbers ms) ≡ front ms k
   front-taken = ap (take (startOf ms k)) file-parts ∙ take-at (front ms k) (each moduleNumbers (drop k ms)) (startOf ms k) length-of-front
+
+  pub start-inside : startOf ms k ≤ length (fileNumbers ms)
+  start-inside = omega (arith, ap length file-parts, length-append (front ms k) (each moduleNumbers (drop k ms)), length-of-front)
+
+  -- Behind the last module the numbers end.
+  numbers-end : length ms ≤ k → length (fileNumbers ms) ≡ startOf ms k
+  unfolding each
+  numbers-end h =
+      ap length (file-parts ∙ ap (λ (l : List Module). front ms k ++ each moduleNumbers l) (drop-of-length-le ms h) ∙ append-nil (front ms k))
+      ∙ length-of-front
 
   pub front-more : {m : Module} {later : List Module} → At ms k m later → front ms (k + 1) ≡ front ms k ++ moduleNumbers m
   unfolding front each
@@ -42,6 +58,21 @@ module _ (ms : List Module) (k : ℕ) where
       ∙ ap (each moduleNumbers) (take-snoc ms k e)
       ∙ each-append moduleNumbers (take k ms) (m ∷ [])
       ∙ ap (λ (l : List ℕ). each moduleNumbers (take k ms) ++ l) (append-nil (moduleNumbers m)))
+
+-- A file that is laid out stands module by module, and the modules in front of a position end where the one there starts.
+module _ {numbers starts : List ℕ} {modules : ℕ} {ms : List Module} (l : Laidout numbers starts modules ms) where
+  pub filed-of : Filed numbers starts ms
+  filed-of = record { standing = standing; listed = l .listed; few = l .few }
+    where
+      standing : (k : ℕ) (m : Module) (later : List Module) → At ms k m later → Stands numbers (getD starts k 0) (moduleNumbers m)
+      standing k m later e = rw (l .numbersAre, l .startsAre k (inside ms k e)) (stands-at-start ms k e)
+
+  pub end-is-start : (k : ℕ) → endBefore starts numbers modules k ≡ startOf ms k
+  end-is-start k = go (ltb k modules) refl
+    where
+      go : (b : Bool) → ltb k modules ≡ b → cond b (getD starts k 0) (length numbers) ≡ startOf ms k
+      go true t = l .startsAre k (omega (arith, ltb-true k modules t, l .all))
+      go false f = ap length (l .numbersAre) ∙ numbers-end ms k (omega (arith, ltb-false k modules f, l .all))
 
 -- Numbers whose front up to behind the module at k is the file's: the module's own part, and what is left where another takes its place.
 module _ (ms : List Module) (k : ℕ) {m : Module} {later : List Module} (e : At ms k m later)

@@ -1,9 +1,8 @@
 -- The turn of the module at position k, where the check has come to the position behind it: what its check asks, and how far the check of
 -- the file has come then.
 use Prim.Native.Nat.{ℕ, _+_, _-_, _*_, _<_, _≤_}
-use mathlib.Core.Path.{_≡_, refl, sym, subst₂, _∙_}
+use mathlib.Core.Path.{_≡_, refl, sym, subst₂}
 use mathlib.Core.Bool.{Bool, true, false}
-use mathlib.Core.Logic.{_⊎_, ⊎-elim}
 use mathlib.Core.List.{List, _++_}
 use native.Mathlib.Omega.{arith}
 use borrow.Author.Tests.{lt-ltb, le-ltb}
@@ -12,7 +11,7 @@ use Rattle.sizes.specs.Kept.{Keepable, Kept}
 use Rattle.sizes.specs.declared.Sums.{Sums}
 use Rattle.checker.specs.Modules.{ModuleReady, ModuleChecked}
 use Rattle.checker.specs.Files.{EachReady, overOf}
-use Rattle.checker.specs.Going.{FileWalk, Reached, Gone, endOf, baseOf}
+use Rattle.checker.specs.Going.{FileWalk, Reached, Gone, endBefore, baseOf}
 use Rattle.checker.specs.declared.modules.Checked.{Checked}
 use Rattle.checker.specs.declared.modules.Checked.the-variants.{Fine, Broken}
 use Rattle.checker.specs.declared.files.Found.{Found}
@@ -25,7 +24,7 @@ pub walk-none :
     {numbers starts : List ℕ} {modules k : ℕ} {found : Found} {first inputs outputs slots nets sizes rooms : List ℕ}
     → EachReady numbers starts modules found first inputs outputs slots nets sizes rooms → k ≤ modules → modules ≤ k
     → FileWalk numbers starts modules found first inputs outputs slots nets sizes rooms numbers slots nets sizes rooms found
-    (endOf starts numbers modules k) (baseOf modules k) k
+    (endBefore starts numbers modules k) (baseOf modules k) k
 walk-none {numbers} {starts} {modules} {k} {found} {first} {inputs} {outputs} {slots} {nets} {sizes} {rooms} ready inside end =
     rw (le-ltb k modules end)
     (subst₂
@@ -34,18 +33,10 @@ walk-none {numbers} {starts} {modules} {k} {found} {first} {inputs} {outputs} {s
     (omega arith)
     (walk-begins ready))
 
--- The end of the module at k, by the test of whether one more is there.
-pub end-is :
-    (starts numbers : List ℕ) (modules k : ℕ) {end : ℕ}
-    → ((k + 1 < modules) × (end ≡ getD starts (k + 1) 0)) ⊎ ((modules ≤ k + 1) × (end ≡ length numbers))
-    → end ≡ endOf starts numbers modules (k + 1)
-end-is starts numbers modules k =
-    ⊎-elim (λ w. w .1 ∙ sym (rw (lt-ltb (k + 1) modules (w .0)))) (λ w. w .1 ∙ sym (rw (le-ltb (k + 1) modules (w .0))))
-
 module _
     {numbers starts : List ℕ} {modules k : ℕ} {found : Found} {first inputs outputs slots nets sizes rooms : List ℕ}
     (b : Reached numbers starts modules k found first inputs outputs slots nets sizes rooms)
-    {end : ℕ} (ends : end ≡ endOf starts numbers modules (k + 1)) where
+    {end : ℕ} (ends : end ≡ endBefore starts numbers modules (k + 1)) where
   abbrev base : ℕ
   base = 131072 * (modules - k)
 

@@ -49,8 +49,8 @@ module _ {numbers₀ starts : List ℕ} {modules : ℕ} {found₀ : Found} {firs
                 tail = [];
                 reached = ap length are ∙ length-of-front (e .ms) modules;
                 numbersAre = are ∙ sym (append-nil (front (e .ms) modules));
-                judged = e .behind;
-                done = λ fine. done-none (e .ms) modules nets₀ sizes₀ rooms₀ (omega (arith, e .last fine));
+                judged = e .behind .judged;
+                done = λ fine. done-none (e .ms) modules nets₀ sizes₀ rooms₀ (omega (arith, e .behind .none fine));
               };
         }
 

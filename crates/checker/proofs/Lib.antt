@@ -20,8 +20,8 @@ pub mod Rules
 pub mod HeadNumbers
 pub mod Turns
 pub mod Settling
-pub mod Repeats
 pub mod FileParts
+pub mod Repeats
 pub mod Going
 pub mod FileWalk
 pub mod FileSteps

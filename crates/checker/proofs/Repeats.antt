@@ -1,17 +1,23 @@
 -- The first module whose number stands on a later one breaks rule 6 where that is a gate's number, else rule 7; so no module from there on
 -- need be looked at.
 use Prim.Native.Nat.{ℕ, zero, suc, _≤_, _<_}
-use mathlib.Core.Path.{_≡_, refl}
+use mathlib.Core.Path.{_≡_, refl, ap}
 use mathlib.Core.Bool.{Bool, true, false, cond}
 use mathlib.Core.List.{List, [], _∷_}
 use native.Mathlib.Omega.{arith}
 use borrow.Author.Tests.{lt-ltb, le-ltb}
-use lib.ListN.{length, drop}
+use lib.ListN.{length, getD, drop, drop-of-length-le}
 use Rattle.meaning.specs.Syntax.{Module}
 use Rattle.meaning.specs.Boxlist.{assoc, isBox}
-use Rattle.meaning.specs.Verdict.{refused, moduleVerdict, modulesVerdict}
+use Rattle.meaning.specs.Layout.{moduleNumbers}
+use Rattle.meaning.specs.Verdict.{refused, moduleVerdict, modulesVerdict, sizesVerdict}
+use Rattle.image.specs.Stands.{Stands, stands-head}
+use Rattle.sizes.specs.Behind.{Here, here}
 use Rattle.checker.specs.Filed.{At}
 use Rattle.checker.specs.Numbering.{firstRepeat}
+use Rattle.checker.specs.Files.{Repeating, Known}
+use Rattle.checker.specs.declared.files.Found.the-variants.{Fine, Broken}
+use Rattle.checker.proofs.FileParts.{filed-of}
 
 pub repeat-inside : (ms : List Module) → firstRepeat ms ≤ length ms
 unfolding firstRepeat
@@ -45,10 +51,49 @@ repeated-here (n ∷ ms) (suc k) {m} {later} e h = go (isBox (assoc (n .number) 
     go false z ih = ih (omega (arith, z))
 
 module _ (ms : List Module) (k : ℕ) {m : Module} {later : List Module} (e : At ms k m later) (repeats : k ≡ firstRepeat ms) where
-  pub repeat-breaks-6 : m .number < 16 → modulesVerdict k (drop k ms) ≡ refused 6 k
+  repeat-breaks-6 : m .number < 16 → modulesVerdict k (drop k ms) ≡ refused 6 k
   unfolding modulesVerdict moduleVerdict
   repeat-breaks-6 h = rw (e, lt-ltb (m .number) 16 h)
 
-  pub repeat-breaks-7 : 16 ≤ m .number → modulesVerdict k (drop k ms) ≡ refused 7 k
+  repeat-breaks-7 : 16 ≤ m .number → modulesVerdict k (drop k ms) ≡ refused 7 k
   unfolding modulesVerdict moduleVerdict
   repeat-breaks-7 h = rw (e, le-ltb (m .number) 16 h, repeated-here ms k e repeats)
+
+-- What is known before the check of a file that is laid out.
+module _ {numbers starts : List ℕ} {modules repeated : ℕ} (b : Repeating numbers starts modules repeated) where
+  pub none-repeats : modules ≤ repeated → Known Fine repeated (b .ms)
+  unfolding modulesVerdict sizesVerdict
+  none-repeats h =
+      let end = drop-of-length-le (b .ms) {i = repeated} (omega (arith, b .laidout .all)) in
+      record {
+        judged = (ap (modulesVerdict repeated) end, λ fits. ap (sizesVerdict repeated) end);
+        none = λ fine. omega (arith, b .laidout .all, b .repeats, repeat-inside (b .ms));
+      }
+
+  broken : {rule : ℕ} → modulesVerdict repeated (drop repeated (b .ms)) ≡ refused rule repeated → Known (Broken rule repeated) repeated (b .ms)
+  broken judged = record { judged = judged; none = λ fine. absurd (let z : _≡_ {A = ℕ} 0 1 = cc in omega (arith, z)) }
+
+  -- The module that is repeated begins among the numbers, and its number decides between the rules.
+  module _ (some : repeated < modules) where
+    there : Here (b .ms) repeated
+    there = here (b .ms) repeated (omega (arith, b .laidout .all))
+
+    abbrev start : ℕ
+    start = getD starts repeated 0
+
+    stands : Stands numbers start (moduleNumbers (there .m))
+    stands = filed-of (b .laidout) .standing repeated (there .m) (there .later) (there .at)
+
+    number-is : getD numbers start 0 ≡ there .m .number
+    unfolding moduleNumbers
+    number-is = stands-head stands
+
+    pub repeat-starts : start < length numbers
+    unfolding moduleNumbers
+    repeat-starts = omega (arith, stands .within)
+
+    pub repeat-of-gate : getD numbers start 0 < 16 → Known (Broken 6 repeated) repeated (b .ms)
+    repeat-of-gate h = broken (repeat-breaks-6 (b .ms) repeated (there .at) (b .repeats) (omega (arith, number-is)))
+
+    pub repeat-of-module : 16 ≤ getD numbers start 0 → Known (Broken 7 repeated) repeated (b .ms)
+    repeat-of-module h = broken (repeat-breaks-7 (b .ms) repeated (there .at) (b .repeats) (omega (arith, number-is)))

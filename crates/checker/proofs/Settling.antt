@@ -1,6 +1,6 @@
 -- A module whose head is fine: its occurrences can be checked, and what they and the end come to is the answer for the module.
 use Prim.Native.Nat.{ℕ, _+_, _*_, _≤_}
-use mathlib.Core.Path.{_≡_, refl, sym, ap, ap₂, subst, _∙_}
+use mathlib.Core.Path.{_≡_, refl, sym, ap, ap₂, _∙_}
 use mathlib.Core.Bool.{true}
 use mathlib.Core.List.{List, [], _∷_, _++_, map, append-nil}
 use native.Mathlib.Omega.{arith}
@@ -104,12 +104,7 @@ module _
         came :
             (v : Walked) → w ≡ v
             → Walks v (bodyVerdict k (s .m .occurrences) (s .m .inputs) (s .later)) k (s .ms) (s .m) numbers (e + 1) base sizes rooms numbers′ slots′
-        came v is =
-            subst
-            (λ (v : Walked).
-            Walks v (bodyVerdict k (s .m .occurrences) (s .m .inputs) (s .later)) k (s .ms) (s .m) numbers (e + 1) base sizes rooms numbers′ slots′)
-            is
-            (b .walks s body-stands (counted ∙ p .occurrenceCount) (j .knows (s .m) own z) (wide ∙ p .inputCount))
+        came v is = rw is at (b .walks s body-stands (counted ∙ p .occurrenceCount) (j .knows (s .m) own z) (wide ∙ p .inputCount))
 
         -- An occurrence that breaks a rule is the verdict.
         pub body-broken : {r : ℕ} → w ≡ Broken r → moduleVerdict k (s .m) (s .later) ≡ refused r k

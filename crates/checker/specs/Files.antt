@@ -38,8 +38,19 @@ Judges Fine k ms = (modulesVerdict k (drop k ms) ≡ good) × (Fits ms → sizes
 Judges (Over place) k ms = (modulesVerdict k (drop k ms) ≡ good) × (Fits ms → sizesVerdict k (drop k ms) ≡ refused 17 place)
 Judges (Broken rule place) k ms = modulesVerdict k (drop k ms) ≡ refused rule place
 
--- So many modules of a file are left, which no later module repeats; their numbers stand in front. What was found behind them is known,
--- and where that is nothing there are none behind them.
+-- The first position whose number stands on a later module too is known, of a file that is laid out; the count of modules where there is none.
+pub record Repeating (numbers starts : List ℕ) (modules repeated : ℕ) : Type 0 where
+  pub ms : List Module
+  pub laidout : Laidout numbers starts modules ms
+  pub repeats : repeated ≡ firstRepeat ms
+  pub short : length numbers ≤ 65535
+
+-- What the modules from position k on come to is known without a check; where nothing was found there are none.
+pub record Known (found : Found) (k : ℕ) (ms : List Module) : Type 0 where
+  pub judged : Judges found k ms
+  pub none : found ≡ Fine → k ≡ length ms
+
+-- So many modules of a file are left, which no later module repeats; their numbers stand in front. What was found behind them is known.
 pub record EachReady
     (numbers starts : List ℕ) (modules : ℕ) (found : Found) (first inputs outputs slots nets sizes rooms : List ℕ) : Type 0 where
   pub ms : List Module
@@ -50,8 +61,7 @@ pub record EachReady
   pub numbered : Numbered first ms
   pub ported : Ported inputs outputs ms
   pub unrepeated : modules ≡ firstRepeat ms
-  pub behind : Judges found modules ms
-  pub last : found ≡ Fine → modules ≡ length ms
+  pub behind : Known found modules ms
   pub indexes : Indexes first slots (fileNumbers ms)
   pub short : length (fileNumbers ms) ≤ 65535
   pub netsLong : modules ≤ length nets

@@ -61,8 +61,8 @@ pub record FileWalk
       → Going (e .ms) k end found numbers nets sizes rooms
 
 -- Where the modules in front of position k end: where the one at k starts, or behind the last of so many.
-abbrev pub endOf : (starts numbers : List ℕ) (modules k : ℕ) → ℕ
-endOf starts numbers modules k = cond (ltb k modules) (getD starts k 0) (length numbers)
+abbrev pub endBefore : (starts numbers : List ℕ) (modules k : ℕ) → ℕ
+endBefore starts numbers modules k = cond (ltb k modules) (getD starts k 0) (length numbers)
 
 -- The base of slots of the module in front of position k.
 abbrev pub baseOf : (modules k : ℕ) → ℕ
@@ -81,7 +81,7 @@ pub record Reached
   pub inside : k < modules
   pub walk :
       FileWalk numbers₀ starts modules found₀ first inputs outputs slots₀ nets₀ sizes₀ rooms₀ numbers slots nets sizes rooms found
-      (endOf starts numbers modules (k + 1)) (baseOf modules (k + 1)) (k + 1)
+      (endBefore starts numbers modules (k + 1)) (baseOf modules (k + 1)) (k + 1)
 
 -- From there it has gone on to k.
 abbrev pub Gone :
@@ -90,4 +90,4 @@ abbrev pub Gone :
     → (numbers′ slots′ nets′ sizes′ rooms′ : List ℕ) → Found → Type 0
 Gone {starts = starts} {modules = modules} {k = k} {first = first} {inputs = inputs} {outputs = outputs} b numbers′ slots′ nets′ sizes′ rooms′ r =
     FileWalk (b .numbers₀) starts modules (b .found₀) first inputs outputs (b .slots₀) (b .nets₀) (b .sizes₀) (b .rooms₀)
-    numbers′ slots′ nets′ sizes′ rooms′ r (endOf starts numbers′ modules k) (baseOf modules k) k
+    numbers′ slots′ nets′ sizes′ rooms′ r (endBefore starts numbers′ modules k) (baseOf modules k) k

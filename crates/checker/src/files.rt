@@ -4,10 +4,11 @@
 use crate::modules::Checked;
 ghost use mathlib.Core.Path.{_≡_};
 ghost use mathlib.Core.List.{List};
+ghost use lib.ListN.{length};
 ghost use Rattle.meaning.specs.Syntax.{Module};
 ghost use Prim.Native.Nat.{_≤_};
-ghost use Rattle.checker.specs.Files.{Laidout, EachReady, FileReady, FileFound, overOf};
-ghost use Rattle.checker.specs.Going.{FileWalk, Reached, Gone, endOf, baseOf};
+ghost use Rattle.checker.specs.Files.{Laidout, Repeating, Known, EachReady, FileReady, FileFound, overOf};
+ghost use Rattle.checker.specs.Going.{FileWalk, Reached, Gone, endBefore, baseOf};
 
 // How the check ended: all fine; no rule of 6 to 16 is broken, but a size is over its limit; or the rule that is broken first. And the
 // module's position.
@@ -34,6 +35,18 @@ fn over(found: Found, place: usize) -> Found
     }
 }
 
+// Where the modules in front of position k end, of so many: where the one at k starts, or behind the last.
+fn end_before(numbers: &[u16], starts: &[usize], modules: usize, k: usize) -> usize
+    requires { ⌜ modules ≤ length (now starts) ⌝ }
+    ensures { λ r. ⌜ r ≡ endBefore (now (starts .entry)) (now (numbers .entry)) modules k ⌝ }
+{
+    if k < modules {
+        starts[k]
+    } else {
+        numbers.len()
+    }
+}
+
 // The module at position k, of so many: it is checked, and its figures join those of the later ones, of which it is known what was found.
 fn check_at(
     numbers: &mut [u16],
@@ -55,11 +68,7 @@ fn check_at(
         → Gone b (now (numbers .exit)) (now (slots .exit)) (now (nets .exit)) (now (sizes .exit)) (now (rooms .exit)) r) ⌝ }
 {
     let start = starts[k];
-    let end = if k + 1 < modules {
-        starts[k + 1]
-    } else {
-        numbers.len()
-    };
+    let end = end_before(numbers, starts, modules, k + 1);
     let base = 131072 * (modules - k) as u32;
     match crate::modules::check_module(
         &mut numbers[start..end],
@@ -102,7 +111,7 @@ fn check_from(
 ) -> Found
     requires { ⌜ EachReady (now numbers) (now starts) modules found (now first) (now inputs) (now outputs) (now slots) (now nets) (now sizes) (now rooms) ⌝ }
     requires { ⌜ k ≤ modules ⌝ }
-    ensures { λ r. ⌜ FileWalk (now (numbers .entry)) (now (starts .entry)) modules found (now (first .entry)) (now (inputs .entry)) (now (outputs .entry)) (now (slots .entry)) (now (nets .entry)) (now (sizes .entry)) (now (rooms .entry)) (now (numbers .exit)) (now (slots .exit)) (now (nets .exit)) (now (sizes .exit)) (now (rooms .exit)) r (endOf (now (starts .entry)) (now (numbers .exit)) modules k) (baseOf modules k) k ⌝ }
+    ensures { λ r. ⌜ FileWalk (now (numbers .entry)) (now (starts .entry)) modules found (now (first .entry)) (now (inputs .entry)) (now (outputs .entry)) (now (slots .entry)) (now (nets .entry)) (now (sizes .entry)) (now (rooms .entry)) (now (numbers .exit)) (now (slots .exit)) (now (nets .exit)) (now (sizes .exit)) (now (rooms .exit)) r (endBefore (now (starts .entry)) (now (numbers .exit)) modules k) (baseOf modules k) k ⌝ }
 {
     if modules <= k {
         return found;
@@ -137,6 +146,23 @@ fn check_from(
     )
 }
 
+// What is known before any module is checked: the first one whose number stands on a later module too breaks rule 6 where that is a
+// gate's number, else rule 7. Nothing, where no number repeats.
+fn at_repeat(numbers: &[u16], starts: &[usize], modules: usize, repeated: usize) -> Found
+    requires { ⌜ Repeating (now numbers) (now starts) modules repeated ⌝ }
+    ensures { λ r. ⌜ ((b : Repeating (now (numbers .entry)) (now (starts .entry)) modules repeated) → Known r repeated (b .ms)) ⌝ }
+{
+    if modules <= repeated {
+        return Found::Fine;
+    }
+    let start = starts[repeated];
+    let rule = if numbers[start] < 16 { 6 } else { 7 };
+    Found::Broken {
+        rule,
+        place: repeated,
+    }
+}
+
 // All modules of a file, whose numbers are given; where all is fine its image takes their place. Modules from the first one on whose
 // number stands on a later module too need no check: that one breaks rule 6 or 7.
 pub fn check_modules(
@@ -164,34 +190,14 @@ pub fn check_modules(
         &mut inputs,
         &mut outputs,
     );
-    if repeated < modules {
-        let s = starts[repeated];
-        let rule = if numbers[s] < 16 { 6 } else { 7 };
-        let found = Found::Broken {
-            rule,
-            place: repeated,
-        };
-        return check_from(
-            &mut numbers[..s],
-            starts,
-            repeated,
-            0,
-            found,
-            first,
-            &inputs,
-            &outputs,
-            slots,
-            nets,
-            sizes,
-            rooms,
-        );
-    }
+    let known = at_repeat(numbers, starts, modules, repeated);
+    let end = end_before(numbers, starts, modules, repeated);
     check_from(
-        numbers,
+        &mut numbers[..end],
         starts,
-        modules,
+        repeated,
         0,
-        Found::Fine,
+        known,
         first,
         &inputs,
         &outputs,

@@ -1,75 +1,69 @@
 -- `checker::files::check_at` meets its contract: the module breaks a rule, or it is fine and its size within the limit, or above.
 -- Assumes nothing.
-use Prim.Native.Nat.{_+_}
-use mathlib.Core.Logic.{⊎-elim, inl, inr}
-use mathlib.Core.Path.{_≡_}
 use native.Mathlib.Omega.{arith}
 use borrow.Author.Needs.{needs}
-use Rattle.checker.specs.Going.{endOf}
-use Rattle.checker.proofs.FileTurn.{end-is, few, start-below, bounds, ready, nets-long, gone-broken, may-keep, gone-kept, gone-over}
+use Rattle.checker.proofs.FileTurn.{few, start-below, bounds, ready, nets-long, gone-broken, may-keep, gone-kept, gone-over}
 use Rattle.checker.proofs.files.check_at.Statement.{statement}
 use Rattle.checker.proofs.files.check_at.Tie as tie
 
 -- Back from where the module's end is known to the function's entry, and from the call to there.
-abbrev entered : tie.Joined1 → tie.Start
-entered j = j .before .before .before .before .before .before .before .before .before .before .before
+abbrev entered : tie.After-end-before → tie.Start
+entered d = d .before .before .before .before .before .before .before .before .before .before .before .before
 
-abbrev ended : tie.After-check-module → tie.Joined1
-ended m = m .before .before .before .before .before .before
-
-ends : (j : tie.Joined1) → j .if1 .end ≡ endOf (entered j .args .starts .now) (entered j .args .numbers .now) (entered j .args .modules) (entered j .args .k + 1)
-ends j =
-    end-is (entered j .args .starts .now) (entered j .args .numbers .now) (entered j .args .modules) (entered j .args .k)
-    (⊎-elim (λ w. inl (w .0 .taken, w .2)) (λ w. inr (w .0 .left, w .1)) (j .if1 .came))
+abbrev ended : tie.After-check-module → tie.After-end-before
+ended m = m .before .before .before .before .before
 
 cast-base : tie.Need-cast-base
-cast-base c = omega (arith, few (entered c .pre) (ends c))
+cast-base d = omega (arith, few (entered d .pre) (d .end-before .ensures))
 
 mul-base : tie.Need-mul-base
-mul-base c = omega (arith, few (entered c .pre) (ends c))
+mul-base d = omega (arith, few (entered d .pre) (d .end-before .ensures))
 
 mul-check-module : tie.Need-mul-check-module
-mul-check-module c = omega (arith, start-below (entered c .pre) (ends c))
+mul-check-module d = omega (arith, start-below (entered d .pre) (d .end-before .ensures))
 
 sub-check-module : tie.Need-sub-check-module
-sub-check-module c = bounds (entered (c .before) .pre) (ends (c .before)) .0
+sub-check-module d = bounds (entered d .pre) (d .end-before .ensures) .0
 
 part-check-module-start : tie.Need-part-check-module-start
-part-check-module-start c = bounds (entered (c .before) .pre) (ends (c .before)) .0
+part-check-module-start d = bounds (entered d .pre) (d .end-before .ensures) .0
 
 part-check-module-end : tie.Need-part-check-module-end
-part-check-module-end c = bounds (entered (c .before) .pre) (ends (c .before)) .1
+part-check-module-end d = bounds (entered d .pre) (d .end-before .ensures) .1
 
 check-module-requires : tie.Need-check-module-requires
-check-module-requires c κs = let j = c .before .before .before .before .before in ready (entered j .pre) (ends j)
+check-module-requires c κs = let d = c .before .before .before .before in ready (entered d .pre) (d .end-before .ensures)
 
 -- From an arm of the match back to the call.
 abbrev fine : tie.After-known-told2 → tie.After-check-module
 fine c = c .before .before .before .before .before .before .before
 
+mul-nets : tie.Need-mul-nets
+mul-nets c = let d = ended (fine c) in omega (arith, few (entered d .pre) (d .end-before .ensures))
+
 slice-write-nets : tie.Need-slice-write-nets
-slice-write-nets c = let j = ended (fine c) in nets-long (entered j .pre) (ends j)
+slice-write-nets c = let d = ended (fine c) in nets-long (entered d .pre) (d .end-before .ensures)
 
 keep-requires : tie.Need-keep-requires
 keep-requires c κs =
     let m = fine (c .before .before) in
-    let j = ended m in
+    let d = ended m in
     let kept = m .check-module .kept in
-    may-keep (entered j .pre) (ends j) (m .check-module .ensures) (kept .0) (kept .1 .1 .1 .1 .1 .0) _ _ (c .before .before .before .own .given .1)
+    may-keep (entered d .pre) (d .end-before .ensures) (m .check-module .ensures) (kept .0) (kept .1 .1 .1 .1 .1 .0) _ _ (c .before .before .before .own .given .1)
 
 returns : tie.Need-returns
 returns c b =
     let m = c .before .before .before .before .before .before .before in
     let kept = m .check-module .kept in
-    gone-broken b (ends (ended m)) (m .check-module .ensures) (kept .0) (kept .1 .1 .1 .1 .1 .0) _ (c .before .rule .given .1)
+    gone-broken b (ended m .end-before .ensures) (m .check-module .ensures) (kept .0) (kept .1 .1 .1 .1 .1 .0) _ (c .before .rule .given .1)
 
 returns-2 : tie.Need-returns-2
 returns-2 c b =
     let f = c .before .before .before .before .before .before .before .before in
     let m = fine f in
     let kept = m .check-module .kept in
-    gone-kept b (ends (ended m)) (m .check-module .ensures) (kept .0) (kept .1 .1 .1 .1 .1 .0) _ _ (f .before .own .given .1)
-    (c .before .before .before .before .before .keep .ensures) (c .if2 .taken)
+    gone-kept b (ended m .end-before .ensures) (m .check-module .ensures) (kept .0) (kept .1 .1 .1 .1 .1 .0) _ _ (f .before .own .given .1)
+    (c .before .before .before .before .before .keep .ensures) (c .if1 .taken)
 
 returns-3 : tie.Need-returns-3
 returns-3 c b =
@@ -77,8 +71,8 @@ returns-3 c b =
     let m = fine f in
     let kept = m .check-module .kept in
     rw (c .over .ensures)
-    (gone-over b (ends (ended m)) (m .check-module .ensures) (kept .0) (kept .1 .1 .1 .1 .1 .0) _ _ (f .before .own .given .1)
-    (c .before .before .before .before .before .before .keep .ensures) (c .before .if2 .left))
+    (gone-over b (ended m .end-before .ensures) (m .check-module .ensures) (kept .0) (kept .1 .1 .1 .1 .1 .0) _ _ (f .before .own .given .1)
+    (c .before .before .before .before .before .before .keep .ensures) (c .before .if1 .left))
 
 pub check-at-spec : {M : Type 1} → statement M
 check-at-spec =
@@ -87,9 +81,7 @@ check-at-spec =
     (λ c. search needs)
     (λ c. search needs)
     (λ c. search needs)
-    (λ c. search needs)
-    (λ c. search needs)
-    (λ c. search needs)
+    (λ c κs. search needs)
     (λ c. search needs)
     cast-base
     mul-base
@@ -100,7 +92,7 @@ check-at-spec =
     check-module-requires
     (λ c. search needs)
     (λ c. search needs)
-    (λ c. search needs)
+    mul-nets
     slice-write-nets
     keep-requires
     (λ c κs. search needs)
