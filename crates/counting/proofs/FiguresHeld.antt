@@ -34,7 +34,7 @@ pub cleared-twice : (n : ℕ) (scratch : List ℕ) → cleared n (cleared n scra
 cleared-twice n scratch =
     ap (λ (l : List ℕ). replicate n 0 ++ l) (drop-at (replicate n 0) (drop n scratch) n (length-replicate n 0))
 
-module _ {image starts nets : List ℕ} {k size given : ℕ} {scratch : List ℕ} (s : Figurable image starts nets k size given scratch) where
+module _ {image starts nets : List ℕ} {k size given : ℕ} (s : Figurable image starts nets k size given) where
   pub inside : k < length starts
   inside = omega (arith, ap length (s .found .here), length-drop k (s .ms), s .startsLong)
 
@@ -83,33 +83,34 @@ module _ {image starts nets : List ℕ} {k size given : ℕ} {scratch : List ℕ
   gates-are = counted.gates-counted (s .ms) (s .number)
 
   -- The delay.
-  abbrev callable-there : Callable image starts nets (positionOf (s .number) (s .ms)) given scratch
-  callable-there =
-      running.callable (accepted-fits (s .accepted))
-      (record {
-        standing = λ j e. s .stands j _ _ e;
-        counted = λ j e. s .netsAre j _ _ e;
-        started = s .startsLong;
-        tabled = s .netsLong;
-      })
-      (s .number) (s .found .m) (s .found .found) (omega (arith, s .roomIs)) (s .enough)
+  module _ {scratch : List ℕ} (enough : given ≤ length scratch) where
+    abbrev callable-there : Callable image starts nets (positionOf (s .number) (s .ms)) given scratch
+    callable-there =
+        running.callable (accepted-fits (s .accepted))
+        (record {
+          standing = λ j e. s .stands j _ _ e;
+          counted = λ j e. s .netsAre j _ _ e;
+          started = s .startsLong;
+          tabled = s .netsLong;
+        })
+        (s .number) (s .found .m) (s .found .found) (omega (arith, s .roomIs)) enough
 
-  pub callable : Callable image starts nets k given scratch
-  callable = subst (λ (p : ℕ). Callable image starts nets p given scratch) (s .found .placed) callable-there
+    pub callable : Callable image starts nets k given scratch
+    callable = subst (λ (p : ℕ). Callable image starts nets p given scratch) (s .found .placed) callable-there
 
-  module _ {scratch′ : List ℕ} {r : ℕ} (answer : (e : Callable image starts nets k given scratch) → Timed (e .rs) (e .m) k given scratch scratch′ r) where
-    timed :
-        Timed (resolve (s .ms)) (resolveModule (referTo (s .ms)) (positionOf (s .number) (s .ms)) (s .found .m))
-        (positionOf (s .number) (s .ms)) given scratch scratch′ r
-    timed =
-        subst (λ (p : ℕ). (e : Callable image starts nets p given scratch) → Timed (e .rs) (e .m) p given scratch scratch′ r)
-        (sym (s .found .placed)) answer callable-there
+    module _ {scratch′ : List ℕ} {r : ℕ} (answer : (e : Callable image starts nets k given scratch) → Timed (e .rs) (e .m) k given scratch scratch′ r) where
+      timed :
+          Timed (resolve (s .ms)) (resolveModule (referTo (s .ms)) (positionOf (s .number) (s .ms)) (s .found .m))
+          (positionOf (s .number) (s .ms)) given scratch scratch′ r
+      timed =
+          subst (λ (p : ℕ). (e : Callable image starts nets p given scratch) → Timed (e .rs) (e .m) p given scratch scratch′ r)
+          (sym (s .found .placed)) answer callable-there
 
-    pub delay-is : r ≡ delay (s .ms) (s .number)
-    delay-is = delay-means (s .accepted) (s .number) (s .found .m) (s .found .found) timed
+      pub delay-is : r ≡ delay (s .ms) (s .number)
+      delay-is = delay-means (s .accepted) (s .number) (s .found .m) (s .found .found) timed
 
-    pub delay-clears : scratch′ ≡ cleared given scratch
-    delay-clears = timed .clean
+      pub delay-clears : scratch′ ≡ cleared given scratch
+      delay-clears = timed .clean
 
   -- The largest load.
   net-table : Netted nets (resolve (s .ms))
@@ -130,9 +131,9 @@ module _ {image starts nets : List ℕ} {k size given : ℕ} {scratch : List ℕ
 
   -- Scratch is cleared by the delay, and again by the load.
   pub scratch-is :
-      {scratch′ scratch″ : List ℕ} → scratch′ ≡ cleared given scratch → scratch″ ≡ cleared given scratch′
+      (scratch : List ℕ) {scratch′ scratch″ : List ℕ} → scratch′ ≡ cleared given scratch → scratch″ ≡ cleared given scratch′
       → scratch″ ≡ cleared (room (s .ms) (s .number)) scratch
-  scratch-is first second =
+  scratch-is scratch first second =
       second ∙ ap (cleared given) first ∙ cleared-twice given scratch ∙ ap (λ (n : ℕ). cleared n scratch) (s .roomIs)
 
   -- All figures together.

@@ -17,7 +17,7 @@ use Rattle.counting.specs.declared.contents.Listed.the-variants as liste
 use Rattle.counting.specs.declared.contents.Named.the-variants as named
 
 -- A file that is refused ends every call.
-refused-ends : {R : Type 0} (file : List ℕ) (number place : ℕ) → verdict file ≡ refused number place → (ask : List Module → Decision R) → onFile file ask ≡ refusal number place
+pub refused-ends : {R : Type 0} (file : List ℕ) (number place : ℕ) → verdict file ≡ refused number place → (ask : List Module → Decision R) → onFile file ask ≡ refusal number place
 unfolding onFile verdict
 refused-ends file number place e ask = go (read file) e
   where

@@ -1,6 +1,6 @@
 -- What a count comes to at each of its ends, once the module of the number was sought.
 use Prim.Native.Nat.{ℕ, _≤_, _<_}
-use mathlib.Core.Path.{_≡_, refl, sym, ap, subst, _∙_}
+use mathlib.Core.Path.{_≡_, refl, sym, ap, subst}
 use mathlib.Core.Bool.{Bool}
 use mathlib.Core.List.{List}
 use native.Mathlib.Omega.{arith}
@@ -8,10 +8,11 @@ use borrow.Author.Tests.{le-leb, lt-leb}
 use lib.Dec.{leb}
 use lib.ListN.{length, getD, length-drop}
 use Rattle.meaning.specs.Figures.{room}
-use Rattle.meaning.specs.Calls.{Decision, answer, demand, counting, Figures as Meant, figuresOn}
+use Rattle.meaning.specs.Calls.{Decision, answer, demand, onFile, counting, Figures as Meant, figuresOn}
+use Rattle.laws.specs.Accepted.{accepted-good}
 use Rattle.laws.specs.Figures.Bounds.{found-within}
 use Rattle.desk.specs.Sought.{Held, Unheld, Seeks}
-use Rattle.desk.specs.Holding.{held-accepted, held-stands, held-room, held-size, held-asks, unheld-refuses}
+use Rattle.desk.specs.Holding.{held-accepted, held-stands, held-room, held-size, unheld-refuses}
 use Rattle.desk.specs.declared.seeking.Sought.{Sought}
 use Rattle.desk.specs.declared.seeking.Sought.the-variants.{At, Refused}
 use Rattle.counting.specs.Answers.{Counts, refusedWith}
@@ -34,6 +35,30 @@ pub unheld-counts :
 unfolding counting
 unheld-counts u is scratch = known (unheld-refuses u _) (record { is = is; scratch = refl })
 
+-- The module is at its position.
+module _ {image starts nets : List ℕ} {k size given : ℕ} (s : Figurable image starts nets k size given) where
+  decided :
+      (scratch : List ℕ) {b : Bool} → leb (room (s .ms) (s .number)) (length scratch) ≡ b
+      → counting (s .file) (s .number) (length scratch) ≡ demand 21 0 b (answer (figuresOn (s .number) (s .ms) (s .found .m)))
+  unfolding counting onFile
+  decided scratch e = rw (s .reads, accepted-good (s .accepted), s .found .found, e)
+
+  -- 21: scratch has fewer entries than room.
+  pub short-counts :
+      (scratch : List ℕ) → length scratch < given → {result : Counted} → result ≡ refusedWith 21 0
+      → Counts (counting (s .file) (s .number) (length scratch)) scratch scratch result
+  short-counts scratch short is =
+      known (decided scratch (lt-leb (room (s .ms) (s .number)) (length scratch) (omega (arith, s .roomIs)))) (record { is = is; scratch = refl })
+
+  -- The figures are the answer.
+  pub answer-counts :
+      (scratch scratch′ : List ℕ) → given ≤ length scratch → (figures : Figures)
+      → Figured (s .ms) (s .number) (s .found .m) scratch scratch′ figures
+      → Counts (counting (s .file) (s .number) (length scratch)) scratch scratch′ (record { number = 0; place = 0; figures = figures })
+  answer-counts scratch scratch′ enough figures f =
+      known (decided scratch (le-leb (room (s .ms) (s .number)) (length scratch) (omega (arith, s .roomIs))))
+      (record { is = ap (λ (x : Figures). record { number = 0; place = 0; figures = x }) (f .is); scratch = f .clean })
+
 module _
     {file : List ℕ} {number k : ℕ} {image starts names nets sizes rooms : List ℕ}
     (h : Held file number k image starts names nets sizes rooms) where
@@ -47,25 +72,13 @@ module _
   pub in-sizes : k < length sizes
   in-sizes = omega (arith, ap length (h .found .here), length-drop k (h .ms), h .desk .sizesLong)
 
-  decided : (scratch : List ℕ) {b : Bool} → leb (room (h .ms) number) (length scratch) ≡ b
-      → counting file number (length scratch) ≡ demand 21 0 b (answer (figuresOn number (h .ms) (h .found .m)))
-  unfolding counting
-  decided scratch e = held-asks h _ ∙ ap (λ (b : Bool). demand 21 0 b (answer (figuresOn number (h .ms) (h .found .m)))) e
-
-  -- 21: scratch has fewer entries than room.
-  pub short-counts :
-      (scratch : List ℕ) → length scratch < getD rooms k 0 → {result : Counted} → result ≡ refusedWith 21 0
-      → Counts (counting file number (length scratch)) scratch scratch result
-  short-counts scratch short is =
-      known (decided scratch (lt-leb (room (h .ms) number) (length scratch) (omega (arith, held-room h)))) (record { is = is; scratch = refl })
-
-  -- The figures can be worked out, and are the answer.
-  pub figurable :
-      (scratch : List ℕ) → getD rooms k 0 ≤ length scratch
-      → Figurable image starts nets k (getD sizes k 0) (getD rooms k 0) scratch
-  figurable scratch enough =
+  -- With its size and its room from there it can be counted.
+  abbrev pub figurable : Figurable image starts nets k (getD sizes k 0) (getD rooms k 0)
+  figurable =
       record {
+        file = file;
         ms = h .ms;
+        reads = h .reads;
         number = number;
         accepted = held-accepted h;
         found = h .found;
@@ -77,19 +90,7 @@ module _
         netsAre = h .desk .netsAre;
         sizeIs = held-size h;
         roomIs = held-room h;
-        enough = enough;
       }
-
-  pub answer-counts :
-      (scratch scratch′ : List ℕ) → getD rooms k 0 ≤ length scratch → (figures : Figures)
-      → ((s : Figurable image starts nets k (getD sizes k 0) (getD rooms k 0) scratch)
-      → Figured (s .ms) (s .number) (s .found .m) scratch scratch′ figures)
-      → Counts (counting file number (length scratch)) scratch scratch′ (record { number = 0; place = 0; figures = figures })
-  unfolding figurable
-  answer-counts scratch scratch′ enough figures told =
-      let f = told (figurable scratch enough) in
-      known (decided scratch (le-leb (room (h .ms) number) (length scratch) (omega (arith, held-room h))))
-      (record { is = ap (λ (x : Figures). record { number = 0; place = 0; figures = x }) (f .is); scratch = f .clean })
 
 -- What seeking says of its answer.
 module _

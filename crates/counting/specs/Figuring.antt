@@ -7,6 +7,7 @@ use Rattle.meaning.specs.Syntax.{Module}
 use Rattle.meaning.specs.Layout.{moduleNumbers}
 use Rattle.meaning.specs.Limits.{netCount, expandedSize}
 use Rattle.meaning.specs.Figures.{room}
+use Rattle.meaning.specs.Reading.{holds, read}
 use Rattle.meaning.specs.Ceilings.{ModuleWithin}
 use Rattle.meaning.specs.Calls.{figuresOn}
 use Rattle.laws.specs.WellFormed.{Accepted}
@@ -18,10 +19,11 @@ use Rattle.desk.specs.Finding.{FoundAt}
 use Rattle.counting.specs.Answers.{figuresOf}
 use Rattle.counting.specs.declared.answers.Figures.{Figures}
 
--- The module of a number is at position k of an accepted file that stands resolved in the image, its size and its room are given, and
--- scratch has as many entries as its room.
-pub record Figurable (image starts nets : List ℕ) (k size given : ℕ) (scratch : List ℕ) : Type 0 where
+-- The module of a number is at position k of an accepted file that stands resolved in the image, and its size and its room are given.
+pub record Figurable (image starts nets : List ℕ) (k size given : ℕ) : Type 0 where
+  pub file : List ℕ
   pub ms : List Module
+  pub reads : read file ≡ holds ms
   pub number : ℕ
   pub accepted : Accepted ms
   pub found : FoundAt ms number k
@@ -36,7 +38,6 @@ pub record Figurable (image starts nets : List ℕ) (k size given : ℕ) (scratc
   pub netsAre : (j : ℕ) (m : Module) (later : List Module) → drop j ms ≡ m ∷ later → getD nets j 0 ≡ netCount m
   pub sizeIs : size ≡ expandedSize ms number
   pub roomIs : given ≡ room ms number
-  pub enough : given ≤ length scratch
 
 pub record Figured (ms : List Module) (number : ℕ) (m : Module) (scratch scratch′ : List ℕ) (result : Figures) : Type 0 where
   pub is : result ≡ figuresOf (figuresOn number ms m)

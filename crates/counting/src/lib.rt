@@ -2,6 +2,7 @@
 // largest load. And what a file holds: how many modules, and their numbers.
 pub mod answers;
 pub mod contents;
+pub mod figuring;
 mod working;
 
 use crate::answers::Counted;

@@ -1,6 +1,5 @@
 // The count in lists that are long enough for the file.
 use crate::answers::Counted;
-use crate::answers::Figures;
 use desk::seeking::Sought;
 ghost use Prim.Native.Nat.{_≤_};
 ghost use lib.ListN.{length};
@@ -8,43 +7,6 @@ ghost use Rattle.meaning.specs.Calls.{counting};
 ghost use Rattle.desk.specs.Prepared.{Space};
 ghost use Rattle.desk.specs.Shortness.{Short};
 ghost use Rattle.counting.specs.Answers.{Counts};
-ghost use Rattle.counting.specs.Figuring.{Figurable, Figured};
-
-// The figures of the module at position k. Delay and load are worked out in scratch, one after the other. The loads of inputs are kept
-// in a list of their own.
-fn figures_at(
-    image: &[u16],
-    starts: &[usize],
-    nets: &[usize],
-    k: usize,
-    size: u32,
-    room: u32,
-    scratch: &mut [u32],
-    loads: &mut [u32],
-) -> Figures
-    requires { ⌜ Figurable (now image) (now starts) (now nets) k size room (now scratch) ⌝ }
-    requires { ⌜ length (now image) ≤ length (now loads) ⌝ }
-    ensures { λ r. ⌜ ((s : Figurable (now (image .entry)) (now (starts .entry)) (now (nets .entry)) k size room (now (scratch .entry)))
-        → Figured (s .ms) (s .number) (s .found .m) (now (scratch .entry)) (now (scratch .exit)) r) ⌝ }
-{
-    let header = runner::places::module_at(image, starts[k]);
-    let inputs = header.inputs as u32;
-    let outputs = (header.to - header.from) as u32;
-    let tally = figures::tally::tally_module(image, starts, k);
-    let gates = figures::tally::gates_of(tally);
-    let delay = runner::delay(image, starts, nets, k, room as usize, scratch);
-    let load = figures::load::largest_load(image, starts, nets, k, room as usize, scratch, loads);
-    Figures {
-        inputs,
-        outputs,
-        tally,
-        gates,
-        size,
-        room,
-        delay,
-        load,
-    }
-}
 
 // The count in lists that are long enough.
 fn count_in(
@@ -79,16 +41,7 @@ fn count_in(
     ) {
         Sought::Refused { number, place } => crate::answers::refused(number, place),
         Sought::At(k) => {
-            let room = rooms[k];
-            if scratch.len() < room as usize {
-                return crate::answers::refused(21, 0);
-            }
-            let figures = figures_at(image, starts, nets, k, sizes[k], room, scratch, loads);
-            Counted {
-                number: 0,
-                place: 0,
-                figures,
-            }
+            crate::figuring::count_at(image, starts, nets, k, sizes[k], rooms[k], scratch, loads)
         }
     }
 }

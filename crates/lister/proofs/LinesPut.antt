@@ -11,8 +11,7 @@ use Rattle.meaning.specs.Syntax.{Module}
 use Rattle.meaning.specs.Calls.{counting}
 use Rattle.meaning.specs.Listing.{line, lines, listingScratch}
 use Rattle.image.specs.Laid.{laid}
-use Rattle.desk.proofs.ModuleSearch.{here-at}
-use Rattle.counting.specs.Looking.{NumberHere}
+use Rattle.desk.proofs.ModuleSearch.{Here}
 use Rattle.text.specs.Pieces.{PutDown}
 use Rattle.text.specs.Lines.{longestLine}
 use Rattle.text.proofs.Pieces.{put-length, put-nothing, put-after}
@@ -46,6 +45,10 @@ put-in-part {text} {out} {part} at end ordered fits d =
         ∙ ap (drop (length text)) (take-append-drop (end - at) (drop at out))
         ∙ drop-drop (length text) at out
 
+-- The line of a module.
+abbrev lineOf : (file : List ℕ) (position : ℕ) → Module → List ℕ
+lineOf file position m = line position (m .number) (counting file (m .number) listingScratch)
+
 -- The lines of the modules in front of a position are written.
 pub record Sofar (file : List ℕ) (ms : List Module) (position : ℕ) (out₀ out : List ℕ) (at : ℕ) : Type 0 where
   pub done : List ℕ
@@ -58,9 +61,11 @@ none file ms out = record { done = []; put = put-nothing out 0 (omega arith); wh
 
 module _ {file : List ℕ} {ms : List Module} {position : ℕ} {out₀ out : List ℕ} {at : ℕ} (s : Sofar file ms position out₀ out at) where
   -- There is room for one more.
-  module _ {modules : ℕ} {scratch : List ℕ} (l : Listable file modules scratch out₀) (less : position < modules) where
+  module _
+      {image starts names nets sizes rooms : List ℕ} {modules : ℕ} {loads scratch : List ℕ}
+      (l : Listable image starts names nets sizes rooms modules loads scratch out₀) (less : position < modules) where
     pub low : at + longestLine ≤ longestListing
-    low = omega (arith, s .short, l .few)
+    low = omega (arith, s .short, l .opened .desk .all, l .opened .desk .within .modules .count)
 
     pub room : at + longestLine ≤ length out
     room = omega (arith, low, l .room, put-length (s .put))
@@ -70,31 +75,26 @@ module _ {file : List ℕ} {ms : List Module} {position : ℕ} {out₀ out : Lis
 
   -- One more is written.
   pub more :
-      {number : ℕ} (end : ℕ) {part : List ℕ} {used : ℕ}
-      → NumberHere ms position number
-      → position < length ms
+      (h : Here ms position) (end : ℕ) {part : List ℕ} {used : ℕ}
       → end ≡ at + longestLine
       → end ≤ length out
-      → PutDown (line position number (counting file number listingScratch)) (midOf at (end - at) out) 0 part used
+      → PutDown (lineOf file position (h .m)) (midOf at (end - at) out) 0 part used
       → Sofar file ms (position + 1) out₀ (putMid at (end - at) out part) (at + used)
   unfolding lines
-  more {number} end named less ends fits put =
-      let h = here-at ms position less in
-      let is = named .is (h .m) (h .later) (h .here) in
+  more h end ends fits put =
       record {
-        done = s .done ++ line position number (counting file number listingScratch);
+        done = s .done ++ lineOf file position (h .m);
         put = put-after (s .put) (put-in-part at end (omega arith) fits put);
         whole =
-            append-assoc (s .done) (line position number (counting file number listingScratch)) (lines file (position + 1) (drop (position + 1) ms))
-            ∙ ap (λ (l : List ℕ). s .done ++ l) (step (h .m) (h .later) (h .here) (h .after) is)
+            append-assoc (s .done) (lineOf file position (h .m)) (lines file (position + 1) (drop (position + 1) ms))
+            ∙ ap (λ (l : List ℕ). s .done ++ l) (step (h .m) (h .later) (h .here) (h .after))
             ∙ s .whole;
         short = omega (arith, s .short, put .inside, mid-len at end out fits);
       }
     where
-      step : (m : Module) (later : List Module) → drop position ms ≡ m ∷ later → drop (position + 1) ms ≡ later → number ≡ m .number
-          → line position number (counting file number listingScratch) ++ lines file (position + 1) (drop (position + 1) ms)
-          ≡ lines file position (drop position ms)
-      step m later here after is = rw (here, after, is, add-one)
+      step : (m : Module) (later : List Module) → drop position ms ≡ m ∷ later → drop (position + 1) ms ≡ later
+          → lineOf file position m ++ lines file (position + 1) (drop (position + 1) ms) ≡ lines file position (drop position ms)
+      step m later here after = rw (here, after, add-one)
 
   -- All are written.
   pub all-put : length ms ≤ position → PutDown (lines file 0 ms) out₀ 0 out at

@@ -1,24 +1,22 @@
--- From what the count answers to a line: an answer is told from a refusal by its number 0, since on an accepted file every refusal has
--- a number of its own.
+-- From what the count answers to a line: an answer is told from a refusal by its number 0, since a refusal has a number of its own.
 use Prim.Native.Nat.{ℕ}
 use mathlib.Core.Path.{_≡_, sym, ap, subst}
 use mathlib.Core.Bool.{Bool, true, false}
 use mathlib.Core.List.{List}
 use native.Mathlib.Omega.{arith}
 use lib.Dec.{leb}
-use Rattle.meaning.specs.Syntax.{Module}
-use Rattle.meaning.specs.Boxlist.{Found, box, F, assoc}
-use Rattle.meaning.specs.Calls.{Decision, refusal, answer, demand, onModule, Figures as Meant, counting, figuresOn}
+use Rattle.meaning.specs.Calls.{Decision, refusal, answer, demand, Figures as Meant, counting, figuresOn}
 use Rattle.meaning.specs.Figures.{room}
 use Rattle.meaning.specs.Listing.{line}
+use Rattle.desk.specs.Sought.{Held}
+use Rattle.desk.specs.Holding.{held-asks}
 use Rattle.counting.specs.Answers.{countedOf}
 use Rattle.counting.specs.declared.answers.Figures.{Figures}
 use Rattle.counting.specs.declared.answers.Counted.{Counted}
 use Rattle.text.specs.Pieces.{PutDown}
 use Rattle.text.specs.Lines.{figuresOf}
 use Rattle.text.specs.declared.Counts.{Counts}
-use Rattle.lister.specs.Sheet.{Told, Opened}
-use Rattle.lister.proofs.Sheets.{asks}
+use Rattle.lister.specs.Sheet.{Told}
 
 -- What a line says of the figures.
 abbrev pub countsOf : Figures → Counts
@@ -57,20 +55,16 @@ module _ (position number : ℕ) {out out′ : List ℕ} {r : ℕ} (counted : Co
       subst (λ (x : ℕ). PutDown (line position number (refusal x p)) out 0 out′ r) (ap (λ (x : Counted). x .number) e) (put p)
   refused some put (answer f) told e = absurd (some (ap (λ (x : Counted). x .number) e))
 
--- On an accepted file a count is refused by 18 or 21 only.
-pub told-opened : {file : List ℕ} → Opened file → (number scratch : ℕ) → Told (counting file number scratch)
+-- A module that is there is refused by 21 only.
+pub told-held :
+    {file : List ℕ} {number k : ℕ} {image starts names nets sizes rooms : List ℕ}
+    → Held file number k image starts names nets sizes rooms
+    → (scratch : ℕ)
+    → Told (counting file number scratch)
 unfolding counting
-told-opened o number scratch =
-    subst Told (sym (asks o (λ ms. onModule (assoc number ms) (asked ms))))
-    (on-module (assoc number (o .ms)) (asked (o .ms)) (λ m. demanded (leb (room (o .ms) number) scratch) (figuresOn number (o .ms) m)))
+told-held {number = number} h scratch =
+    subst Told (sym (held-asks h _)) (demanded (leb (room (h .ms) number) scratch) (figuresOn number (h .ms) (h .found .m)))
   where
-    asked : List Module → Module → Decision Meant
-    asked ms m = demand 21 0 (leb (room ms number) scratch) (answer (figuresOn number ms m))
-
     demanded : (b : Bool) (f : Meant) → Told (demand 21 0 b (answer f))
     demanded true f = omega arith
     demanded false f = omega arith
-
-    on-module : (found : Found) (ask : Module → Decision Meant) → ((m : Module) → Told (ask m)) → Told (onModule found ask)
-    on-module (box m) ask told = told m
-    on-module F ask told = omega arith

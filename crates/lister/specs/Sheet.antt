@@ -3,11 +3,11 @@ use Prim.Native.Nat.{ℕ, _*_, _≤_}
 use mathlib.Core.Path.{_≡_, sym, _∙_}
 use mathlib.Core.List.{List}
 use lib.ListN.{length}
-use Rattle.meaning.specs.Syntax.{Module}
-use Rattle.meaning.specs.Reading.{holds, read, mostModules}
-use Rattle.meaning.specs.Verdict.{good, fileVerdict}
+use Rattle.meaning.specs.Reading.{mostModules}
 use Rattle.meaning.specs.Calls.{Decision, refusal, answer, Figures}
 use Rattle.meaning.specs.Listing.{listingScratch}
+use Rattle.desk.specs.Prepared.{Opened}
+use Rattle.desk.specs.Sought.{Held}
 use Rattle.text.specs.Pieces.{PutDown}
 use Rattle.text.specs.Lines.{longestLine}
 
@@ -16,21 +16,23 @@ abbrev pub Told : Decision Figures → Type 0
 Told (refusal number place) = 1 ≤ number
 Told (answer f) = 0 ≤ 0
 
--- The file is accepted.
-pub record Opened (file : List ℕ) : Type 0 where
-  pub ms : List Module
-  pub reads : read file ≡ holds ms
-  pub accepted : fileVerdict ms ≡ good
+-- The lists hold an accepted file, and at the position stands the module that its number means.
+pub record Standing (image starts names nets sizes rooms : List ℕ) (position : ℕ) : Type 0 where
+  pub file : List ℕ
+  pub number : ℕ
+  pub held : Held file number position image starts names nets sizes rooms
 
 -- A line for each of the most modules that a file has.
 abbrev pub longestListing : ℕ
 longestListing = longestLine * mostModules
 
--- The file is accepted and has so many modules, the scratch is that of the listing, and there is room for every line.
-pub record Listable (file : List ℕ) (modules : ℕ) (scratch out : List ℕ) : Type 0 where
-  pub opened : Opened file
-  pub all : modules ≡ length (opened .ms)
-  pub few : modules ≤ mostModules
+-- The lists hold an accepted file of so many modules, there is a load for each number of the image, the scratch is that of the listing,
+-- and there is room for every line.
+pub record Listable (image starts names nets sizes rooms : List ℕ) (modules : ℕ) (loads scratch out : List ℕ) : Type 0 where
+  pub file : List ℕ
+  pub count : ℕ
+  pub opened : Opened file modules count image starts names nets sizes rooms
+  pub loadsLong : length image ≤ length loads
   pub lent : length scratch ≡ listingScratch
   pub room : longestListing ≤ length out
 

@@ -1,31 +1,40 @@
 -- The lines of an accepted file, or the one line of a refused one.
-use Rattle.reader.specs.Exact.{bytes-all}
-use Rattle.lister.proofs.Sheets.{sheet, listable, put-as, lines-listed, refusal-listed}
+use native.Mathlib.Omega.{arith}
 use borrow.Author.Needs.{needs}
+use Rattle.counting.proofs.Opening.{opened, refused}
+use Rattle.lister.proofs.Sheets.{listable, put-as, lines-listed, refusal-listed}
 use Rattle.lister.proofs.list_in.Statement.{statement}
 use Rattle.lister.proofs.list_in.Tie as tie
 
+-- The file made ready, from where the answer is known.
+abbrev ready-at : tie.After-slice-known19 → tie.After-prepare
+ready-at c = c .before .before .before .before .before .before .before .before .before .before .before .before .before .before .before .before
+
+put-file-refusal-requires : tie.Need-put-file-refusal-requires
+put-file-refusal-requires c κs = omega (arith, c .before .before .before .before .before .before .before .before .before .before .before .before .before .before .before .before .before .before .before .before .before .before .before .before .before .before .before .before .before .before .before .before .before .before .before .before .before .before .before .before .before .pre .1 .1 .1)
+
 put-lines-requires : tie.Need-put-lines-requires
 put-lines-requires c κs =
-    let counted = c .before .before .before .before .before .modules in
-    listable (bytes-all _ (λ i. c .before .before .before .before .before .before .before .before .shared-slice-known .given i .fits))
-    (sheet _ (counted .result) (counted .ensures) _ (c .before .before .before .modules2 .given .1))
-    (c .before .before .before .before .before .before .before .before .before .pre .0) (c .before .before .before .before .before .before .before .before .before .pre .1)
+    let told = c .before .before .before .before .before .before .before .before .before .before in
+    let ready = ready-at (told .before .before) in
+    let given = ready .before .before .before .before .before .before .before .before .before .before .before .before .before .before .before .before .before .before .before .before .before .pre in
+    let o = opened _ _ _ _ _ _ _ (ready .prepare .result) (ready .prepare .ensures) _ _ (told .modules .given .1) in
+    listable o (omega (arith, ready .prepare .kept .1 .0, given .1 .0)) (given .1 .1 .0) (given .1 .1 .1)
 
 returns : tie.Need-returns
 returns c =
-    let counted = c .before .before .before .before .before .before .before .before .before .before .modules in
-    let ready =
-    listable (bytes-all (c .before .before .before .before .before .before .before .before .before .before .before .before .before .before .args .file .now) (λ i. c .before .before .before .before .before .before .before .before .before .before .before .before .before .shared-slice-known .given i .fits))
-    (sheet _ (counted .result) (counted .ensures) _ (c .before .before .before .before .before .before .before .before .modules2 .given .1))
-    (c .before .before .before .before .before .before .before .before .before .before .before .before .before .before .pre .0) (c .before .before .before .before .before .before .before .before .before .before .before .before .before .before .pre .1) in
-    put-as (lines-listed (ready .opened)) (c .before .before .before .before .put-lines .ensures ready)
+    let told = c .before .before .before .before .before in
+    let ready = ready-at (told .before .before) .prepare in
+    put-as (refusal-listed _ _ _ (refused _ _ _ _ _ _ _ (ready .result) (ready .ensures) _ _ (told .number .given .1)))
+    (c .before .before .put-file-refusal .ensures)
 
 returns-2 : tie.Need-returns-2
 returns-2 c =
-    let counted = c .before .before .before .before .before .before .before .modules in
-    put-as (refusal-listed _ (counted .result) (counted .ensures) _ _ (c .before .before .before .before .before .number .given .1))
-    (c .before .before .put-file-refusal .ensures)
+    let told = c .before .before .before .before .before .before .before .before .before .before .before .before .before .before .before .before .before in
+    let ready = ready-at (told .before .before) in
+    let given = ready .before .before .before .before .before .before .before .before .before .before .before .before .before .before .before .before .before .before .before .before .before .pre in
+    let o = opened _ _ _ _ _ _ _ (ready .prepare .result) (ready .prepare .ensures) _ _ (told .modules .given .1) in
+    put-as (lines-listed o) (c .before .before .before .before .before .before .put-lines .ensures (listable o (omega (arith, ready .prepare .kept .1 .0, given .1 .0)) (given .1 .1 .0) (given .1 .1 .1)))
 
 pub list-in-spec : {M : Type 1} → statement M
 list-in-spec =
@@ -33,12 +42,29 @@ list-in-spec =
     (tie.spec
     (λ c κs. search needs)
     (λ c. search needs)
+    (λ c. search needs)
+    put-file-refusal-requires
+    (λ c. search needs)
     put-lines-requires
     (λ c. search needs)
     (λ c. search needs)
-    (λ c κs. search needs)
+    (λ c. search needs)
+    (λ c. search needs)
+    (λ c. search needs)
+    (λ c. search needs)
+    (λ c. search needs)
     (λ c. search needs)
     (λ c. search needs)
     returns
+    (λ c. search needs)
+    (λ c. search needs)
+    (λ c. search needs)
+    (λ c. search needs)
+    (λ c. search needs)
+    (λ c. search needs)
+    (λ c. search needs)
+    (λ c. search needs)
+    (λ c. search needs)
+    (λ c. search needs)
     (λ c. search needs)
     returns-2)

@@ -1,7 +1,7 @@
--- The module is sought; then 21, or the figures.
+-- The module is sought, and counted where it stands.
 use native.Mathlib.Omega.{arith}
 use borrow.Author.Needs.{needs}
-use Rattle.counting.proofs.Outcomes.{held, unheld, below-most, in-rooms, in-sizes, unheld-counts, short-counts, figurable, answer-counts}
+use Rattle.counting.proofs.Outcomes.{held, unheld, below-most, in-rooms, in-sizes, unheld-counts, figurable}
 use Rattle.counting.proofs.working.count_in.Statement.{statement}
 use Rattle.counting.proofs.working.count_in.Tie as tie
 
@@ -9,58 +9,56 @@ use Rattle.counting.proofs.working.count_in.Tie as tie
 abbrev search-at : tie.After-slice-known18 → tie.After-seek
 search-at c = c .before .before .before .before .before .before .before .before .before .before .before .before .before .before .before .before
 
-mul-room : tie.Need-mul-room
-mul-room c =
-    let s = search-at (c .before .before .before) .seek in
-    omega (arith, below-most (held _ _ _ _ _ _ _ _ (s .result) (s .ensures) _ (c .before .k .given .1)))
-
-slice-read-room : tie.Need-slice-read-room
-slice-read-room c =
-    let s = search-at (c .before .before .before .before) .seek in
-    in-rooms (held _ _ _ _ _ _ _ _ (s .result) (s .ensures) _ (c .before .before .k .given .1))
-
-cast-if1 : tie.Need-cast-if1
-cast-if1 c = omega (arith, c .slice-known19 .given (c .before .before .k .given .0 .0))
-
-returns : tie.Need-returns
-returns c =
+mul-count-at : tie.Need-mul-count-at
+mul-count-at c =
     let found = c .before .before .before .before in
-    let s = search-at (found .before .before) .seek in
-    short-counts (held _ _ _ _ _ _ _ _ (s .result) (s .ensures) _ (found .k .given .1)) _ (c .before .if1 .taken) (c .refused2 .ensures)
-
-mul-figures-at : tie.Need-mul-figures-at
-mul-figures-at c =
-    let found = c .before .before .before .before .before .before in
     let s = search-at (found .before .before) .seek in
     omega (arith, below-most (held _ _ _ _ _ _ _ _ (s .result) (s .ensures) _ (found .k .given .1)))
 
-slice-read-figures-at : tie.Need-slice-read-figures-at
-slice-read-figures-at c =
-    let found = c .before .before .before .before .before .before .before in
+slice-read-count-at : tie.Need-slice-read-count-at
+slice-read-count-at c =
+    let found = c .before .before .before .before .before in
     let s = search-at (found .before .before) .seek in
     in-sizes (held _ _ _ _ _ _ _ _ (s .result) (s .ensures) _ (found .k .given .1))
 
-figures-at-requires : tie.Need-figures-at-requires
-figures-at-requires c κs =
-    let found = c .before .before .before .before .before .before .before .before .before in
+mul-count-at-2 : tie.Need-mul-count-at-2
+mul-count-at-2 c =
+    let found = c .before .before .before .before .before in
+    let s = search-at (found .before .before) .seek in
+    omega (arith, below-most (held _ _ _ _ _ _ _ _ (s .result) (s .ensures) _ (found .k .given .1)))
+
+slice-read-count-at-2 : tie.Need-slice-read-count-at-2
+slice-read-count-at-2 c =
+    let found = c .before .before .before .before .before .before in
+    let s = search-at (found .before .before) .seek in
+    in-rooms (held _ _ _ _ _ _ _ _ (s .result) (s .ensures) _ (found .k .given .1))
+
+count-at-requires : tie.Need-count-at-requires
+count-at-requires c κs =
+    let found = c .before .before .before .before .before .before .before .before in
     let at = search-at (found .before .before) in
     let start = at .before .before .before .before .before .before .before .before .before .before .before .before .before .before .before .before .before .before .before .before in (
-      figurable (held _ _ _ _ _ _ _ _ (at .seek .result) (at .seek .ensures) _ (found .k .given .1)) _ (c .before .before .before .before .before .before .if1 .left),
+      figurable (held _ _ _ _ _ _ _ _ (at .seek .result) (at .seek .ensures) _ (found .k .given .1)),
       omega (arith, at .seek .kept .1 .1 .0, start .pre .1),
     )
 
-returns-2 : tie.Need-returns-2
-returns-2 c =
+returns : tie.Need-returns
+returns c =
     let s = search-at (c .before .before .before .before) .seek in
     unheld-counts (unheld _ _ _ _ _ _ _ _ (s .result) (s .ensures) _ _ (c .before .before .number .given .1)) (c .refused .ensures) _
 
-returns-3 : tie.Need-returns-3
-returns-3 c =
-    let found = c .before .before .before .before .before .before .before .before .before .before .before .before .before .before in
+-- The first two lists kept their lengths in the search, which is further back than `needs` goes.
+same-length-9 : tie.Need-same-length-9
+same-length-9 c = search-at (c .before .before .before .before .before .before .before .before .before .before .before .before .before .before .before) .seek .kept .1 .1 .0
+
+same-length-10 : tie.Need-same-length-10
+same-length-10 c = search-at (c .before .before .before .before .before .before .before .before .before .before .before .before .before .before .before) .seek .kept .1 .1 .1 .0
+
+returns-2 : tie.Need-returns-2
+returns-2 c =
+    let found = c .before .before .before .before .before .before .before .before .before .before .before .before .before in
     let s = search-at (found .before .before) .seek in
-    let f = c .before .before .before .before .figures-at in
-    answer-counts (held _ _ _ _ _ _ _ _ (s .result) (s .ensures) _ (found .k .given .1)) _ _
-    (c .before .before .before .before .before .before .before .before .before .before .before .if1 .left) (f .result) (f .ensures)
+    c .before .before .before .before .count-at .ensures (figurable (held _ _ _ _ _ _ _ _ (s .result) (s .ensures) _ (found .k .given .1)))
 
 pub count-in-spec : {M : Type 1} → statement M
 count-in-spec =
@@ -70,10 +68,11 @@ count-in-spec =
     (λ c. search needs)
     (λ c κs. search needs)
     (λ c. search needs)
-    mul-room
-    slice-read-room
-    cast-if1
-    (λ c κs. search needs)
+    mul-count-at
+    slice-read-count-at
+    mul-count-at-2
+    slice-read-count-at-2
+    count-at-requires
     (λ c. search needs)
     (λ c. search needs)
     (λ c. search needs)
@@ -83,9 +82,8 @@ count-in-spec =
     (λ c. search needs)
     (λ c. search needs)
     returns
-    mul-figures-at
-    slice-read-figures-at
-    figures-at-requires
+    same-length-9
+    same-length-10
     (λ c. search needs)
     (λ c. search needs)
     (λ c. search needs)
@@ -94,15 +92,4 @@ count-in-spec =
     (λ c. search needs)
     (λ c. search needs)
     (λ c. search needs)
-    returns-2
-    (λ c. search needs)
-    (λ c. search needs)
-    (λ c. search needs)
-    (λ c. search needs)
-    (λ c. search needs)
-    (λ c. search needs)
-    (λ c. search needs)
-    (λ c. search needs)
-    (λ c. search needs)
-    (λ c. search needs)
-    returns-3)
+    returns-2)

@@ -1,8 +1,8 @@
 -- The number says which line is due.
 use Rattle.lister.proofs.Telling.{answered, refused}
 use borrow.Author.Needs.{needs}
-use Rattle.lister.proofs.put_counted.Statement.{statement}
-use Rattle.lister.proofs.put_counted.Tie as tie
+use Rattle.lister.proofs.lines.put_counted.Statement.{statement}
+use Rattle.lister.proofs.lines.put_counted.Tie as tie
 
 returns : tie.Need-returns
 returns c = answered (c .before .before .before .before .before .before .before .before .before .before .before .before .before .before .args .position) (c .before .before .before .before .before .before .before .before .before .before .before .before .before .before .args .number) (c .before .before .before .before .before .before .before .before .before .before .before .before .before .before .args .counted) (c .before .before .before .before .before .before .before .before .before .before .before .if1 .taken) (c .before .before .put-figures .ensures)

@@ -2,8 +2,8 @@
 use native.Mathlib.Omega.{arith}
 use Rattle.counting.proofs.FiguresHeld.{inside, there, inputs-are, ordered, outputs-are, countable, tally-is, tally-fits, gates-are, callable, delay-is, delay-clears, loadable, load-is, scratch-is, figures-are}
 use borrow.Author.Needs.{needs}
-use Rattle.counting.proofs.working.figures_at.Statement.{statement}
-use Rattle.counting.proofs.working.figures_at.Tie as tie
+use Rattle.counting.proofs.figuring.figures_at.Statement.{statement}
+use Rattle.counting.proofs.figuring.figures_at.Tie as tie
 
 mul-module-at : tie.Need-mul-module-at
 mul-module-at c = omega (arith, inside (c .before .before .before .before .before .pre .0), c .before .before .before .before .before .good)
@@ -30,14 +30,15 @@ gates-of-requires : tie.Need-gates-of-requires
 gates-of-requires c κs = let s = c .before .before .before .before .before .before .before .before .before .before .pre .0 in tally-fits s (tally-is s (c .tally-module .ensures))
 
 delay-requires : tie.Need-delay-requires
-delay-requires c κs = callable (c .before .before .before .before .before .before .before .before .before .before .before .before .pre .0)
+delay-requires c κs = let given = c .before .before .before .before .before .before .before .before .before .before .before .before .pre in callable (given .0) (given .1 .0)
 
 largest-load-requires : tie.Need-largest-load-requires
-largest-load-requires c κs = (loadable (c .before .before .before .before .before .before .before .before .before .before .before .before .before .before .before .before .before .pre .0), (search needs, c .before .before .before .before .before .before .before .before .before .before .before .before .before .before .before .before .before .pre .1))
+largest-load-requires c κs = let given = c .before .before .before .before .before .before .before .before .before .before .before .before .before .before .before .before .before .pre in (loadable (given .0), (search needs, given .1 .1))
 
 returns : tie.Need-returns
 returns c =
     λ s.
+    let enough = c .before .before .before .before .before .before .before .before .before .before .before .before .before .before .before .before .before .before .before .before .before .before .pre .1 .0 in
     let tally = tally-is s (c .before .before .before .before .before .before .before .before .before .before .before .before .tally-module .ensures) in
     let timed = c .before .before .before .before .before .before .before .before .before .delay .ensures in
     let loaded = c .before .before .before .before .largest-load .ensures in
@@ -49,9 +50,9 @@ returns c =
           (outputs-are s header)
           tally
           (gates-are s tally (c .before .before .before .before .before .before .before .before .before .before .before .gates-of .ensures))
-          (delay-is s timed)
+          (delay-is s enough timed)
           (load-is s (loaded .0));
-      clean = scratch-is s (delay-clears s timed) (loaded .1);
+      clean = scratch-is s _ (delay-clears s enough timed) (loaded .1);
     }
 
 pub figures-at-spec : {M : Type 1} → statement M

@@ -1,0 +1,110 @@
+// The lines of an accepted file that stands ready in lists.
+use counting::answers::Counted;
+use text::Counts;
+ghost use Prim.Native.Nat.{_≤_};
+ghost use mathlib.Core.Path.{_≡_};
+ghost use lib.ListN.{length};
+ghost use Rattle.meaning.specs.Calls.{Decision, Figures as Meant, counting};
+ghost use Rattle.meaning.specs.Listing.{line, lines, listingScratch};
+ghost use Rattle.counting.specs.Answers.{countedOf};
+ghost use Rattle.text.specs.Pieces.{PutDown};
+ghost use Rattle.text.specs.Lines.{longestLine};
+ghost use Rattle.lister.specs.Sheet.{Told, Standing, Listable};
+
+// Writes the line of a module at the front of `out`, from what the count answered, and answers the line's length.
+fn put_counted(position: usize, number: u16, counted: Counted, out: &mut [u8]) -> usize
+    requires { ⌜ longestLine ≤ length (now out) ⌝ }
+    ensures { λ r.
+        ⌜ ((decision : Decision Meant) → Told decision → counted ≡ countedOf decision
+        → PutDown (line position number decision) (now (out .entry)) 0 (now (out .exit)) r) ⌝ }
+{
+    let refused = counted.number;
+    let figures = counted.figures;
+    if refused == 0 {
+        let counts = Counts {
+            inputs: figures.inputs as u64,
+            outputs: figures.outputs as u64,
+            gates: figures.gates as u64,
+            size: figures.size as u64,
+            room: figures.room as u64,
+            delay: figures.delay as u64,
+            load: figures.load as u64,
+        };
+        text::put_figures(position as u64, number as u64, counts, out)
+    } else {
+        text::put_module_refusal(position as u64, number as u64, refused as u64, out)
+    }
+}
+
+// Counts the module at a position, and writes its line at the front of `out`.
+fn put_line(
+    image: &[u16],
+    starts: &[usize],
+    names: &[u16],
+    nets: &[usize],
+    sizes: &[u32],
+    rooms: &[u32],
+    position: usize,
+    loads: &mut [u32],
+    scratch: &mut [u32],
+    out: &mut [u8],
+) -> usize
+    requires { ⌜ Standing (now image) (now starts) (now names) (now nets) (now sizes) (now rooms) position ⌝ }
+    requires { ⌜ length (now image) ≤ length (now loads) ⌝ }
+    requires { ⌜ length (now scratch) ≡ listingScratch ⌝ }
+    requires { ⌜ longestLine ≤ length (now out) ⌝ }
+    ensures { λ r.
+        ⌜ ((s : Standing (now (image .entry)) (now (starts .entry)) (now (names .entry)) (now (nets .entry)) (now (sizes .entry)) (now (rooms .entry)) position)
+        → PutDown (line position (s .number) (counting (s .file) (s .number) listingScratch)) (now (out .entry)) 0 (now (out .exit)) r) ⌝ }
+{
+    let counted = counting::figuring::count_at(
+        image,
+        starts,
+        nets,
+        position,
+        sizes[position],
+        rooms[position],
+        scratch,
+        loads,
+    );
+    put_counted(position, names[position], counted, out)
+}
+
+// Writes the lines of all modules at the front of `out`, and answers their length.
+pub(crate) fn put_lines(
+    image: &[u16],
+    starts: &[usize],
+    names: &[u16],
+    nets: &[usize],
+    sizes: &[u32],
+    rooms: &[u32],
+    modules: usize,
+    loads: &mut [u32],
+    scratch: &mut [u32],
+    out: &mut [u8],
+) -> usize
+    requires { ⌜ Listable (now image) (now starts) (now names) (now nets) (now sizes) (now rooms) modules (now loads) (now scratch) (now out) ⌝ }
+    ensures { λ r.
+        ⌜ ((s : Listable (now (image .entry)) (now (starts .entry)) (now (names .entry)) (now (nets .entry)) (now (sizes .entry)) (now (rooms .entry)) modules (now (loads .entry)) (now (scratch .entry)) (now (out .entry)))
+        → PutDown (lines (s .file) 0 (s .opened .ms)) (now (out .entry)) 0 (now (out .exit)) r) ⌝ }
+{
+    let mut at = 0;
+    let mut position = 0;
+    while position < modules {
+        let end = at + 189;
+        at += put_line(
+            image,
+            starts,
+            names,
+            nets,
+            sizes,
+            rooms,
+            position,
+            loads,
+            scratch,
+            &mut out[at..end],
+        );
+        position += 1;
+    }
+    at
+}
