@@ -1,38 +1,20 @@
--- Each case of the answer has its numbers.
+-- `shelf_modules` hands back the numbers of the case that `modules` answers, and that case is the decision's.
 use Rattle.counting.specs.Contents.{moduleCount}
-use mathlib.Core.Path.{sym, _∙_}
 use Rattle.shelf_c.proofs.Reporting.{listed-answers, listed-refuses}
 use borrow.Author.Needs.{needs}
 use Rattle.shelf_c.proofs.counted.shelf_modules.Statement.{statement}
 use Rattle.shelf_c.proofs.counted.shelf_modules.Tie as tie
-use Rattle.shelf_c.proofs.counted.shelf_modules.Reads as reads
-use Rattle.shelf_c.proofs.counted.shelf_modules.Lts as lts
-use Rattle.counting.proofs.contents.modules.Reads as modules-reads
 
--- src/counted.rt:47:11
-modules-requires : tie.Need-modules-requires
-modules-requires c κs = search needs
-
--- src/counted.rt:48:25
-enum-known-count : tie.Need-enum-known-count
-enum-known-count c = search needs
-
--- src/counted.rt:53:27
-enum-known-number : tie.Need-enum-known-number
-enum-known-number c = search needs
-
--- src/counted.rt:41:1
 returns : tie.Need-returns
 returns c =
-    let is = sym (c .before .count .given .1) ∙ c .before .before .before .modules .ensures in
-    listed-answers (moduleCount (c .before .before .before .before .before .args .file .now)) is
+    let start : tie.Start = c .before .before .before .before .before in
+    listed-answers (moduleCount (start .args .file .now)) (c .before .count .given .1) (c .before .before .before .modules .ensures)
 
--- src/counted.rt:41:1
 returns-2 : tie.Need-returns-2
 returns-2 c =
-    let is = sym (c .before .number .given .1) ∙ c .before .before .before .modules .ensures in
-    listed-refuses (moduleCount (c .before .before .before .before .before .args .file .now)) is
+    let start : tie.Start = c .before .before .before .before .before in
+    listed-refuses (moduleCount (start .args .file .now)) (c .before .number .given .1) (c .before .before .before .modules .ensures)
 
 pub shelf-modules-spec : {M : Type 1} → statement M
 shelf-modules-spec =
-    tie.close (tie.spec modules-requires enum-known-count enum-known-number returns returns-2)
+    tie.close (tie.spec (λ c κs. search needs) (λ c. search needs) (λ c. search needs) returns returns-2)
