@@ -1,12 +1,9 @@
--- Case after case, the lists as long as they were.
+-- `check_all` ends, for `left` falls, and each case leaves both lists as long as they were.
 use mathlib.Core.Path.{_≡_}
 use borrow.Author.Needs.{needs}
 use lib.ListN.{length}
 use Rattle.check_cases.proofs.check_all.Statement.{statement}
 use Rattle.check_cases.proofs.check_all.Tie as tie
-use Rattle.check_cases.proofs.check_all.Reads as reads
-use Rattle.check_cases.proofs.check_all.Lts as lts
-use Rattle.check_cases.proofs.check_case.Reads as check-case-reads
 
 abbrev Inv-loop : tie.InvT-loop
 Inv-loop label₀ file₀ left₀ label file left = (length label ≡ length label₀) × (length file ≡ length file₀)
@@ -14,64 +11,20 @@ Inv-loop label₀ file₀ left₀ label file left = (length label ≡ length lab
 abbrev μ-loop : tie.MeasureT-loop
 μ-loop label₀ file₀ left₀ label file left = left
 
--- src/main.rt:18:5
-loop-holds : tie.Need-loop-holds Inv-loop μ-loop
-loop-holds c = search needs
-
--- src/main.rt:19:13
-check-case-requires : tie.Need-check-case-requires Inv-loop μ-loop
-check-case-requires c κs = search needs
-
--- src/main.rt:20:13
-same-length : tie.Need-same-length Inv-loop μ-loop
-same-length c = search needs
-
--- src/main.rt:20:13
-same-length-2 : tie.Need-same-length-2 Inv-loop μ-loop
-same-length-2 c = search needs
-
--- src/main.rt:20:13
-returns : tie.Need-returns Inv-loop μ-loop
-returns c = search needs
-
--- src/main.rt:22:9
-sub-left : tie.Need-sub-left Inv-loop μ-loop
-sub-left c = search needs
-
--- src/main.rt:18:5
-loop-less : tie.Need-loop-less Inv-loop μ-loop
-loop-less c = search needs
-
--- src/main.rt:18:5
-loop-again : tie.Need-loop-again Inv-loop μ-loop
-loop-again c = search needs
-
--- src/main.rt:16:1
-same-length-3 : tie.Need-same-length-3 Inv-loop μ-loop
-same-length-3 c = search needs
-
--- src/main.rt:16:1
-same-length-4 : tie.Need-same-length-4 Inv-loop μ-loop
-same-length-4 c = search needs
-
--- src/main.rt:16:1
-returns-2 : tie.Need-returns-2 Inv-loop μ-loop
-returns-2 c = search needs
-
 pub check-all-spec : {M : Type 1} → statement M
 check-all-spec =
     tie.close
     (tie.spec
     Inv-loop
     μ-loop
-    loop-holds
-    check-case-requires
-    same-length
-    same-length-2
-    returns
-    sub-left
-    loop-less
-    loop-again
-    same-length-3
-    same-length-4
-    returns-2)
+    (λ c. search needs)
+    (λ c κs. search needs)
+    (λ c. search needs)
+    (λ c. search needs)
+    (λ c. search needs)
+    (λ c. search needs)
+    (λ c. search needs)
+    (λ c. search needs)
+    (λ c. search needs)
+    (λ c. search needs)
+    (λ c. search needs))
