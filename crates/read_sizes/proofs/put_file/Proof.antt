@@ -1,4 +1,4 @@
--- `put_file` keeps the list as long as it is, in both loops.
+-- `put_file` ends, for what is left falls in both loops, and each step keeps the list as long as it is.
 use mathlib.Core.Path.{_≡_}
 use borrow.Author.Needs.{needs}
 use lib.ListN.{length}
@@ -17,60 +17,6 @@ Inv-loop2 out₀ head at₀ large small₀ out at small = length out ≡ length 
 abbrev μ-loop2 : tie.MeasureT-loop2
 μ-loop2 out₀ head at₀ large small₀ out at small = small
 
-put-requires : tie.Need-put-requires Inv-loop μ-loop Inv-loop2 μ-loop2
-put-requires c κs = search needs
-
-put-requires-2 : tie.Need-put-requires-2 Inv-loop μ-loop Inv-loop2 μ-loop2
-put-requires-2 c κs = search needs
-
-put-requires-3 : tie.Need-put-requires-3 Inv-loop μ-loop Inv-loop2 μ-loop2
-put-requires-3 c κs = search needs
-
-put-requires-4 : tie.Need-put-requires-4 Inv-loop μ-loop Inv-loop2 μ-loop2
-put-requires-4 c κs = search needs
-
-put-requires-5 : tie.Need-put-requires-5 Inv-loop μ-loop Inv-loop2 μ-loop2
-put-requires-5 c κs = search needs
-
-put-requires-6 : tie.Need-put-requires-6 Inv-loop μ-loop Inv-loop2 μ-loop2
-put-requires-6 c κs = search needs
-
-loop-holds : tie.Need-loop-holds Inv-loop μ-loop Inv-loop2 μ-loop2
-loop-holds c = search needs
-
-put-large-requires : tie.Need-put-large-requires Inv-loop μ-loop Inv-loop2 μ-loop2
-put-large-requires c κs = search needs
-
-sub-large : tie.Need-sub-large Inv-loop μ-loop Inv-loop2 μ-loop2
-sub-large c = search needs
-
-loop-less : tie.Need-loop-less Inv-loop μ-loop Inv-loop2 μ-loop2
-loop-less c = search needs
-
-loop-again : tie.Need-loop-again Inv-loop μ-loop Inv-loop2 μ-loop2
-loop-again c = search needs
-
-loop2-holds : tie.Need-loop2-holds Inv-loop μ-loop Inv-loop2 μ-loop2
-loop2-holds c = search needs
-
-put-small-requires : tie.Need-put-small-requires Inv-loop μ-loop Inv-loop2 μ-loop2
-put-small-requires c κs = search needs
-
-sub-small : tie.Need-sub-small Inv-loop μ-loop Inv-loop2 μ-loop2
-sub-small c = search needs
-
-loop2-less : tie.Need-loop2-less Inv-loop μ-loop Inv-loop2 μ-loop2
-loop2-less c = search needs
-
-loop2-again : tie.Need-loop2-again Inv-loop μ-loop Inv-loop2 μ-loop2
-loop2-again c = search needs
-
-same-length : tie.Need-same-length Inv-loop μ-loop Inv-loop2 μ-loop2
-same-length c = search needs
-
-returns : tie.Need-returns Inv-loop μ-loop Inv-loop2 μ-loop2
-returns c = search needs
-
 pub put-file-spec : {M : Type 1} → statement M
 put-file-spec =
     tie.close
@@ -79,21 +25,21 @@ put-file-spec =
     μ-loop
     Inv-loop2
     μ-loop2
-    put-requires
-    put-requires-2
-    put-requires-3
-    put-requires-4
-    put-requires-5
-    put-requires-6
-    loop-holds
-    put-large-requires
-    sub-large
-    loop-less
-    loop-again
-    loop2-holds
-    put-small-requires
-    sub-small
-    loop2-less
-    loop2-again
-    same-length
-    returns)
+    (λ c κs. search needs)
+    (λ c κs. search needs)
+    (λ c κs. search needs)
+    (λ c κs. search needs)
+    (λ c κs. search needs)
+    (λ c κs. search needs)
+    (λ c. search needs)
+    (λ c κs. search needs)
+    (λ c. search needs)
+    (λ c. search needs)
+    (λ c. search needs)
+    (λ c. search needs)
+    (λ c κs. search needs)
+    (λ c. search needs)
+    (λ c. search needs)
+    (λ c. search needs)
+    (λ c. search needs)
+    (λ c. search needs))
