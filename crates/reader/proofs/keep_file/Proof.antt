@@ -24,15 +24,6 @@ there c = counted mostModules (stands-first (entry c .pre .0)) (c .way .given .1
 keep-count-requires : tie.Need-keep-count-requires
 keep-count-requires c κs = stands-first (c .before .before .before .before .before .pre .0)
 
-enum-known-way : tie.Need-enum-known-way
-enum-known-way c = search needs
-
-enum-told : tie.Need-enum-told
-enum-told c = search needs
-
-same-length : tie.Need-same-length
-same-length c = search needs
-
 returns : tie.Need-returns
 returns c = through-refused (c .enum-told .given .1) (c .before .before .before .before .keep-count .ensures)
 
@@ -60,15 +51,6 @@ keep-modules-requires c κs =
       record { inNumbers = omega (arith, fit .inNumbers); inBytes = omega (arith, fit .inBytes) },
     )
 
-same-length-2 : tie.Need-same-length-2
-same-length-2 c = search needs
-
-same-length-3 : tie.Need-same-length-3
-same-length-3 c = search needs
-
-same-length-4 : tie.Need-same-length-4
-same-length-4 c = search needs
-
 returns-2 : tie.Need-returns-2
 returns-2 c =
     let modules : tie.After-keep-modules = c .before .before .before .before .before .before in
@@ -79,16 +61,16 @@ keep-file-spec =
     tie.close
     (tie.spec
     keep-count-requires
-    enum-known-way
-    enum-told
-    same-length
+    (λ c. search needs)
+    (λ c. search needs)
+    (λ c. search needs)
     returns
     sub-count
     mul-count
     slice-read-count
     cast-count
     keep-modules-requires
-    same-length-2
-    same-length-3
-    same-length-4
+    (λ c. search needs)
+    (λ c. search needs)
+    (λ c. search needs)
     returns-2)

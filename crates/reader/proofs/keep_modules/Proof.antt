@@ -1,4 +1,4 @@
--- `keep_modules` takes the step of so many modules and notes where each begins. The loop's invariant is `Passing`.
+-- `keep_modules` takes the step of so many modules: each turn notes where one begins and reads it, and `Passing` holds at each.
 use Prim.Native.Nat.{_-_}
 use mathlib.Core.Path.{_≡_}
 use native.Mathlib.Omega.{arith}
@@ -50,15 +50,6 @@ mul-offsets c =
     let l = offsets-length (c .before) in
     omega (arith, entry (c .before) .good)
 
-keep-module-requires : tie.Need-keep-module-requires Inv-loop μ-loop
-keep-module-requires c κs = c .before .before .loop .inv .turning .stands
-
-enum-known-way : tie.Need-enum-known-way Inv-loop μ-loop
-enum-known-way c = search needs
-
-enum-told : tie.Need-enum-told Inv-loop μ-loop
-enum-told c = search needs
-
 returns : tie.Need-returns Inv-loop μ-loop
 returns c =
     let turn : tie.In-loop Inv-loop μ-loop = c .before .before .before .before .before .before in
@@ -75,12 +66,6 @@ same-length-2 c = simp length-set (starts-length (c .before .before .before .bef
 
 same-length-3 : tie.Need-same-length-3 Inv-loop μ-loop
 same-length-3 c = simp length-set (offsets-length (c .before .before .before .before .before .before .before))
-
-add-i : tie.Need-add-i Inv-loop μ-loop
-add-i c = omega arith
-
-loop-less : tie.Need-loop-less Inv-loop μ-loop
-loop-less c = omega arith
 
 loop-again : tie.Need-loop-again Inv-loop μ-loop
 loop-again c =
@@ -113,15 +98,15 @@ keep-modules-spec =
     slice-write-starts
     mul-offsets
     slice-write-offsets
-    keep-module-requires
-    enum-known-way
-    enum-told
+    (λ c κs. search needs)
+    (λ c. search needs)
+    (λ c. search needs)
     same-length
     same-length-2
     same-length-3
     returns
-    add-i
-    loop-less
+    (λ c. omega arith)
+    (λ c. omega arith)
     loop-again
     same-length-4
     same-length-5

@@ -24,24 +24,6 @@ room c = let few = short c in omega (arith, entry c .pre .numbersFit)
 returns : tie.Need-returns
 returns c = decoded-long (c .if1 .taken)
 
-keep-file-requires : tie.Need-keep-file-requires
-keep-file-requires c κs = search needs
-
-enum-known-number : tie.Need-enum-known-number
-enum-known-number c = search needs
-
-enum-known-spot : tie.Need-enum-known-spot
-enum-known-spot c = search needs
-
-same-length : tie.Need-same-length
-same-length c = search needs
-
-same-length-2 : tie.Need-same-length-2
-same-length-2 c = search needs
-
-same-length-3 : tie.Need-same-length-3
-same-length-3 c = search needs
-
 returns-2 : tie.Need-returns-2
 returns-2 c =
     let p : tie.After-spot = c .before .before .before in
@@ -55,28 +37,10 @@ slice-read-t21 c =
 cast-t18 : tie.Need-cast-t18
 cast-t18 c = omega (arith, c .slice-known7 .given 0)
 
-same-length-4 : tie.Need-same-length-4
-same-length-4 c = search needs
-
-same-length-5 : tie.Need-same-length-5
-same-length-5 c = search needs
-
-same-length-6 : tie.Need-same-length-6
-same-length-6 c = search needs
-
 returns-3 : tie.Need-returns-3
 returns-3 c =
     let file : tie.After-keep-file = c .before .before .before .before .before .before .before .before .before in
     decoded-refused (file .before .before .before .before .if1 .left) (file .keep-file .ensures) (c .before .number .given .1)
-
-same-length-7 : tie.Need-same-length-7
-same-length-7 c = search needs
-
-same-length-8 : tie.Need-same-length-8
-same-length-8 c = search needs
-
-same-length-9 : tie.Need-same-length-9
-same-length-9 c = search needs
 
 returns-4 : tie.Need-returns-4
 returns-4 c =
@@ -88,20 +52,20 @@ read-spec =
     tie.close
     (tie.spec
     returns
-    keep-file-requires
-    enum-known-number
-    enum-known-spot
-    same-length
-    same-length-2
-    same-length-3
+    (λ c κs. search needs)
+    (λ c. search needs)
+    (λ c. search needs)
+    (λ c. search needs)
+    (λ c. search needs)
+    (λ c. search needs)
     returns-2
     slice-read-t21
     cast-t18
-    same-length-4
-    same-length-5
-    same-length-6
+    (λ c. search needs)
+    (λ c. search needs)
+    (λ c. search needs)
     returns-3
-    same-length-7
-    same-length-8
-    same-length-9
+    (λ c. search needs)
+    (λ c. search needs)
+    (λ c. search needs)
     returns-4)

@@ -20,18 +20,6 @@ there : (c : tie.After-way)
     (c .way .given .0 .0) (counting c .keep-count .last .1 .1 .1 .0)
 there c = counted mostOccurrences (entry c .pre) (c .way .given .1) (counting c .keep-count .ensures)
 
-keep-count-requires : tie.Need-keep-count-requires
-keep-count-requires c κs = search needs
-
-enum-known-way : tie.Need-enum-known-way
-enum-known-way c = search needs
-
-enum-told : tie.Need-enum-told
-enum-told c = search needs
-
-same-length : tie.Need-same-length
-same-length c = search needs
-
 returns : tie.Need-returns
 returns c =
     takes-ended (readMany readOccurrence) (c .enum-told .given .1) (c .before .before .before .before .keep-count .ensures)
@@ -51,9 +39,6 @@ slice-read-count c = there (c .before .before .before) .within
 keep-occurrences-requires : tie.Need-keep-occurrences-requires
 keep-occurrences-requires c κs = there (c .before .before .before .before) .there .stands
 
-same-length-2 : tie.Need-same-length-2
-same-length-2 c = search needs
-
 returns-2 : tie.Need-returns-2
 returns-2 c =
     let p : tie.After-way = c .before .before .before .before .before .before .before in
@@ -63,14 +48,14 @@ pub keep-body-spec : {M : Type 1} → statement M
 keep-body-spec =
     tie.close
     (tie.spec
-    keep-count-requires
-    enum-known-way
-    enum-told
-    same-length
+    (λ c κs. search needs)
+    (λ c. search needs)
+    (λ c. search needs)
+    (λ c. search needs)
     returns
     sub-count
     mul-count
     slice-read-count
     keep-occurrences-requires
-    same-length-2
+    (λ c. search needs)
     returns-2)

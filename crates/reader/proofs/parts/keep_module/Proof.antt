@@ -48,18 +48,6 @@ outputs : (c : tie.After-outputs)
     (c .outputs .given .0 .0) (outs c .keep-nets2 .last .1 .1 .0)
 outputs c = reached sound-nets (inputs (behind-inputs c) .stands) (c .outputs .given .1) (outs c .keep-nets2 .ensures)
 
-keep-number-requires : tie.Need-keep-number-requires
-keep-number-requires c κs = search needs
-
-enum-known-named : tie.Need-enum-known-named
-enum-known-named c = search needs
-
-enum-told : tie.Need-enum-told
-enum-told c = search needs
-
-same-length : tie.Need-same-length
-same-length c = search needs
-
 returns : tie.Need-returns
 returns c =
     takes-alike alike-module
@@ -68,15 +56,6 @@ returns c =
 
 keep-nets-requires : tie.Need-keep-nets-requires
 keep-nets-requires c κs = named (c .before .before) .stands
-
-enum-known-inputs : tie.Need-enum-known-inputs
-enum-known-inputs c = search needs
-
-enum-told-2 : tie.Need-enum-told-2
-enum-told-2 c = search needs
-
-same-length-2 : tie.Need-same-length-2
-same-length-2 c = search needs
 
 returns-2 : tie.Need-returns-2
 returns-2 c =
@@ -88,15 +67,6 @@ returns-2 c =
 keep-nets-requires-2 : tie.Need-keep-nets-requires-2
 keep-nets-requires-2 c κs = inputs (c .before .before) .stands
 
-enum-known-outputs : tie.Need-enum-known-outputs
-enum-known-outputs c = search needs
-
-enum-told-3 : tie.Need-enum-told-3
-enum-told-3 c = search needs
-
-same-length-3 : tie.Need-same-length-3
-same-length-3 c = search needs
-
 returns-3 : tie.Need-returns-3
 returns-3 c =
     let p : tie.After-keep-nets2 = c .before .before .before .before in
@@ -107,9 +77,6 @@ returns-3 c =
 
 keep-body-requires : tie.Need-keep-body-requires
 keep-body-requires c κs = outputs (c .before .before) .stands
-
-same-length-4 : tie.Need-same-length-4
-same-length-4 c = search needs
 
 returns-4 : tie.Need-returns-4
 returns-4 c =
@@ -123,21 +90,21 @@ pub keep-module-spec : {M : Type 1} → statement M
 keep-module-spec =
     tie.close
     (tie.spec
-    keep-number-requires
-    enum-known-named
-    enum-told
-    same-length
+    (λ c κs. search needs)
+    (λ c. search needs)
+    (λ c. search needs)
+    (λ c. search needs)
     returns
     keep-nets-requires
-    enum-known-inputs
-    enum-told-2
-    same-length-2
+    (λ c. search needs)
+    (λ c. search needs)
+    (λ c. search needs)
     returns-2
     keep-nets-requires-2
-    enum-known-outputs
-    enum-told-3
-    same-length-3
+    (λ c. search needs)
+    (λ c. search needs)
+    (λ c. search needs)
     returns-3
     keep-body-requires
-    same-length-4
+    (λ c. search needs)
     returns-4)

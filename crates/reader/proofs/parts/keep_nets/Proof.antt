@@ -20,18 +20,6 @@ there : (c : tie.After-way)
     (c .way .given .0 .0) (counting c .keep-count .last .1 .1 .1 .0)
 there c = counted mostNets (entry c .pre) (c .way .given .1) (counting c .keep-count .ensures)
 
-keep-count-requires : tie.Need-keep-count-requires
-keep-count-requires c κs = search needs
-
-enum-known-way : tie.Need-enum-known-way
-enum-known-way c = search needs
-
-enum-told : tie.Need-enum-told
-enum-told c = search needs
-
-same-length : tie.Need-same-length
-same-length c = search needs
-
 returns : tie.Need-returns
 unfolding readNets
 returns c =
@@ -52,9 +40,6 @@ slice-read-count c = there (c .before .before .before) .within
 keep-numbers-requires : tie.Need-keep-numbers-requires
 keep-numbers-requires c κs = there (c .before .before .before .before) .there .stands
 
-same-length-2 : tie.Need-same-length-2
-same-length-2 c = search needs
-
 returns-2 : tie.Need-returns-2
 unfolding readNets
 returns-2 c =
@@ -65,14 +50,14 @@ pub keep-nets-spec : {M : Type 1} → statement M
 keep-nets-spec =
     tie.close
     (tie.spec
-    keep-count-requires
-    enum-known-way
-    enum-told
-    same-length
+    (λ c κs. search needs)
+    (λ c. search needs)
+    (λ c. search needs)
+    (λ c. search needs)
     returns
     sub-count
     mul-count
     slice-read-count
     keep-numbers-requires
-    same-length-2
+    (λ c. search needs)
     returns-2)

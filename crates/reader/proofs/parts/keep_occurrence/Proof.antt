@@ -34,18 +34,6 @@ refers : (c : tie.After-refers)
     (c .refers .given .0 .0) (number c .keep-number .last .1 .1 .0)
 refers c = reached sound-number (driven (behind c) .stands) (c .refers .given .1) (number c .keep-number .ensures)
 
-keep-nets-requires : tie.Need-keep-nets-requires
-keep-nets-requires c κs = search needs
-
-enum-known-driven : tie.Need-enum-known-driven
-enum-known-driven c = search needs
-
-enum-told : tie.Need-enum-told
-enum-told c = search needs
-
-same-length : tie.Need-same-length
-same-length c = search needs
-
 returns : tie.Need-returns
 returns c =
     takes-alike alike-occurrence
@@ -53,15 +41,6 @@ returns c =
 
 keep-number-requires : tie.Need-keep-number-requires
 keep-number-requires c κs = driven (c .before .before) .stands
-
-enum-known-refers : tie.Need-enum-known-refers
-enum-known-refers c = search needs
-
-enum-told-2 : tie.Need-enum-told-2
-enum-told-2 c = search needs
-
-same-length-2 : tie.Need-same-length-2
-same-length-2 c = search needs
 
 returns-2 : tie.Need-returns-2
 returns-2 c =
@@ -73,9 +52,6 @@ returns-2 c =
 keep-nets-requires-2 : tie.Need-keep-nets-requires-2
 keep-nets-requires-2 c κs = refers (c .before .before) .stands
 
-same-length-3 : tie.Need-same-length-3
-same-length-3 c = search needs
-
 returns-3 : tie.Need-returns-3
 returns-3 c =
     let p : tie.After-refers = c .before .before .before .before .before in
@@ -86,16 +62,16 @@ pub keep-occurrence-spec : {M : Type 1} → statement M
 keep-occurrence-spec =
     tie.close
     (tie.spec
-    keep-nets-requires
-    enum-known-driven
-    enum-told
-    same-length
+    (λ c κs. search needs)
+    (λ c. search needs)
+    (λ c. search needs)
+    (λ c. search needs)
     returns
     keep-number-requires
-    enum-known-refers
-    enum-told-2
-    same-length-2
+    (λ c. search needs)
+    (λ c. search needs)
+    (λ c. search needs)
     returns-2
     keep-nets-requires-2
-    same-length-3
+    (λ c. search needs)
     returns-3)

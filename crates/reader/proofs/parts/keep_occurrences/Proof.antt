@@ -1,4 +1,4 @@
--- `keep_occurrences` takes the step of so many occurrences. The loop's invariant is `Turning`.
+-- `keep_occurrences` takes the step of so many occurrences: in each turn the way of what is left is the way of all (`Turning`).
 use native.Mathlib.Omega.{arith}
 use borrow.Author.Needs.{needs}
 use Rattle.meaning.specs.Reading.{readOccurrence}
@@ -18,15 +18,6 @@ abbrev μ-loop : tie.MeasureT-loop
 loop-holds : tie.Need-loop-holds Inv-loop μ-loop
 loop-holds c = turn-first (c .before .before .pre)
 
-keep-occurrence-requires : tie.Need-keep-occurrence-requires Inv-loop μ-loop
-keep-occurrence-requires c κs = c .before .before .loop .inv .stands
-
-enum-known-way : tie.Need-enum-known-way Inv-loop μ-loop
-enum-known-way c = search needs
-
-enum-told : tie.Need-enum-told Inv-loop μ-loop
-enum-told c = search needs
-
 returns : tie.Need-returns Inv-loop μ-loop
 returns c =
     let turn : tie.In-loop Inv-loop μ-loop = c .before .before .before .before .before .before in
@@ -37,12 +28,6 @@ same-length : tie.Need-same-length Inv-loop μ-loop
 same-length c =
     let start : tie.Start Inv-loop μ-loop = c .before .before .before .before .before .before .before .before .before .before in
     lays-length (start .pre .room) (returns c .lays)
-
-sub-left : tie.Need-sub-left Inv-loop μ-loop
-sub-left c = omega arith
-
-loop-less : tie.Need-loop-less Inv-loop μ-loop
-loop-less c = omega arith
 
 loop-again : tie.Need-loop-again Inv-loop μ-loop
 loop-again c =
@@ -64,13 +49,13 @@ keep-occurrences-spec =
     Inv-loop
     μ-loop
     loop-holds
-    keep-occurrence-requires
-    enum-known-way
-    enum-told
+    (λ c κs. search needs)
+    (λ c. search needs)
+    (λ c. search needs)
     same-length
     returns
-    sub-left
-    loop-less
+    (λ c. omega arith)
+    (λ c. omega arith)
     loop-again
     same-length-2
     returns-2)

@@ -18,15 +18,6 @@ is : (c : tie.After-known-told2)
     ≡ numberOf (stepFrom readNumber (entry c .args .bytes .now) (entry c .args .spot))
 is c = sym (c .before .value .given .1) ∙ c .before .before .before .read-number .ensures
 
-read-number-requires : tie.Need-read-number-requires
-read-number-requires c κs = search needs
-
-enum-known-number : tie.Need-enum-known-number
-enum-known-number c = search needs
-
-enum-known-value : tie.Need-enum-known-value
-enum-known-value c = search needs
-
 returns : tie.Need-returns
 returns c = count-over (entry (c .before) .pre) (is (c .before)) (entry (c .before) .args .ceiling) (c .if1 .taken)
 
@@ -45,9 +36,6 @@ returns-2 c =
     let none = sym (c .before .number .given .1) ∙ c .before .before .before .read-number .ensures in
     count-refused (start .pre) none (start .args .ceiling)
 
-same-length : tie.Need-same-length
-same-length c = search needs
-
 returns-3 : tie.Need-returns-3
 returns-3 c = count-kept (entry (c .before) .pre) (is (c .before)) (entry (c .before) .args .ceiling) (c .if1 .left)
 
@@ -55,13 +43,13 @@ pub keep-count-spec : {M : Type 1} → statement M
 keep-count-spec =
     tie.close
     (tie.spec
-    read-number-requires
-    enum-known-number
-    enum-known-value
+    (λ c κs. search needs)
+    (λ c. search needs)
+    (λ c. search needs)
     returns
     mul-numbers
     slice-write-numbers
     add-t14
     returns-2
-    same-length
+    (λ c. search needs)
     returns-3)

@@ -5,12 +5,6 @@ use borrow.Author.Needs.{needs}
 use Rattle.reader.proofs.way.keep_number.Statement.{statement}
 use Rattle.reader.proofs.way.keep_number.Tie as tie
 
-keep-count-requires : tie.Need-keep-count-requires
-keep-count-requires c κs = search needs
-
-same-length : tie.Need-same-length
-same-length c = search needs
-
 returns : tie.Need-returns
 returns c =
     let start : tie.Start = c .before .before .before .before .before .before in
@@ -20,4 +14,4 @@ returns c =
     record { answers = rw (count-largest bytes (start .args .spot .place)) at (kept .answers); lays = kept .lays }
 
 pub keep-number-spec : {M : Type 1} → statement M
-keep-number-spec = tie.close (tie.spec keep-count-requires same-length returns)
+keep-number-spec = tie.close (tie.spec (λ c κs. search needs) (λ c. search needs) returns)
