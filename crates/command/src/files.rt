@@ -1,5 +1,4 @@
 // Bytes from a file, and bytes to a file.
-ghost use Rattle.io.specs.Counts.{Counts};
 use libc::STDIN_FILENO;
 
 // What became of reading a file.
@@ -34,15 +33,12 @@ pub(crate) fn load(path: &[u8], buffer: &mut [u8]) -> Loaded {
 }
 
 // Puts a path with `.part` behind it into a buffer.
-fn partial(path: &[u8], buffer: &mut [u8]) -> usize
-    ensures { λ r. ⌜ Counts r (now (buffer .exit)) ⌝ }
-{
+fn partial(path: &[u8], buffer: &mut [u8]) -> usize {
     if buffer.len() < path.len() + 5 {
         return 0;
     }
     let at = text::put_bytes(path, buffer, 0);
-    let long = text::put_bytes(b".part", buffer, at);
-    crate::words::at_most(long, buffer)
+    text::put_bytes(b".part", buffer, at)
 }
 
 // Writes a file whole: under another name first, which then takes the place of the file. Answers whether all went well; if not, the
@@ -50,19 +46,24 @@ fn partial(path: &[u8], buffer: &mut [u8]) -> usize
 pub(crate) fn save(path: &[u8], bytes: &[u8]) -> bool {
     let mut name = io::buffer();
     let long = partial(path, &mut name);
-    let descriptor = os::create(&name[..long]);
+    save_through(crate::words::front(long, &name), path, bytes)
+}
+
+fn save_through(part: &[u8], path: &[u8], bytes: &[u8]) -> bool {
+    let descriptor = os::create(part);
     if descriptor < 0 {
         return false;
     }
-    let written = io::write_all(descriptor, bytes);
-    let closed = libc::close(descriptor);
-    if !written || closed < 0 {
-        os::unlink(&name[..long]);
-        return false;
-    }
-    if os::rename(&name[..long], path) < 0 {
-        os::unlink(&name[..long]);
+    if !write_out(descriptor, bytes) || os::rename(part, path) < 0 {
+        os::unlink(part);
         return false;
     }
     true
+}
+
+// Answers whether all was written and the file closed well.
+fn write_out(descriptor: i32, bytes: &[u8]) -> bool {
+    let written = io::write_all(descriptor, bytes);
+    let closed = libc::close(descriptor);
+    written && 0 <= closed
 }

@@ -1,56 +1,74 @@
 // The command `gimlet`, all of it but where its words come from: so that it can be held to stored lines. It decides nothing itself. Each
 // answer is one line on standard output; a refusal has a second line that says in words which rule it is and what the place means.
 mod asking; // asking.rt: check, list, count and run
+mod counted; // counted.rt: the figures of a module
 mod files; // files.rt: bytes in, bytes out
 mod making; // making.rt: flatten, adder and counter
-mod saying; // saying.rt: lines and words
+mod refusing; // refusing.rt: refusals in words
+mod saying; // saying.rt: lines, what could not be carried out, and the help
 mod words; // words.rt: the words of a command line
 
-pub use words::at_most;
+pub use words::front;
 use words::is;
 use words::word_at;
 
 // Performs the command of a line, whose words each end with a byte of 0.
 pub fn perform(line: &[u8]) {
-    let name = word_at(line, 0);
-    let name_from = name.from;
-    let name_to = name.to;
-    let first = word_at(line, 1);
-    let first_from = first.from;
-    let first_to = first.to;
-    let second = word_at(line, 2);
-    let second_from = second.from;
-    let second_to = second.to;
-    let third = word_at(line, 3);
-    let third_from = third.from;
-    let third_to = third.to;
     carry_out(
         words::count(line),
-        &line[name_from..name_to],
-        &line[first_from..first_to],
-        &line[second_from..second_to],
-        &line[third_from..third_to],
+        word_at(line, 0),
+        word_at(line, 1),
+        word_at(line, 2),
+        word_at(line, 3),
     );
 }
 
-// The command of a name, asked for in so many words.
+// The command of a name, by how many words it is asked for in.
 fn carry_out(words: usize, name: &[u8], first: &[u8], second: &[u8], third: &[u8]) {
-    if words == 2 && is(name, b"check") {
-        asking::check(first);
-    } else if words == 2 && is(name, b"list") {
-        asking::list(first);
-    } else if words == 3 && is(name, b"count") {
-        asking::count(first, second);
-    } else if words == 4 && is(name, b"run") {
-        asking::run(first, second, third);
-    } else if words == 4 && is(name, b"flatten") {
-        making::flatten(first, second, third);
-    } else if words == 3 && is(name, b"adder") {
-        making::adder(first, second);
-    } else if words == 3 && is(name, b"counter") {
-        making::counter(first, second);
-    } else if words == 1 && is(name, b"help") {
+    match words {
+        1 => alone(name),
+        2 => with_one(name, first),
+        3 => with_two(name, first, second),
+        4 => with_three(name, first, second, third),
+        _ => saying::usage(),
+    }
+}
+
+fn alone(name: &[u8]) {
+    if is(name, b"help") {
         saying::help();
+    } else {
+        saying::usage();
+    }
+}
+
+fn with_one(name: &[u8], first: &[u8]) {
+    if is(name, b"check") {
+        asking::check(first);
+    } else if is(name, b"list") {
+        asking::list(first);
+    } else {
+        saying::usage();
+    }
+}
+
+fn with_two(name: &[u8], first: &[u8], second: &[u8]) {
+    if is(name, b"count") {
+        asking::count(first, second);
+    } else if is(name, b"adder") {
+        making::adder(first, second);
+    } else if is(name, b"counter") {
+        making::counter(first, second);
+    } else {
+        saying::usage();
+    }
+}
+
+fn with_three(name: &[u8], first: &[u8], second: &[u8], third: &[u8]) {
+    if is(name, b"run") {
+        asking::run(first, second, third);
+    } else if is(name, b"flatten") {
+        making::flatten(first, second, third);
     } else {
         saying::usage();
     }

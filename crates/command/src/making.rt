@@ -1,23 +1,25 @@
 // Commands that make a file.
 use crate::files::Loaded;
 use crate::words::Parsed;
+use crate::words::front;
 use shelf::Writing;
 
 // Writes what was made to a file, or says why nothing was made.
 fn keep(made: Writing, bytes: &[u8], path: &[u8]) {
     match made {
-        Writing::Refused { number, place } => crate::saying::refuse(number, place),
-        Writing::Wrote(count) => {
-            let long = crate::words::at_most(count, bytes);
-            if !crate::files::save(path, &bytes[..long]) {
-                crate::saying::fail(b"cannot write ", path);
-                return;
-            }
-            crate::saying::say(b"written ");
-            crate::saying::say_number(long as u64);
-            crate::saying::say(b"\n");
-        }
+        Writing::Refused { number, place } => crate::refusing::refuse(number, place),
+        Writing::Wrote(count) => write(front(count, bytes), path),
     }
+}
+
+fn write(bytes: &[u8], path: &[u8]) {
+    if !crate::files::save(path, bytes) {
+        crate::saying::fail(b"cannot write ", path);
+        return;
+    }
+    crate::saying::say(b"written ");
+    crate::saying::say_number(bytes.len() as u64);
+    crate::saying::end_line();
 }
 
 pub(crate) fn adder(width: &[u8], path: &[u8]) {
@@ -52,11 +54,10 @@ pub(crate) fn flatten(path: &[u8], number: &[u8], to: &[u8]) {
 fn flatten_module(path: &[u8], number: u16, to: &[u8]) {
     let mut file = io::large_buffer();
     match crate::files::load(path, &mut file) {
-        Loaded::Failed => crate::saying::fail(b"cannot read ", path),
+        Loaded::Failed => crate::saying::cannot_read(path),
         Loaded::Bytes(count) => {
-            let long = crate::words::at_most(count, &file);
             let mut scratch = [0u32; 40960];
-            flatten_in(&file[..long], number, &mut scratch, to);
+            flatten_in(front(count, &file), number, &mut scratch, to);
         }
     }
 }

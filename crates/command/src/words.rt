@@ -1,14 +1,6 @@
 // A command line: words that each end with a byte of 0.
 ghost use Prim.Native.Nat.{_≤_};
 ghost use lib.ListN.{length};
-ghost use Rattle.io.specs.Counts.{Counts};
-ghost use Rattle.command.specs.Words.{Inside};
-
-// Where a word stands in its line.
-pub(crate) struct Word {
-    pub from: usize,
-    pub to: usize,
-}
 
 // Where the word that begins at a place ends.
 fn end_of(line: &[u8], from: usize) -> usize
@@ -42,32 +34,27 @@ pub(crate) fn count(line: &[u8]) -> usize {
 }
 
 // The word with so many words in front of it; an empty one where the line has no such word.
-pub(crate) fn word_at(line: &[u8], before: usize) -> Word
-    ensures { λ r. ⌜ Inside (now (line .entry)) r ⌝ }
-{
+pub(crate) fn word_at<'a>(line: &'a [u8], before: usize) -> &'a [u8] {
     let mut from = 0;
     let mut left = before;
     while 0 < left {
         let to = end_of(line, from);
         if to == line.len() {
-            return Word { from: to, to };
+            return &line[to..];
         }
         from = to + 1;
         left -= 1;
     }
     let to = end_of(line, from);
-    Word { from, to }
+    &line[from..to]
 }
 
 // As many of the bytes as are counted, at most all.
-pub fn at_most(count: usize, bytes: &[u8]) -> usize
-    ensures { λ r. ⌜ Counts r (now (bytes .entry)) ⌝ }
-{
+pub fn front<'a>(count: usize, bytes: &'a [u8]) -> &'a [u8] {
     if bytes.len() < count {
-        bytes.len()
-    } else {
-        count
+        return bytes;
     }
+    &bytes[0..count]
 }
 
 // Whether a word is the one named.
@@ -91,22 +78,15 @@ pub(crate) enum Parsed {
 
 // A number from 0 to 65,535 in decimal.
 pub(crate) fn parse(word: &[u8]) -> Parsed {
-    if word.len() == 0 {
+    if word.len() == 0 || !all_digits(word) {
         return Parsed::Other;
     }
     let mut value: u32 = 0;
     for i in 0..word.len() {
-        let digit = word[i];
-        if digit < b'0' {
-            return Parsed::Other;
-        }
-        if b'9' < digit {
-            return Parsed::Other;
-        }
         if 6553 < value {
             return Parsed::Other;
         }
-        value = 10 * value + (digit - b'0') as u32;
+        value = 10 * value + value_of(word[i]) as u32;
     }
     if 65535 < value {
         return Parsed::Other;
@@ -117,10 +97,7 @@ pub(crate) fn parse(word: &[u8]) -> Parsed {
 // Whether each byte of a word is a digit.
 pub(crate) fn all_digits(word: &[u8]) -> bool {
     for i in 0..word.len() {
-        if word[i] < b'0' {
-            return false;
-        }
-        if b'9' < word[i] {
+        if word[i] < b'0' || b'9' < word[i] {
             return false;
         }
     }
@@ -129,18 +106,13 @@ pub(crate) fn all_digits(word: &[u8]) -> bool {
 
 // The digits of a word as numbers, at the front of a buffer. A word longer than the buffer is cut, and still longer than any list of
 // values that a module takes.
-pub(crate) fn to_values(word: &[u8], buffer: &mut [u8]) -> usize
-    ensures { λ r. ⌜ Counts r (now (buffer .exit)) ⌝ }
-{
+pub(crate) fn to_values(word: &[u8], buffer: &mut [u8]) -> usize {
     let mut i = 0;
-    while i < word.len() {
-        if buffer.len() <= i {
-            return at_most(i, buffer);
-        }
+    while i < word.len() && i < buffer.len() {
         buffer[i] = value_of(word[i]);
         i += 1;
     }
-    at_most(i, buffer)
+    i
 }
 
 // The value of a digit.

@@ -20,12 +20,16 @@ fn perform_all(lines: &mut [u8]) {
             return;
         }
         let next = to + 1;
-        io::write_all(STDOUT_FILENO, b"> ");
-        io::write_all(STDOUT_FILENO, &lines[from..next]);
-        end_words(lines, from, next);
-        command::perform(&lines[from..next]);
+        perform_line(&mut lines[from..next]);
         from = next;
     }
+}
+
+fn perform_line(line: &mut [u8]) {
+    io::write_all(STDOUT_FILENO, b"> ");
+    io::write_all(STDOUT_FILENO, line);
+    end_words(line);
+    command::perform(line);
 }
 
 // Where the line that begins at a place has its line feed; the end of all lines where it has none.
@@ -45,11 +49,9 @@ fn line_end(lines: &[u8], from: usize) -> usize
 }
 
 // A byte of 0 in place of each space and of the line feed.
-fn end_words(lines: &mut [u8], from: usize, to: usize)
-    requires { ⌜ to ≤ length (now lines) ⌝ }
-{
-    for i in from..to {
-        lines[i] = word_byte(lines[i]);
+fn end_words(line: &mut [u8]) {
+    for i in 0..line.len() {
+        line[i] = word_byte(line[i]);
     }
 }
 

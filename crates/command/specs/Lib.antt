@@ -1,2 +1,0 @@
--- Where words stand.
-pub mod Words

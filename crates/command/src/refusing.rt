@@ -1,0 +1,103 @@
+// A refusal, and in words what it means.
+use crate::saying::end_line;
+use crate::saying::say;
+use crate::saying::say_number;
+
+pub(crate) fn refuse(number: u16, place: usize) {
+    say(b"refused ");
+    say_number(number as u64);
+    say(b" ");
+    say_number(place as u64);
+    end_line();
+    say_place(number, place as u64);
+    say_rule(number);
+    end_line();
+}
+
+// Where it is: refusals 2 to 5 name a byte, 6 to 17 a module by its position, 20 a value.
+fn say_place(number: u16, place: u64) {
+    match number {
+        2..=5 => say_at(b"byte ", place),
+        6..=17 => say_at(b"module at position ", place),
+        20 => say_at(b"value ", place),
+        _ => {}
+    }
+}
+
+fn say_at(what: &[u8], place: u64) {
+    say(what);
+    say_number(place);
+    say(b": ");
+}
+
+// Which rule it is: of the bytes, of what a module begins with, of its occurrences, of all of it, of a call, or of what is made.
+fn say_rule(number: u16) {
+    match number {
+        1..=5 => say_rule_of_bytes(number),
+        6..=10 => say_rule_of_heads(number),
+        11..=14 => say_rule_of_occurrences(number),
+        15..=17 => say_rule_of_modules(number),
+        18..=22 => say_rule_of_calls(number),
+        _ => say_rule_of_making(number),
+    }
+}
+
+fn say_rule_of_bytes(number: u16) {
+    match number {
+        1 => say(b"the file is longer than 65,535 bytes"),
+        2 => say(b"the file ends where a byte is due"),
+        3 => say(b"the second byte of a number is 0, or 128 or more"),
+        4 => say(b"a count is over its ceiling"),
+        5 => say(b"bytes follow the last module"),
+        _ => {}
+    }
+}
+
+fn say_rule_of_heads(number: u16) {
+    match number {
+        6 => say(b"its number is under 16"),
+        7 => say(b"a later module has the same number"),
+        8 => say(b"an input is listed twice"),
+        9 => say(b"an output is listed twice"),
+        10 => say(b"a net is both input and output"),
+        _ => {}
+    }
+}
+
+fn say_rule_of_occurrences(number: u16) {
+    match number {
+        11 => say(b"an occurrence drives a net twice, or an input, or a net already driven"),
+        12 => say(b"an argument is neither an input nor driven earlier"),
+        13 => say(b"an occurrence refers to no gate and to no later module"),
+        14 => say(b"the count of arguments or driven nets does not match what is referred to"),
+        _ => {}
+    }
+}
+
+fn say_rule_of_modules(number: u16) {
+    match number {
+        15 => say(b"an output is not driven"),
+        16 => say(b"it has more than 4,096 nets"),
+        17 => say(b"its expanded size is over 65,535"),
+        _ => {}
+    }
+}
+
+fn say_rule_of_calls(number: u16) {
+    match number {
+        18 => say(b"no module of the file has that number"),
+        19 => say(b"the count of values is not the count of inputs"),
+        20 => say(b"it is above 2"),
+        21 => say(b"the scratch has fewer entries than the module's room"),
+        22 => say(b"the output buffer is shorter than the answer"),
+        _ => {}
+    }
+}
+
+fn say_rule_of_making(number: u16) {
+    match number {
+        23 => say(b"the width is not from 1 to 64"),
+        24 => say(b"flattened, the module has more than 4,096 nets"),
+        _ => {}
+    }
+}
