@@ -1,7 +1,8 @@
 /* The benchmark: the proved library against tuned C, the same calls in the same run.
  *
  * Each row is timed in many rounds, the two taking turns; the least time of each counts, as everything that disturbs
- * a run makes it longer. Before a row is timed, both must give the same answer. The last column is ours / theirs. */
+ * a run makes it longer. Before a row is timed, both must give the same answer. bench/run makes the table of the rows:
+ * call|on|bytes|ours, ns|theirs, ns|units|unit */
 #define _POSIX_C_SOURCE 200809L
 #include "files.h"
 #include "shelf.h"
@@ -162,11 +163,7 @@ static void row(const char *call, const char *on, task *run, int units, const ch
 
     agree(run, call);
     pair = measure(run);
-    printf("%-10s %-30s %6zu %12.0f %12.0f %7.2f", call, on, file.length, pair.ours, pair.theirs,
-           pair.ours / pair.theirs);
-    if (units > 0)
-        printf("  %7.2f %7.2f ns a%s", pair.ours / units, pair.theirs / units, unit);
-    printf("\n");
+    printf("%s|%s|%zu|%.1f|%.1f|%d|%s\n", call, on, file.length, pair.ours, pair.theirs, units, unit);
     fflush(stdout);
 }
 
@@ -238,7 +235,6 @@ static void writer_rows(void)
 
 int main(void)
 {
-    printf("%-10s %-30s %6s %12s %12s %7s\n", "call", "on", "bytes", "ours, ns", "tuned C, ns", "ratio");
     check_rows();
     evaluate_rows();
     count_rows();
