@@ -7,8 +7,8 @@ ghost use Rattle.meaning.specs.Calls.{counting};
 ghost use Rattle.counting.specs.Answers.{Counts};
 ghost use Rattle.counting.specs.Figuring.{Figurable, Figured};
 
-// The figures of the module at position k. Delay and load are worked out in scratch, one after the other. The loads of inputs are kept
-// in a list of their own.
+// The figures of the module at position k. Two walks work in scratch, one after the other: one for the delay, one for tally and load
+// together. The loads of inputs are kept in a list of their own.
 fn figures_at(
     image: &[u16],
     starts: &[usize],
@@ -28,10 +28,11 @@ fn figures_at(
     let header = runner::places::module_at(image, starts[k]);
     let inputs = header.inputs as u32;
     let outputs = (header.to - header.from) as u32;
-    let tally = figures::tally::tally_module(image, starts, k);
-    let gates = figures::tally::gates_of(tally);
     let delay = runner::delay(image, starts, nets, k, room as usize, scratch);
-    let load = figures::load::largest_load(image, starts, nets, k, room as usize, scratch, loads);
+    let weighed = figures::weigh::weigh(image, starts, nets, k, room as usize, scratch, loads);
+    let tally = weighed.tally;
+    let gates = figures::tally::gates_of(tally);
+    let load = weighed.load;
     Figures {
         inputs,
         outputs,

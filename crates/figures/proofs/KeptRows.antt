@@ -7,12 +7,12 @@ use mathlib.Core.List.{List, [], _∷_}
 use native.Mathlib.Omega.{arith}
 use borrow.Author.Tests.{eqb-true, eqb-false}
 use lib.Dec.{eqb}
-use lib.ListN.{length, getD, drop, set, replicate}
-use lib.Seq.{paste, getD-set-other, take-all}
+use lib.ListN.{length, getD, drop, replicate}
+use lib.Seq.{paste, take-all}
 use Rattle.meaning.specs.Syntax.{Module}
 use Rattle.meaning.specs.Figures.{tally}
 use Rattle.figures.specs.Tallies.{Countable}
-use Rattle.figures.specs.Rows.{row, Filled, Kept, Tallying}
+use Rattle.figures.specs.Rows.{row, RowWritten, Filled, Kept, Tallying}
 use Rattle.figures.proofs.Entries.{all-alike}
 use Rattle.figures.proofs.Copies.{either-first, copy-there, part-elsewhere}
 
@@ -33,34 +33,40 @@ none-kept rs =
 abbrev pub none-tallied : {image starts : List ℕ} {k : ℕ} → Countable image starts k → Tallying image starts k (replicate 2048 0) (replicate 128 false)
 none-tallied s = record { countable = s; kept = none-kept (s .rs) }
 
-module _ (counts : List ℕ) (k : ℕ) (rows : List ℕ) (filled : List Bool) where
-  -- A row filled with the sixteen counts.
-  pub row-filled :
-      k < length filled
-      → 16 * length filled ≤ length rows
+module _ (counts : List ℕ) (k count : ℕ) (rows : List ℕ) where
+  -- A row written with the sixteen counts.
+  pub row-written :
+      k < count
+      → 16 * count ≤ length rows
       → length counts ≡ 16
-      → Filled counts k rows filled (paste rows (16 * k) (drop 0 counts) 16) (set filled k true)
-  row-filled inside long sixteen =
+      → RowWritten counts k count rows (paste rows (16 * k) (drop 0 counts) 16)
+  row-written inside long sixteen =
       record {
-        here = λ e. copy-there rows (16 * k) counts 16 fits (omega arith) ∙ take-all 16 counts (omega arith);
-        others = λ j other. (getD-set-other filled k j true false other, apart j other);
+        here = λ _. copy-there rows (16 * k) counts 16 fits (omega arith) ∙ take-all 16 counts (omega arith);
+        others = λ j other.
+            part-elsewhere rows (16 * k) counts 16 fits (omega arith) (16 * j) 16
+            (⊎-elim (λ less. inl (omega arith)) (λ less. inr (omega arith)) (either-first j k other));
       }
     where
       fits : 16 * k + 16 ≤ length rows
       fits = omega arith
 
-      apart : (j : ℕ) → j ≢ k → row (paste rows (16 * k) counts 16) j ≡ row rows j
-      apart j other =
-          part-elsewhere rows (16 * k) counts 16 fits (omega arith) (16 * j) 16
-          (⊎-elim (λ less. inl (omega arith)) (λ less. inr (omega arith)) (either-first j k other))
+  -- Nothing is written of a position behind the rows.
+  pub none-written-behind : count ≤ k → RowWritten counts k count rows rows
+  none-written-behind behind = record { here = λ inside. absurd (omega arith); others = λ j other. refl }
 
-  -- Nothing is kept of a position behind the rows.
-  pub none-filled-behind : length filled ≤ k → Filled counts k rows filled rows filled
-  none-filled-behind behind =
-      record {
-        here = λ e. absurd (omega (arith, filled-inside filled k e));
-        others = λ j other. (refl, refl);
-      }
+-- A row that is written may be marked as filled.
+pub row-filled :
+    {counts : List ℕ} {k count : ℕ} {rows rows′ : List ℕ} {filled filled′ : List Bool}
+    → RowWritten counts k count rows rows′
+    → length filled′ ≡ count
+    → ((j : ℕ) → j ≢ k → getD filled′ j false ≡ getD filled j false)
+    → Filled counts k rows filled rows′ filled′
+row-filled {k = k} {filled′ = filled′} written long same =
+    record {
+      here = λ e. written .here (omega (arith, filled-inside filled′ k e));
+      others = λ j other. (same j other, written .others j other);
+    }
 
 -- What is kept, with one row more.
 pub more-kept :

@@ -2,6 +2,7 @@
 pub mod Entries
 pub mod Copies
 pub mod KeptRows
+pub mod KnownRows
 pub mod Counts
 pub mod Walks
 pub mod Beyond

@@ -5,7 +5,7 @@ ghost use mathlib.Core.Path.{_≡_};
 ghost use mathlib.Core.Bool.{false};
 ghost use Prim.Native.Nat.{_+_, _*_, _≤_};
 ghost use lib.ListN.{length, getD};
-ghost use Rattle.figures.specs.Rows.{row, Filled};
+ghost use Rattle.figures.specs.Rows.{row, RowWritten, Filled};
 
 // Whether the row of the module at position k is filled. A position behind the rows has none.
 pub(crate) fn is_filled(filled: &[bool], k: usize) -> bool
@@ -24,14 +24,24 @@ pub(crate) fn row_at(rows: &[u32], k: usize) -> Tally
     Tally { counts }
 }
 
+// Row k holds a tally, where it is one of so many rows.
+pub(crate) fn write_row(tally: Tally, k: usize, count: usize, rows: &mut [u32])
+    requires { ⌜ 16 * count ≤ length (now rows) ⌝ }
+    ensures { λ _. ⌜ RowWritten (tally .counts) k count (now (rows .entry)) (now (rows .exit)) ⌝ }
+{
+    if k < count {
+        let counts = tally.counts;
+        crate::copying::copy(&counts, 0, 16, rows, 16 * k);
+    }
+}
+
 // Row k is filled with a tally. A position behind the rows has none, and nothing is kept of it.
 pub(crate) fn fill_row(tally: Tally, k: usize, rows: &mut [u32], filled: &mut [bool])
     requires { ⌜ 16 * length (now filled) ≤ length (now rows) ⌝ }
     ensures { λ _. ⌜ Filled (tally .counts) k (now (rows .entry)) (now (filled .entry)) (now (rows .exit)) (now (filled .exit)) ⌝ }
 {
+    write_row(tally, k, filled.len(), rows);
     if k < filled.len() {
-        let counts = tally.counts;
-        crate::copying::copy(&counts, 0, 16, rows, 16 * k);
         filled[k] = true;
     }
 }

@@ -15,14 +15,14 @@ pub struct Tally {
 
 impl Tally {
     // No gate.
-    fn nothing() -> Tally
+    pub(crate) fn nothing() -> Tally
         ensures { λ r. ⌜ r .counts ≡ replicate 16 0 ⌝ }
     {
         Tally { counts: [0u32; 16] }
     }
 
     // One gate more of a kind. Each count is added to, so that no count is found by its place in memory and the record stays in registers.
-    fn with_gate(mut self, kind: usize) -> Tally
+    pub(crate) fn with_gate(mut self, kind: usize) -> Tally
         requires { ⌜ kind < 16 ⌝ }
         requires { ⌜ Addable (self .counts) (oneOf kind) ⌝ }
         ensures { λ r. ⌜ Added (self .counts) (oneOf kind) (r .counts) ⌝ }
@@ -34,7 +34,7 @@ impl Tally {
     }
 
     // The gates of another tally more.
-    fn with_tally(mut self, other: Tally) -> Tally
+    pub(crate) fn with_tally(mut self, other: Tally) -> Tally
         requires { ⌜ Addable (self .counts) (λ kind. getD (other .counts) kind 0) ⌝ }
         ensures { λ r. ⌜ Added (self .counts) (λ kind. getD (other .counts) kind 0) (r .counts) ⌝ }
     {

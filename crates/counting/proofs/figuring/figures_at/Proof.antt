@@ -1,4 +1,4 @@
--- The figures are worked out one after the other; the last two leave scratch cleared.
+-- The figures are worked out one after the other; the walks for the delay and for tally and load leave scratch cleared.
 use native.Mathlib.Omega.{arith}
 use Rattle.counting.proofs.FiguresHeld.{inside, there, inputs-are, ordered, outputs-are, countable, tally-is, tally-fits, gates-are, callable, delay-is, delay-clears, loadable, load-is, scratch-is, figures-are}
 use borrow.Author.Needs.{needs}
@@ -23,25 +23,22 @@ sub-outputs c = ordered (c .before .before .before .before .before .before .befo
 cast-outputs : tie.Need-cast-outputs
 cast-outputs c = let s = c .before .before .before .before .before .before .before .before .before .pre .0 in omega (arith, outputs-are s (c .before .before .module-at .ensures), s .within .outputs .count)
 
-tally-module-requires : tie.Need-tally-module-requires
-tally-module-requires c κs = countable (c .before .before .before .before .before .before .before .before .before .pre .0)
+delay-requires : tie.Need-delay-requires
+delay-requires c κs = let given = c .before .before .before .before .before .before .before .before .before .before .pre in callable (given .0) (given .1 .0)
+
+weigh-requires : tie.Need-weigh-requires
+weigh-requires c κs = let given = c .before .before .before .before .before .before .before .before .before .before .before .before .before .before .before .pre in (loadable (given .0), (countable (given .0), (search needs, given .1 .1)))
 
 gates-of-requires : tie.Need-gates-of-requires
-gates-of-requires c κs = let s = c .before .before .before .before .before .before .before .before .before .before .pre .0 in tally-fits s (tally-is s (c .tally-module .ensures))
-
-delay-requires : tie.Need-delay-requires
-delay-requires c κs = let given = c .before .before .before .before .before .before .before .before .before .before .before .before .pre in callable (given .0) (given .1 .0)
-
-largest-load-requires : tie.Need-largest-load-requires
-largest-load-requires c κs = let given = c .before .before .before .before .before .before .before .before .before .before .before .before .before .before .before .before .before .pre in (loadable (given .0), (search needs, given .1 .1))
+gates-of-requires c κs = let s = c .before .before .before .before .before .before .before .before .before .before .before .before .before .before .before .before .before .before .before .before .before .pre .0 in tally-fits s (tally-is s (c .before .before .before .before .before .weigh .ensures .1 .0))
 
 returns : tie.Need-returns
 returns c =
     λ s.
     let enough = c .before .before .before .before .before .before .before .before .before .before .before .before .before .before .before .before .before .before .before .before .before .before .pre .1 .0 in
-    let tally = tally-is s (c .before .before .before .before .before .before .before .before .before .before .before .before .tally-module .ensures) in
-    let timed = c .before .before .before .before .before .before .before .before .before .delay .ensures in
-    let loaded = c .before .before .before .before .largest-load .ensures in
+    let timed = c .before .before .before .before .before .before .before .before .before .before .before .delay .ensures in
+    let weighed = c .before .before .before .before .before .before .weigh .ensures in
+    let tally = tally-is s (weighed .1 .0) in
     let header = c .before .before .before .before .before .before .before .before .before .before .before .before .before .before .before .module-at .ensures in
     record {
       is =
@@ -49,10 +46,10 @@ returns c =
           (inputs-are s header)
           (outputs-are s header)
           tally
-          (gates-are s tally (c .before .before .before .before .before .before .before .before .before .before .before .gates-of .ensures))
+          (gates-are s tally (c .gates-of .ensures))
           (delay-is s enough timed)
-          (load-is s (loaded .0));
-      clean = scratch-is s _ (delay-clears s enough timed) (loaded .1);
+          (load-is s (weighed .0));
+      clean = scratch-is s _ (delay-clears s enough timed) (weighed .1 .1);
     }
 
 pub figures-at-spec : {M : Type 1} → statement M
@@ -65,10 +62,9 @@ figures-at-spec =
     cast-inputs
     sub-outputs
     cast-outputs
-    tally-module-requires
-    gates-of-requires
     delay-requires
-    largest-load-requires
+    weigh-requires
+    gates-of-requires
     (λ c. search needs)
     (λ c. search needs)
     returns)

@@ -1,36 +1,30 @@
 -- `figures::rows::fill_row` meets its contract: the row is written and then marked. Assumes nothing.
-use mathlib.Core.Path.{_≡_}
-use native.Mathlib.Omega.{arith}
+use mathlib.Core.Path.{refl}
+use mathlib.Core.Bool.{true, false}
 use borrow.Author.Needs.{needs}
-use lib.ListN.{length}
-use Rattle.figures.proofs.KeptRows.{row-filled, none-filled-behind}
+use lib.ListN.{length-set}
+use lib.Seq.{getD-set-other}
+use Rattle.figures.proofs.KeptRows.{row-filled}
 use Rattle.figures.proofs.rows.fill_row.Statement.{statement}
 use Rattle.figures.proofs.rows.fill_row.Tie as tie
 
-sixteen : (c : tie.Start) → length (c .args .tally .counts) ≡ 16
-sixteen c = search needs
-
-copy-requires : tie.Need-copy-requires
-copy-requires c κs = (omega (arith, sixteen (c .before .before .before .before .before .before)), omega arith)
-
 returns : tie.Need-returns
 returns c =
-    let start = c .before .before .before .before .before .before .before .before .before in
-    rw (c .before .before .copy .ensures)
-    (row-filled _ _ _ _ (c .before .before .before .before .before .before .if1 .taken) (start .pre) (sixteen start))
+    let args = c .before .before .before .before .before .before .before .args in
+    row-filled (c .before .before .before .write-row .ensures) (length-set (args .filled .now) (args .k) true)
+    (λ j other. getD-set-other (args .filled .now) (args .k) j true false other)
 
 returns-2 : tie.Need-returns-2
-returns-2 c = none-filled-behind _ _ _ _ (c .if1 .left)
+returns-2 c = row-filled (c .before .before .before .write-row .ensures) refl (λ j other. refl)
 
 pub fill-row-spec : {M : Type 1} → statement M
 fill-row-spec =
     tie.close
     (tie.spec
-    (λ c. search needs)
-    (λ c. search needs)
-    copy-requires
+    (λ c κs. search needs)
     (λ c. search needs)
     (λ c. search needs)
     (λ c. search needs)
     returns
+    (λ c. search needs)
     returns-2)
