@@ -342,15 +342,16 @@ uint16_t TUNED(modules)(const uint8_t *file, size_t file_len, size_t *count, siz
 {
     uint16_t no = open_file(file, file_len, place);
 
-    *count = no == 0 ? module_count : 0;
-    return no;
+    if (no != 0)
+        return no;
+    *count = module_count;
+    return 0;
 }
 
 uint16_t TUNED(number_at)(const uint8_t *file, size_t file_len, size_t position, uint16_t *number, size_t *place)
 {
     uint16_t no = open_file(file, file_len, place);
 
-    *number = 0;
     if (no != 0)
         return no;
     if (position >= module_count)
@@ -447,7 +448,6 @@ uint16_t TUNED(evaluate)(const uint8_t *file, size_t file_len, uint16_t number, 
     const struct module *m;
     int k;
 
-    *written = 0;
     if (no != 0)
         return no;
     if ((k = find(number)) < 0)
@@ -575,8 +575,6 @@ uint16_t TUNED(count)(const uint8_t *file, size_t file_len, uint16_t number, uin
     const struct module *m;
     int k;
 
-    memset(figures, 0, 7 * sizeof *figures);
-    memset(tally, 0, GATES * sizeof *tally);
     if (no != 0)
         return no;
     if ((k = find(number)) < 0)
@@ -696,7 +694,6 @@ uint16_t TUNED(flatten)(const uint8_t *file, size_t file_len, uint16_t number, u
     const struct module *m;
     int k;
 
-    *written = 0;
     if (no != 0)
         return no;
     if ((k = find(number)) < 0)
@@ -731,7 +728,6 @@ uint16_t TUNED(adder)(size_t width, uint8_t *out, size_t out_len, size_t *writte
     uint32_t n = (uint32_t)width;
     uint8_t *to = made;
 
-    *written = 0;
     if (width - 1 > 63)
         return end(place, 23, 0);
     *to++ = 3;
@@ -813,7 +809,6 @@ uint16_t TUNED(counter)(size_t width, uint8_t *out, size_t out_len, size_t *writ
     uint32_t n = (uint32_t)width, runs = 0, net = n, below = 0, count = 0, first_bit = 0, top = 0;
     uint8_t body[1024], *to = made, *body_end = body;
 
-    *written = 0;
     if (width - 1 > 63)
         return end(place, 23, 0);
     for (uint32_t level = 0; level < 7; level++) {

@@ -35,9 +35,9 @@
  *   23  the width is outside 1 to 64                         0
  *   24  flattening needs more than 4,096 nets                0
  *
- * What a call leaves. A refusal changes no lent buffer. An answer fills the first bytes of `out` and leaves the rest;
- * it leaves 0 in the first `room` entries of `scratch` and the rest as it was. The places for single results
- * (`written`, `modules`, `number`, `figures`, `tally`, `place`) are always written: 0 throughout where refused.
+ * What a call leaves. A refusal writes `*place` and nothing else that was lent: no buffer, and none of `*written`,
+ * `*modules`, `*number`, `figures`, `tally`. An answer writes `*place` and what was asked for; it fills the first bytes
+ * of `out` and leaves the rest, and it leaves 0 in the first `room` entries of `scratch` and the rest as it was.
  */
 #ifndef SHELF_H
 #define SHELF_H
@@ -72,7 +72,7 @@ uint16_t shelf_count(const uint8_t *file, size_t file_len, uint16_t number, uint
                      uint32_t figures[7], uint32_t tally[16], size_t *place);
 
 /* Writes a file of one module of that number, gates only, that gives the same outputs on all values. The file comes
- * in the first *written bytes of out, at most 52,989. Refusals 1 to 17, then 18, 24, 21, 22. */
+ * in the first *written bytes of out, at most 53,641. Refusals 1 to 17, then 18, 24, 21, 22. */
 uint16_t shelf_flatten(const uint8_t *file, size_t file_len, uint16_t number, uint32_t *scratch, size_t scratch_len,
                        uint8_t *out, size_t out_len, size_t *written, size_t *place);
 

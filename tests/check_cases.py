@@ -1,4 +1,4 @@
-"""Writes the stored cases of the check: crates/check_cases/stdin and crates/check_cases/stdout.
+"""Writes the stored cases of the check: crates/test_check/stdin and crates/test_check/stdout.
 
     python3 tests/check_cases.py
 
@@ -126,7 +126,7 @@ def main():
         name = label.encode()
         data += bytes([len(name), 0]) + name + bytes([len(file) % 256, len(file) // 256]) + file
         lines.append('%s: %s\n' % (label, 'refused %d %d' % (number, place) if number else 'good'))
-    store('check_cases', data, lines)
+    store('test_check', data, lines)
 
 
 if __name__ == '__main__':

@@ -1,4 +1,4 @@
-"""Writes the stored cases of flattening: crates/flat_cases/stdin and crates/flat_cases/stdout.
+"""Writes the stored cases of flattening: crates/test_flatten/stdin and crates/test_flatten/stdout.
 
     python3 tests/flat_cases.py
 
@@ -118,7 +118,7 @@ def main():
                 ''.join(' %02X' % b for b in answer[:256])))
         except Refused as r:
             lines.append('%s: cleared 0 filled 0 refused %d %d\n' % (label, r.number, r.place))
-    store('flat_cases', data, lines)
+    store('test_flatten', data, lines)
 
 
 if __name__ == '__main__':

@@ -1,4 +1,4 @@
-"""Writes the stored cases of the listing: crates/list_cases/stdin and crates/list_cases/stdout.
+"""Writes the stored cases of the listing: crates/test_list/stdin and crates/test_list/stdout.
 
     python3 tests/list_cases.py
 
@@ -126,7 +126,7 @@ def main():
         name = label.encode()
         data += bytes([len(name), 0]) + name + bytes([len(file) % 256, len(file) // 256]) + file
         text.append('%s:\n%s' % (label, listing(file)))
-    store('list_cases', data, text)
+    store('test_list', data, text)
 
 
 if __name__ == '__main__':

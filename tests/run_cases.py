@@ -1,4 +1,4 @@
-"""Writes the stored cases of evaluation: crates/run_cases/stdin and crates/run_cases/stdout.
+"""Writes the stored cases of evaluation: crates/test_run/stdin and crates/test_run/stdout.
 
     python3 tests/run_cases.py
 
@@ -168,7 +168,7 @@ def main():
             lines.append('%s: refused %d %d\n' % (label, answer.number, answer.place))
         else:
             lines.append(('%s: %s' % (label, word(answer))).rstrip() + '\n')
-    store('run_cases', data, lines)
+    store('test_run', data, lines)
 
 
 if __name__ == '__main__':

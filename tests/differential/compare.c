@@ -100,22 +100,16 @@ void compare_case(long number)
     case_number = number;
 }
 
-/* Before a call: places for results hold rubbish, which the call must overwrite. */
+/* Before a call: the place holds rubbish, which each side must overwrite; results hold rubbish that is the same on both
+ * sides, since a refusal leaves them and an answer does not. */
 static void begin(enum call call)
 {
     memset(&given, 0, sizeof given);
-    memset(&ours, 0, sizeof ours);
-    memset(&plain, 0, sizeof plain);
+    memset(&ours, 0x11, sizeof ours);
+    memset(&plain, 0x11, sizeof plain);
     given.call = call;
     ours.place = 77;
     plain.place = 88;
-}
-
-static void begin_with_result(enum call call)
-{
-    begin(call);
-    ours.result = 1077;
-    plain.result = 1088;
 }
 
 static int same_outcome(void)
@@ -160,7 +154,7 @@ static void compare_check(void)
 
 static void compare_modules(void)
 {
-    begin_with_result(MODULES);
+    begin(MODULES);
     ours.number = shelf_modules(lent_file, file_len, &ours.result, &ours.place);
     plain.number = plain_modules(file, file_len, &plain.result, &plain.place);
     end_call();
@@ -168,7 +162,7 @@ static void compare_modules(void)
 
 static void compare_number_at(size_t position)
 {
-    uint16_t our_number = 1077, plain_number = 1088;
+    uint16_t our_number = 1077, plain_number = 1077;
 
     begin(NUMBER_AT);
     given.position = position;
@@ -189,7 +183,7 @@ static void compare_evaluate(uint16_t number, size_t values_len, size_t scratch_
 {
     const uint8_t *lent_values = lend(&values_lender, values_len, values);
 
-    begin_with_result(EVALUATE);
+    begin(EVALUATE);
     given.number = number;
     given.values_len = values_len;
     given.scratch_len = scratch_len;
@@ -207,8 +201,6 @@ static void compare_evaluate(uint16_t number, size_t values_len, size_t scratch_
 static void compare_count(uint16_t number, size_t scratch_len)
 {
     begin(COUNT);
-    memset(ours.figures, 0x11, sizeof ours.figures);
-    memset(ours.tally, 0x11, sizeof ours.tally);
     given.number = number;
     given.scratch_len = scratch_len;
     lend(&our_out, 0, NULL);
@@ -222,7 +214,7 @@ static void compare_count(uint16_t number, size_t scratch_len)
 
 static void compare_flatten(uint16_t number, size_t scratch_len, size_t out_len)
 {
-    begin_with_result(FLATTEN);
+    begin(FLATTEN);
     given.number = number;
     given.scratch_len = scratch_len;
     given.out_len = out_len;
@@ -296,7 +288,7 @@ static struct right right_lengths(uint16_t number)
     static uint32_t scratch[SCRATCH_MOST];
     static uint8_t out[OUT_MOST];
     uint32_t figures[7], tally[16];
-    size_t flat, place;
+    size_t flat = 0, place;
     uint16_t refused = plain_count(file, file_len, number, scratch, SCRATCH_MOST, figures, tally, &place);
 
     if (refused != 0)
@@ -319,7 +311,7 @@ static void compare_module_calls(size_t modules)
 
 void compare_file(const uint8_t *bytes, size_t length)
 {
-    size_t modules, place;
+    size_t modules = 0, place;
 
     file = bytes;
     file_len = length;
@@ -346,7 +338,7 @@ static size_t any_width(void)
 
 static void begin_writer(enum call call, size_t width, size_t right)
 {
-    begin_with_result(call);
+    begin(call);
     file_len = 0;
     lent_file = lend(&file_lender, 0, NULL);
     given.width = width;
@@ -358,7 +350,7 @@ static void begin_writer(enum call call, size_t width, size_t right)
 static void compare_adder(void)
 {
     static uint8_t out[OUT_MOST];
-    size_t width = any_width(), right, place;
+    size_t width = any_width(), right = 0, place;
 
     plain_adder(width, out, OUT_MOST, &right, &place);
     begin_writer(ADDER, width, right);

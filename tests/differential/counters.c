@@ -113,7 +113,6 @@ size_t judged_counter_length(size_t width)
 
 uint16_t judged_counter(size_t width, uint8_t *out, size_t out_len, size_t *written, size_t *place)
 {
-    *written = 0;
     *place = 0;
     if (width < 1 || width > WIDEST)
         return 23;

@@ -13,7 +13,6 @@ uint16_t plain_adder(size_t width, uint8_t *out, size_t out_len, size_t *written
     static struct bytes answer;
     uint32_t n = (uint32_t)width;
 
-    *written = 0;
     if (width < 1 || width > 64)
         return plain_end(place, 23, 0);
     answer.length = 0;

@@ -1,4 +1,5 @@
-/* The file that a call is about, checked, and the calls that ask no more of it. */
+/* The file that a call is about, checked, and the calls that ask no more of it. A call that is refused writes its
+ * place and nothing else. */
 #include "plain.h"
 
 struct file plain_file;
@@ -19,17 +20,18 @@ uint16_t plain_check(const uint8_t *bytes, size_t length, size_t *place)
 
 uint16_t plain_modules(const uint8_t *bytes, size_t length, size_t *modules, size_t *place)
 {
-    uint16_t number = plain_check(bytes, length, place);
+    uint16_t refused = plain_check(bytes, length, place);
 
-    *modules = number == 0 ? (size_t)plain_file.count : 0;
-    return number;
+    if (refused != 0)
+        return refused;
+    *modules = (size_t)plain_file.count;
+    return 0;
 }
 
 uint16_t plain_number_at(const uint8_t *bytes, size_t length, size_t position, uint16_t *number, size_t *place)
 {
     uint16_t refused = plain_check(bytes, length, place);
 
-    *number = 0;
     if (refused != 0)
         return refused;
     if (position >= (size_t)plain_file.count)

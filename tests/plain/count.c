@@ -33,8 +33,6 @@ uint16_t plain_count(const uint8_t *bytes, size_t length, uint16_t number, uint3
     struct figures own;
     int position;
 
-    memset(figures, 0, 7 * sizeof *figures);
-    memset(tally, 0, 16 * sizeof *tally);
     if (refused != 0)
         return refused;
     position = plain_find(&plain_file, number);

@@ -23,7 +23,6 @@ uint16_t plain_evaluate(const uint8_t *bytes, size_t length, uint16_t number, co
     struct figures figures;
     int position;
 
-    *written = 0;
     if (refused != 0)
         return refused;
     position = plain_find(&plain_file, number);

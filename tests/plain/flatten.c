@@ -52,7 +52,6 @@ uint16_t plain_flatten(const uint8_t *bytes, size_t length, uint16_t number, uin
     struct figures figures;
     int position;
 
-    *written = 0;
     if (refused != 0)
         return refused;
     position = plain_find(&plain_file, number);

@@ -32,7 +32,7 @@ pub(crate) fn list(path: &[u8]) {
 
 fn list_accepted(file: &[u8]) {
     match shelf::check(file) {
-        Checked::Good => lister::printing::print(file),
+        Checked::Good => list_file::printing::print(file),
         Checked::Broken { number, place } => crate::refusing::refuse(number, place),
     }
 }

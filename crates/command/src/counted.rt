@@ -34,7 +34,7 @@ fn show_kinds(figures: Figures) {
     say_figure(b" B-NOT ", kinds[1]);
     show_widths(b" B-NAND", kinds[2], kinds[3], kinds[4]);
     show_widths(b" B-OR", kinds[5], kinds[6], kinds[7]);
-    say_figure(b" B-EQUV ", kinds[8]);
+    say_figure(b" B-EQV ", kinds[8]);
     say_figure(b" B-XOR ", kinds[9]);
     show_widths(b" B-AND", kinds[10], kinds[11], kinds[12]);
     show_widths(b" B-NOR", kinds[13], kinds[14], kinds[15]);

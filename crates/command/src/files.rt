@@ -37,8 +37,8 @@ fn partial(path: &[u8], buffer: &mut [u8]) -> usize {
     if buffer.len() < path.len() + 5 {
         return 0;
     }
-    let at = text::put_bytes(path, buffer, 0);
-    text::put_bytes(b".part", buffer, at)
+    let at = list_text::put_bytes(path, buffer, 0);
+    list_text::put_bytes(b".part", buffer, at)
 }
 
 // Writes a file whole: under another name first, which then takes the place of the file. Answers whether all went well; if not, the

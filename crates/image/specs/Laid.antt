@@ -9,10 +9,10 @@ use lib.ListN.{length, take, drop, set, length-append, length-drop, take-append-
 use lib.Seq.{drop-drop, drop-append-seam, take-at, drop-at, take-take, length-take-le, set-split}
 use Rattle.image.specs.Stands.{Stands}
 
-unfoldable pub laid : List ℕ → ℕ → List ℕ → List ℕ
+unfoldable pub laid : {A : Type 0} → List A → ℕ → List A → List A
 laid im at xs = take at im ++ (xs ++ drop (at + length xs) im)
 
-module _ (im : List ℕ) (at : ℕ) (xs : List ℕ) (fits : at + length xs ≤ length im) where
+module _ {A : Type 0} (im : List A) (at : ℕ) (xs : List A) (fits : at + length xs ≤ length im) where
   head-long : length (take at im) ≡ at
   head-long = length-take-le at im (omega arith)
 
@@ -37,14 +37,22 @@ module _ (im : List ℕ) (at : ℕ) (xs : List ℕ) (fits : at + length xs ≤ l
       ∙ ap (drop (length xs)) from-laid
       ∙ drop-append-seam xs (drop (at + length xs) im)
 
+  -- Up to its end the list is what stood before it, and the piece.
+  pub front-of-laid : take (at + length xs) (laid im at xs) ≡ take at im ++ xs
+  unfolding laid
+  front-of-laid =
+      ap (take (at + length xs)) (sym (append-assoc (take at im) xs (drop (at + length xs) im)))
+      ∙ take-at (take at im ++ xs) (drop (at + length xs) im) (at + length xs)
+      (length-append (take at im) xs ∙ ap (λ (n : ℕ). n + length xs) head-long)
+
 -- A piece laid behind another: both in one.
-pub laid-after : (im : List ℕ) (at : ℕ) (xs ys : List ℕ) → at + (length xs + length ys) ≤ length im
+pub laid-after : {A : Type 0} (im : List A) (at : ℕ) (xs ys : List A) → at + (length xs + length ys) ≤ length im
     → laid (laid im at xs) (at + length xs) ys ≡ laid im at (xs ++ ys)
 unfolding laid
-laid-after im at xs ys fits =
-    ap₂ (λ (l r : List ℕ). l ++ (ys ++ r)) before behind
+laid-after {A} im at xs ys fits =
+    ap₂ (λ (l r : List A). l ++ (ys ++ r)) (front-of-laid im at xs first) behind
     ∙ append-assoc (take at im) xs (ys ++ drop (at + length xs + length ys) im)
-    ∙ ap (λ (l : List ℕ). take at im ++ l) (sym (append-assoc xs ys (drop (at + length xs + length ys) im)))
+    ∙ ap (λ (l : List A). take at im ++ l) (sym (append-assoc xs ys (drop (at + length xs + length ys) im)))
     ∙ ap (λ (n : ℕ). take at im ++ ((xs ++ ys) ++ drop n im)) whole
   where
     whole : at + length xs + length ys ≡ at + length (xs ++ ys)
@@ -53,12 +61,6 @@ laid-after im at xs ys fits =
     first : at + length xs ≤ length im
     first = omega arith
 
-    before : take (at + length xs) (laid im at xs) ≡ take at im ++ xs
-    before =
-        ap (take (at + length xs)) (sym (append-assoc (take at im) xs (drop (at + length xs) im)))
-        ∙ take-at (take at im ++ xs) (drop (at + length xs) im) (at + length xs)
-        (length-append (take at im) xs ∙ ap (λ (n : ℕ). n + length xs) (length-take-le at im (omega arith)))
-
     behind : drop (at + length xs + length ys) (laid im at xs) ≡ drop (at + length xs + length ys) im
     behind =
         sym (drop-drop (length ys) (at + length xs) (laid im at xs))
@@ -66,12 +68,12 @@ laid-after im at xs ys fits =
         ∙ drop-drop (length ys) (at + length xs) im
 
 -- A piece laid in front of another: both in one.
-pub laid-before : (im : List ℕ) (at : ℕ) (xs ys : List ℕ) → at + (length xs + length ys) ≤ length im
+pub laid-before : {A : Type 0} (im : List A) (at : ℕ) (xs ys : List A) → at + (length xs + length ys) ≤ length im
     → laid (laid im (at + length xs) ys) at xs ≡ laid im at (xs ++ ys)
 unfolding laid
-laid-before im at xs ys fits =
-    ap₂ (λ (l r : List ℕ). l ++ (xs ++ r)) before behind
-    ∙ ap (λ (l : List ℕ). take at im ++ l) (sym (append-assoc xs ys (drop (at + length xs + length ys) im)))
+laid-before {A} im at xs ys fits =
+    ap₂ (λ (l r : List A). l ++ (xs ++ r)) before behind
+    ∙ ap (λ (l : List A). take at im ++ l) (sym (append-assoc xs ys (drop (at + length xs + length ys) im)))
     ∙ ap (λ (n : ℕ). take at im ++ ((xs ++ ys) ++ drop n im)) whole
   where
     whole : at + length xs + length ys ≡ at + length (xs ++ ys)
@@ -90,12 +92,12 @@ laid-before im at xs ys fits =
     behind = from-laid im (at + length xs) ys second
 
 -- One number stored.
-pub set-laid : (im : List ℕ) (at x : ℕ) → at < length im → set im at x ≡ laid im at (x ∷ [])
+pub set-laid : {A : Type 0} (im : List A) (at : ℕ) (x : A) → at < length im → set im at x ≡ laid im at (x ∷ [])
 unfolding laid
 set-laid im at x h = set-split im at x h ∙ ap (λ (n : ℕ). take at im ++ x ∷ drop n im) (sym (add-one at))
 
 -- Nothing laid changes nothing.
-pub laid-nothing : (im : List ℕ) (at : ℕ) → laid im at [] ≡ im
+pub laid-nothing : {A : Type 0} (im : List A) (at : ℕ) → laid im at [] ≡ im
 unfolding laid
 laid-nothing im at = ap (λ (n : ℕ). take at im ++ drop n im) (add-zero at) ∙ take-append-drop at im
 

@@ -1,6 +1,8 @@
 -- The image of a file: its numbers with each net replaced by its slot and each module referred to by its position, and what reading
--- it there means. No function.
+-- it there means.
 pub mod Stands
+pub mod Entries
+pub mod Copies
 pub mod Resolved
 pub mod Laid
 pub mod Frames
@@ -16,6 +18,7 @@ pub mod Holding
 pub mod FramesMean
 pub mod ResolvedLayout
 pub mod ResolvedOk
+pub mod Imaged
 pub mod OwnSlots
 pub mod Stepping
 pub mod FrameLengths
@@ -23,3 +26,11 @@ pub mod FrameValues
 pub mod ResolvedFigures
 pub mod ResolvedLoads
 pub mod OwnNumbers
+pub mod Places
+pub mod Scenes
+pub mod Slots
+pub mod Reading
+pub mod Gathering
+pub mod Lending
+pub mod Walking
+pub mod Calling

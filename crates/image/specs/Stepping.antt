@@ -1,5 +1,5 @@
 -- Going through a file that can be run on frames, from a module to those that it refers to: what holds of the module at a position, where
--- its references lead, and what running such a module means. What stands in front of a module does not matter to it.
+-- its references lead. What stands in front of a module does not matter to it.
 use Prim.Native.Nat.{ℕ, zero, suc, _+_, _≤_, _<_}
 use mathlib.Core.Path.{_≡_, sym, ap, subst, _∙_}
 use mathlib.Core.Bool.{false, true≢false}
@@ -10,12 +10,11 @@ use lib.ListN.{length, drop, length-drop}
 use lib.Seq.{drop-drop}
 use Rattle.meaning.specs.Syntax.{Occurrence, Module}
 use Rattle.meaning.specs.Gates.{isGate}
-use Rattle.meaning.specs.Evaluation.{Meaning}
 use Rattle.laws.specs.WellFormed.{Reference, toGate, toModule}
 use Rattle.laws.specs.Standing.{stands, number-of}
 use Rattle.image.specs.Resolved.{positionOf}
-use Rattle.image.specs.Frames.{FrameOk, FramesOk, none, some, runFrame, runFrames}
-use Rattle.image.specs.Searching.{Search, runFrames-search}
+use Rattle.image.specs.Frames.{FrameOk, FramesOk, none, some}
+use Rattle.image.specs.Searching.{Search}
 use Rattle.image.specs.Positions.{Numbered, found-at, says-from}
 
 pub frames-numbered : {position : ℕ} {rs : List Module} → FramesOk position rs → Numbered position rs
@@ -86,13 +85,3 @@ module _ {rs : List Module} (frames : FramesOk 0 rs) where
       → drop j rs ≡ m ∷ later
       → f (drop s rs) (16 + j) ≡ own m (drop (j + 1) rs)
   search-at {own = own} search s j {m} h e = says-from search s j (frames-numbered frames) h e ∙ ap (own m) (sym (behind j e))
-
-  pub run-at :
-      {A : Type 0} (unset : A) (gateMeaning : Meaning A) (s j : ℕ) {m : Module} {later : List Module}
-      → s ≤ j
-      → drop j rs ≡ m ∷ later
-      → (vs : List A)
-      → runFrames unset gateMeaning (drop s rs) (16 + j) vs
-      ≡ runFrame unset gateMeaning (runFrames unset gateMeaning (drop (j + 1) rs)) m vs
-  run-at {A} unset gateMeaning s j h e vs =
-      ap (λ (f : List A → List A). f vs) (search-at (runFrames-search unset gateMeaning) s j h e)

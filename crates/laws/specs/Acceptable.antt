@@ -95,9 +95,9 @@ refused-not-good e = let z : _≡_ {A = ℕ} 0 1 = cc in omega arith
 pub acceptable-exactly : (ms : List Module) → fileVerdict ms ≡ good ↔ Acceptable ms
 acceptable-exactly ms = ((λ e. accepted-acceptable (good-accepted ms e)), λ a. accepted-good (acceptable-accepted ms a))
 
-pub accepted-exactly : (bytes : List ℕ) → verdict bytes ≡ good ↔ ((ms : List Module) × (read bytes ≡ holds ms) × Acceptable ms)
+pub accepted-as-read : (bytes : List ℕ) → verdict bytes ≡ good ↔ ((ms : List Module) × (read bytes ≡ holds ms) × Acceptable ms)
 unfolding verdict
-accepted-exactly bytes = (go (read bytes) refl, λ h. ap verdictOf (h .1) ∙ acceptable-exactly (h .0) .1 (h .2))
+accepted-as-read bytes = (go (read bytes) refl, λ h. ap verdictOf (h .1) ∙ acceptable-exactly (h .0) .1 (h .2))
   where
     go : (f : File) → read bytes ≡ f → verdictOf f ≡ good → (ms : List Module) × (read bytes ≡ holds ms) × Acceptable ms
     go (holds ms) e v = (ms, e, acceptable-exactly ms .0 v)

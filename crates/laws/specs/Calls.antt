@@ -1,14 +1,20 @@
--- What it tells that a call is answered: every condition on the way was met.
+-- What it tells that a call is answered: every condition on the way was met. And what a call on a module comes to.
 use Prim.Native.Nat.{ℕ}
 use mathlib.Core.Path.{_≡_, refl}
 use mathlib.Core.Bool.{Bool, true, false}
 use mathlib.Core.List.{List}
 use native.Mathlib.Omega.{arith}
 use Rattle.meaning.specs.Syntax.{Module}
-use Rattle.meaning.specs.Boxlist.{Found, box, F}
+use Rattle.meaning.specs.Boxlist.{Found, box, F, assoc}
 use Rattle.meaning.specs.Reading.{File, holds, fails, read}
 use Rattle.meaning.specs.Verdict.{Verdict, good, refused, fileVerdict}
 use Rattle.meaning.specs.Calls.{Decision, refusal, answer, demand, ifGood, onRead, onFile, onModule}
+
+-- A module of a file that is accepted.
+pub record ModuleOf (file : List ℕ) (number : ℕ) (ms : List Module) (m : Module) : Type 0 where
+  pub reads : read file ≡ holds ms
+  pub accepted : fileVerdict ms ≡ good
+  pub found : assoc number ms ≡ box m
 
 module _ {R : Type 0} where
   refusal-no-answer : {number place : ℕ} {r : R} → refusal number place ≡ answer r → ⊥
@@ -27,37 +33,54 @@ module _ {R : Type 0} where
   demand-met number place true h = record { met = refl; answered = h }
   demand-met number place false h = absurd (refusal-no-answer h)
 
-  -- A module was found,
-  pub record OnModule (found : Found) (ask : Module → Decision R) (r : R) : Type 0 where
-    pub m : Module
-    pub is : found ≡ box m
-    pub answered : ask m ≡ answer r
+  -- What is asked of a number's module, through the file and its modules.
+  abbrev pub onNumber : (file : List ℕ) (number : ℕ) → (List Module → Module → Decision R) → Decision R
+  onNumber file number ask = onFile file λ ms. onModule (assoc number ms) (ask ms)
 
-  pub module-met : (found : Found) {ask : Module → Decision R} {r : R} → onModule found ask ≡ answer r → OnModule found ask r
-  module-met (box m) h = record { m = m; is = refl; answered = h }
-  module-met F h = absurd (refusal-no-answer h)
-
-  -- in a file that reads and is accepted.
-  pub record OnFile (file : List ℕ) (ask : List Module → Decision R) (r : R) : Type 0 where
+  -- The file was accepted, and has the module.
+  pub record Asked (file : List ℕ) (number : ℕ) (ask : List Module → Module → Decision R) (r : R) : Type 0 where
     pub ms : List Module
-    pub reads : read file ≡ holds ms
-    pub accepted : fileVerdict ms ≡ good
-    pub answered : ask ms ≡ answer r
+    pub m : Module
+    pub here : ModuleOf file number ms m
+    pub answered : ask ms m ≡ answer r
 
-  pub file-met : (file : List ℕ) {ask : List Module → Decision R} {r : R} → onFile file ask ≡ answer r → OnFile file ask r
+  pub module-met :
+      (file : List ℕ) (number : ℕ) {ask : List Module → Module → Decision R} {r : R}
+      → onNumber file number ask ≡ answer r
+      → Asked file number ask r
   unfolding onFile
-  file-met file {ask} {r} = reading (read file) refl
+  module-met file number {ask} {r} = reading (read file) refl
     where
+      finding :
+          (ms : List Module)
+          → read file ≡ holds ms
+          → fileVerdict ms ≡ good
+          → (f : Found)
+          → assoc number ms ≡ f
+          → onModule f (ask ms) ≡ answer r
+          → Asked file number ask r
+      finding ms reads passes (box m) e h =
+          record { ms = ms; m = m; here = record { reads = reads; accepted = passes; found = e }; answered = h }
+      finding ms reads passes F e h = absurd (refusal-no-answer h)
+
       checking :
           (ms : List Module)
           → read file ≡ holds ms
           → (v : Verdict)
           → fileVerdict ms ≡ v
-          → ifGood v (ask ms) ≡ answer r
-          → OnFile file ask r
-      checking ms reads good e h = record { ms = ms; reads = reads; accepted = e; answered = h }
-      checking ms reads (refused number place) e h = absurd (refusal-no-answer h)
+          → ifGood v (onModule (assoc number ms) (ask ms)) ≡ answer r
+          → Asked file number ask r
+      checking ms reads good e h = finding ms reads e (assoc number ms) refl h
+      checking ms reads (refused n p) e h = absurd (refusal-no-answer h)
 
-      reading : (f : File) → read file ≡ f → onRead f ask ≡ answer r → OnFile file ask r
+      reading : (f : File) → read file ≡ f → onRead f (λ ms. onModule (assoc number ms) (ask ms)) ≡ answer r → Asked file number ask r
       reading (holds ms) e h = checking ms e (fileVerdict ms) refl h
-      reading (fails number place) e h = absurd (refusal-no-answer h)
+      reading (fails n p) e h = absurd (refusal-no-answer h)
+
+  -- Of a module of an accepted file the call comes to what is asked.
+  pub asked-here :
+      {file : List ℕ} {number : ℕ} {ms : List Module} {m : Module} (ask : List Module → Module → Decision R)
+      → ModuleOf file number ms m
+      → onNumber file number ask ≡ ask ms m
+  unfolding onFile
+  asked-here ask here = rw (here .reads, here .accepted, here .found)

@@ -12,7 +12,7 @@ use Rattle.meaning.specs.Lists.{more}
 use Rattle.meaning.specs.Syntax.{Module}
 use Rattle.meaning.specs.Layout.{numberBytes, encode}
 use Rattle.meaning.specs.Reading.{Step, got, refused, atEnd, holds, fails, read, mostModules, mostNets, mostOccurrences, mostBytes, readNumber, readMany, secondGroup, readCount, readNets, readOccurrence, readModule, readModules}
-use Rattle.meaning.specs.Ceilings.{Bytes, Small, NetsWithin, OccurrenceWithin, ModuleWithin, ModulesWithin, Within}
+use Rattle.meaning.specs.Ceilings.{Bytes, Small, NetsWithin, OccurrenceWithin, ModuleWithin, ModulesWithin, Encodes}
 use Rattle.laws.specs.Written.{bytes-of-low, bytes-of-high, netsBytes, occurrenceBytes, moduleBytes, bytes-of-nets, bytes-of-occurrence, bytes-of-module, bytes-of-file}
 use Rattle.laws.specs.Reading.{Took, Exact, ExactAfter, exact-give, exact-bind, exact-many, exact-last, exact-refused, refused-not-got}
 
@@ -125,21 +125,16 @@ modules-exact =
     (λ ms counted. rw (← counted .count, bytes-of-file ms))
     (λ ms counted. record { count = rw (counted .count) few; modules = counted .entries }))
 
--- What a file that reads tells of its bytes.
-pub record Holds (bytes : List ℕ) (ms : List Module) : Type 0 where
-  pub encoded : encode ms ≡ bytes
-  pub within : Within ms
-
 fails-not-holds : {number place : ℕ} {ms : List Module} → fails number place ≡ holds ms → ⊥
 fails-not-holds h = let z : _≡_ {A = ℕ} 0 1 = cc in omega arith
 
 -- Bytes that read are the encoding of what was read, which is within the ceilings.
-pub exactness : (bytes : List ℕ) → Bytes bytes → (ms : List Module) → read bytes ≡ holds ms → Holds bytes ms
+pub exactness : (bytes : List ℕ) → Bytes bytes → (ms : List Module) → read bytes ≡ holds ms → Encodes bytes ms
 unfolding read
 exactness bytes ok ms = short (leb (length bytes) mostBytes) refl
   where
     at-end : length bytes ≤ mostBytes → (s : Step (List Module)) → readModules 0 bytes ≡ s
-        → atEnd s ≡ holds ms → Holds bytes ms
+        → atEnd s ≡ holds ms → Encodes bytes ms
     at-end few (got ns q []) e h =
         let same : ns ≡ ms = cc in
         let t : Took [] encode ModulesWithin 0 bytes ms q [] = modules-exact .took 0 bytes ok ms q [] (rw (← same) e) in
@@ -149,7 +144,7 @@ exactness bytes ok ms = short (leb (length bytes) mostBytes) refl
     at-end few (refused number place) e h = absurd (fails-not-holds h)
 
     short : (b : Bool) → leb (length bytes) mostBytes ≡ b
-        → cond b (atEnd (readModules 0 bytes)) (fails 1 0) ≡ holds ms → Holds bytes ms
+        → cond b (atEnd (readModules 0 bytes)) (fails 1 0) ≡ holds ms → Encodes bytes ms
     short true e h = at-end (leb-true (length bytes) mostBytes e) (readModules 0 bytes) refl h
     short false e h = absurd (fails-not-holds h)
 

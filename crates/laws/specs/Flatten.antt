@@ -18,6 +18,5 @@ pub mod Accepted
 pub mod Bytes
 pub mod Within
 pub mod Again
--- The call, and what is printed of it.
+-- The call.
 pub mod Answered
-pub mod Rows

@@ -3,12 +3,10 @@ use Prim.Native.Nat.{ℕ, _≤_}
 use mathlib.Core.Bool.{Bool, true, false}
 use mathlib.Core.List.{List, [], _∷_, map}
 use mathlib.Core.Logic.{_↔_}
-use mathlib.Core.Path.{_≡_, refl, ap, _∙_}
+use mathlib.Core.Path.{_≡_, refl}
 use lib.Dec.{lit≤}
-use lib.ListN.{List·getD-eq-default}
 use Rattle.meaning.specs.Values.{Val, known, un, Fills, byFillings, value, code}
 use Rattle.meaning.specs.Gates.{gate, gates, gateValue, gateCode}
-use Rattle.laws.specs.Folds.{constant}
 use Rattle.laws.specs.Fillings.{Gives, Keeps, Refines, known-exactly, unknown-exactly, on-known, monotone}
 
 -- On known values a gate is the Boolean function of its name.
@@ -42,13 +40,6 @@ gate-code-small number xs = small (gateValue number (map value xs))
     small (known false) = lit≤ tt
     small (known true) = lit≤ tt
     small un = lit≤ tt
-
--- A number that is no gate's gives 0.
-pub no-gate-code : (number : ℕ) (xs : List ℕ) → 16 ≤ number → gateCode number xs ≡ 0
-unfolding gateCode gateValue gate gates
-no-gate-code number xs above =
-    ap (λ g. code (byFillings (g .function) (map value xs))) (List·getD-eq-default gates _ above)
-    ∙ ap code (constant false (map value xs))
 
 -- B-AND of 0 and 2 is 0.
 pub and-of-false-and-unknown : gateCode 10 (0 ∷ 2 ∷ []) ≡ 0

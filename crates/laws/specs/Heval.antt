@@ -43,7 +43,7 @@ module _ (ms : List Module) (number : ℕ) (m : Module) (accepted : fileVerdict 
       rw (number-of there) (le-ltb (m .number) 16 (keeps-rules (good-accepted ms accepted) there .1 .above))
 
   -- HEVAL of a module is its run on Booleans.
-  heval-of-module :
+  pub heval-of-module :
       (args : List ℕ) (alist : List Pair)
       → heval ms number args alist ≡ booleanRun ms number (collectEvalName args alist)
   heval-of-module args alist = rw (heval-is-run (good-accepted ms accepted) number .answers args alist, not-a-gate)

@@ -13,8 +13,6 @@ pub mod WellFormed
 pub mod Finding
 pub mod RoundTrip
 pub mod Exactness
-pub mod Places
-pub mod ReadingRows
 pub mod Okp
 pub mod Accepted
 pub mod Acceptable
@@ -23,6 +21,8 @@ pub mod Bounds
 pub mod Idle
 pub mod Range
 pub mod Refusals
+pub mod Unreadable
+pub mod RefusedExactly
 pub mod Related
 pub mod Suffix
 pub mod OutputCount
@@ -34,11 +34,14 @@ pub mod HevalRun
 pub mod Pairlist
 pub mod Heval
 pub mod WrongEvaluators
-pub mod EvaluationRows
+pub mod Rows
 pub mod Calls
+pub mod CallOutcomes
+pub mod Runs
 pub mod SameTail
 pub mod Adder
 pub mod Flatten
+pub mod NoneMissing
 pub mod Figures
-pub mod WithinTests
 pub mod Counter
+pub mod Demands

@@ -6,14 +6,10 @@ use mathlib.Core.List.{List, [], _∷_}
 use lib.Dec.{eqb}
 use lib.ListN.{length}
 use Rattle.meaning.specs.Syntax.{Module}
-use Rattle.meaning.specs.Boxlist.{Found, box, F, assoc}
+use Rattle.meaning.specs.Boxlist.{box, assoc}
 use Rattle.meaning.specs.Values.{Val, known}
+pub use Rattle.meaning.specs.Figures.{outputCount}
 use Rattle.meaning.specs.Evaluation.{Env, lookAll, walk, pairs, Meaning, runModule, run, gateOutputs, evaluate}
-
--- How many outputs the module of a number has.
-abbrev pub outputCount : Found → ℕ
-outputCount (box m) = length (m .outputs)
-outputCount F = 0
 
 pub length-of-lookAll : {A : Type 0} (none : A) (nets : List ℕ) (env : Env A) → length (lookAll none nets env) ≡ length nets
 unfolding lookAll

@@ -107,17 +107,17 @@ exact-last {front = front} {e = e} h whole fine =
     }
 
 -- As many things as the count says, each of them good.
-pub record Counted {A : Type 0} (n : ℕ) (Good : A → Type 0) (xs : List A) : Type 0 where
+pub record ManyOf {A : Type 0} (n : ℕ) (Good : A → Type 0) (xs : List A) : Type 0 where
   pub count : length xs ≡ n
   pub entries : All Good xs
 
 pub exact-many : {A : Type 0} {r : Reader A} {e : A → List ℕ} {Good : A → Type 0}
-    → Exact r e Good → (n : ℕ) → Exact (readMany r n) (each e) (Counted n Good)
+    → Exact r e Good → (n : ℕ) → Exact (readMany r n) (each e) (ManyOf n Good)
 unfolding readMany each
 exact-many {e = e} {Good} h zero =
-    exact-give [] [] (each e) (Counted zero Good) refl (record { count = refl; entries = none })
+    exact-give [] [] (each e) (ManyOf zero Good) refl (record { count = refl; entries = none })
 exact-many {r = r} {e} {Good} h (suc n) =
     exact-bind [] r _ h (λ x fine.
     exact-bind (e x) (readMany r n) _ (exact-many h n) (λ xs counted.
-    exact-give (e x ++ each e xs) (x ∷ xs) (each e) (Counted (suc n) Good) refl
+    exact-give (e x ++ each e xs) (x ∷ xs) (each e) (ManyOf (suc n) Good) refl
     (record { count = ap suc (counted .count); entries = more fine (counted .entries) })))

@@ -1,8 +1,8 @@
--- Each refusal means what its row says: the verdict on a list of modules is what comes of the rules 6 to 17 in their order, the
+-- Refusals 6 to 17 each mean what their row says: the verdict on a list of modules is what comes of the rules in their order, the
 -- first that is broken, or good where none is.
 use Prim.Native.Nat.{ℕ, suc, _<_}
 use mathlib.Core.Logic.{_⊎_, inl, inr, _↔_}
-use mathlib.Core.Path.{_≡_, refl, ap, subst, _∙_}
+use mathlib.Core.Path.{_≡_, subst}
 use mathlib.Core.Bool.{not, _&&_}
 use mathlib.Core.List.{List, [], _∷_, _++_}
 use lib.Dec.{leb}
@@ -10,8 +10,7 @@ use Rattle.meaning.specs.Syntax.{Occurrence, Module}
 use Rattle.meaning.specs.Members.{Twice, Common}
 use Rattle.meaning.specs.Boxlist.{duplicates, disjoint, arityOkp}
 use Rattle.meaning.specs.Limits.{driven, netCount, bodySize, expandedSize, mostModuleNets, mostSize}
-use Rattle.meaning.specs.Reading.{File, holds, fails, read}
-use Rattle.meaning.specs.Verdict.{Verdict, refused, verdictOf, verdict, occurrenceVerdict, bodyVerdict, moduleVerdict}
+use Rattle.meaning.specs.Verdict.{Verdict, occurrenceVerdict, bodyVerdict, moduleVerdict}
 use Rattle.meaning.specs.Verdict.{modulesVerdict, sizesVerdict, fileVerdict}
 use Rattle.meaning.specs.Rules.{occurrenceRules, moduleRules, modulesRules, sizeRules, fileRules}
 use Rattle.meaning.specs.Rules.{Unresolved, Mismatch, Outcome, allKept}
@@ -27,7 +26,7 @@ drives-tells xs ys =
     tells (λ h. neither (h .0) (h .1)) (λ h. h) (tells-and (tells-not (duplicates-tells xs)) (disjoint-tells xs ys))
 
 -- The tests of our limits.
-within-tells : (a most : ℕ) → Tells (¬ (most < a)) (most < a) (leb a most)
+pub within-tells : (a most : ℕ) → Tells (¬ (most < a)) (most < a) (leb a most)
 within-tells a most = tells not-below (λ h. h) (leb-tells a most)
 
 -- Rule 14's test, where rule 13 is kept.
@@ -88,25 +87,3 @@ file-outcome ms = andThen-outcome (modules-outcome 0 ms) (sizes-outcome 0 ms)
 -- The verdict is the outcome of the rules, and there is no other.
 pub verdict-outcome : (ms : List Module) (v : Verdict) → fileVerdict ms ≡ v ↔ Outcome (fileRules ms) v
 verdict-outcome ms v = ((λ e. subst (λ v. Outcome (fileRules ms) v) e (file-outcome ms)), outcome-unique (file-outcome ms))
-
--- A file is refused by reading, or by the first rule that is broken in what was read.
-pub refused-exactly :
-    (bytes : List ℕ) (n p : ℕ)
-    → verdict bytes ≡ refused n p
-    ↔ ((read bytes ≡ fails n p) ⊎ ((ms : List Module) × (read bytes ≡ holds ms) × Outcome (fileRules ms) (refused n p)))
-unfolding verdict
-refused-exactly bytes n p = (go (read bytes) refl, back)
-  where
-    go :
-        (f : File)
-        → read bytes ≡ f
-        → verdictOf f ≡ refused n p
-        → (read bytes ≡ fails n p) ⊎ ((ms : List Module) × (read bytes ≡ holds ms) × Outcome (fileRules ms) (refused n p))
-    go (holds ms) e v = inr (ms, e, verdict-outcome ms (refused n p) .0 v)
-    go (fails n′ p′) e v = inl (cc)
-
-    back :
-        (read bytes ≡ fails n p) ⊎ ((ms : List Module) × (read bytes ≡ holds ms) × Outcome (fileRules ms) (refused n p))
-        → verdictOf (read bytes) ≡ refused n p
-    back (inl e) = ap verdictOf e
-    back (inr h) = ap verdictOf (h .1) ∙ verdict-outcome (h .0) (refused n p) .1 (h .2)

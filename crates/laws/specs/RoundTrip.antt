@@ -4,7 +4,7 @@ use Prim.Native.Nat.{ℕ, suc, _+_, _*_, _-_, _/_, _%_, _≤_, _<_}
 use native.Mathlib.Numerals.{add-one}
 use native.Mathlib.Decide.{decLt}
 use native.Mathlib.Omega.{arith}
-use mathlib.Core.Path.{_≡_, ap}
+use mathlib.Core.Path.{_≡_, sym, ap, _∙_}
 use mathlib.Core.List.{List, [], _∷_, append-nil}
 use lib.Dec.{lit≤}
 use lib.ListN.{length}
@@ -12,7 +12,7 @@ use borrow.Author.Tests.{lt-ltb, le-ltb, le-leb, lt-leb, ne-eqb}
 use Rattle.meaning.specs.Syntax.{Occurrence, Module}
 use Rattle.meaning.specs.Layout.{each, numberBytes, encode}
 use Rattle.meaning.specs.Reading.{got, atEnd, holds, read, mostModules, mostNets, mostOccurrences, mostBytes, readNumber, secondGroup, readCount, readNets, readOccurrence, readModule, readModules}
-use Rattle.meaning.specs.Ceilings.{Small, mostNumber, NetsWithin, OccurrenceWithin, ModuleWithin, ModulesWithin, Within}
+use Rattle.meaning.specs.Ceilings.{Small, mostNumber, NetsWithin, OccurrenceWithin, ModuleWithin, ModulesWithin, Within, Encodes}
 use Rattle.laws.specs.Lists.{all-map}
 use Rattle.laws.specs.Written.{bytes-of-low, bytes-of-high, netsBytes, occurrenceBytes, moduleBytes, bytes-of-nets, bytes-of-occurrence, bytes-of-module, bytes-of-file}
 use Rattle.laws.specs.Reading.{Undoes, undoes-give, undoes-bind, undoes-many}
@@ -90,6 +90,9 @@ unfolding read
 round-trip ms w =
     rw (le-leb (length (encode ms)) mostBytes (w .bytes))
     (rw append-nil at (ap atEnd (modules-undone ms (w .modules) .reads 0 [])))
+
+pub encodes-reads : {bytes : List ℕ} {ms : List Module} → Encodes bytes ms → read bytes ≡ holds ms
+encodes-reads {bytes} {ms} e = ap read (sym (e .encoded)) ∙ round-trip ms (e .within)
 
 -- Two files within the ceilings that are written alike are the same.
 pub equal-files : (ms ns : List Module) → Within ms → Within ns → encode ms ≡ encode ns → ms ≡ ns

@@ -126,9 +126,23 @@ figuresOn number ms m =
       load = largestLoad ms number;
     }
 
+abbrev pub countingOn : (number scratch : ℕ) (ms : List Module) → Module → Decision Figures
+countingOn number scratch ms m = demand 21 0 (leb (room ms number) scratch) (answer (figuresOn number ms m))
+
 unfoldable pub counting : (file : List ℕ) (number scratch : ℕ) → Decision Figures
-counting file number scratch =
-    onFile file λ ms. onModule (assoc number ms) λ m. demand 21 0 (leb (room ms number) scratch) (answer (figuresOn number ms m))
+counting file number scratch = onFile file λ ms. onModule (assoc number ms) (countingOn number scratch ms)
+
+-- What a file holds: how many modules it has,
+unfoldable pub moduleCount : (file : List ℕ) → Decision ℕ
+moduleCount file = onFile file (λ ms. answer (length ms))
+
+-- and the number of the module at a position; 18 where it has no such position.
+abbrev pub firstNumber : List Module → Decision ℕ
+firstNumber [] = refusal 18 0
+firstNumber (m ∷ later) = answer (m .number)
+
+unfoldable pub numberAt : (file : List ℕ) (position : ℕ) → Decision ℕ
+numberAt file position = onFile file (λ ms. firstNumber (drop position ms))
 
 -- Writers: 23 width outside 1 to 64, then 22.
 unfoldable pub writing : (modules : ℕ → List Module) → (width out : ℕ) → Decision Written

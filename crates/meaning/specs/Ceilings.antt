@@ -1,5 +1,6 @@
 -- The ceilings that reading enforces, as a property of a file: what can be written and then read (document 01, 'The shelf file').
 use Prim.Native.Nat.{ℕ, _≤_, _<_}
+use mathlib.Core.Path.{_≡_}
 use mathlib.Core.List.{List}
 use lib.ListN.{length}
 use Rattle.meaning.specs.Lists.{All}
@@ -45,3 +46,8 @@ pub record Within (ms : List Module) : Type 0 where
 -- Every entry is a byte.
 abbrev pub Bytes : List ℕ → Type 0
 Bytes = All (λ b. b < 256)
+
+-- Bytes that are the encoding of a list of modules within the ceilings.
+pub record Encodes (bytes : List ℕ) (ms : List Module) : Type 0 where
+  pub encoded : encode ms ≡ bytes
+  pub within : Within ms

@@ -59,10 +59,14 @@ gateArrival delay kind times = (delay kind + largest times) ∷ []
 unfoldable pub arrivals : (delay : ℕ → ℕ) → List Module → Meaning ℕ
 arrivals delay = run 0 (gateArrival delay)
 
--- How many inputs the module of a number has.
+-- How many inputs the module of a number has, and how many outputs.
 abbrev pub inputCount : Found → ℕ
 inputCount (box m) = length (m .inputs)
 inputCount F = 0
+
+abbrev pub outputCount : Found → ℕ
+outputCount (box m) = length (m .outputs)
+outputCount F = 0
 
 -- Delay: the latest arrival among outputs, from 0 at the module's inputs, 0 where there are none.
 unfoldable pub delayBy : (delay : ℕ → ℕ) → List Module → ℕ → ℕ

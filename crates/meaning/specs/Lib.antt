@@ -8,10 +8,12 @@ pub mod Layout
 pub mod Reading
 pub mod Members
 pub mod Ceilings
+pub mod Fronts
 pub mod Boxlist
 pub mod Limits
 pub mod Verdict
 pub mod Rules
+pub mod Refusals
 pub mod Acceptable
 pub mod Evaluation
 pub mod Heval
@@ -20,4 +22,5 @@ pub mod Counter
 pub mod Figures
 pub mod Flattening
 pub mod Calls
+pub mod CallRules
 pub mod Listing

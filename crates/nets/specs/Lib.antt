@@ -4,7 +4,6 @@ pub mod Booleans
 pub mod Members
 pub mod Walks
 pub mod Bounds
-pub mod Marks
 pub mod Writing
 pub mod Fronts
 pub mod SlotLaws

@@ -9,11 +9,10 @@ use borrow.Author.Tests.{le-leb, lt-leb, eqb-true, eqb-false}
 use lib.Dec.{eqb, leb}
 use lib.ListN.{length, getD, set}
 use lib.Seq.{getD-set-same, getD-set-other}
-use Rattle.meaning.specs.Boxlist.{member, subset}
+use Rattle.meaning.specs.Boxlist.{member, disjoint, duplicates, subset}
 use Rattle.nets.specs.Slots.{slotOf, Knows, Below}
 use Rattle.nets.specs.Booleans.{or-left, or-right}
 use Rattle.nets.specs.Members.{member-append}
-use Rattle.nets.specs.Walks.{apart}
 use Rattle.nets.specs.Fronts.{Front}
 use Rattle.nets.specs.SlotLaws.{slot-below, slot-append, slot-behind, slot-fresh}
 
@@ -101,16 +100,17 @@ module _
           absurd (omega arith)
       go false e = refl
 
--- What learning a list of nets asks: they are indices of the table, and slots from `first` on fit a number.
+-- What learning a list of nets asks: no two of them are the same, they are indices of the table, and slots from `first` on fit a number.
 pub record Learnable (list table : List ℕ) (base first : ℕ) : Type 0 where
+  pub single : duplicates list ≡ false
   pub inTable : Below (length table) list
   pub few : first + length list ≤ 65536
   pub high : base + 65536 ≤ 2 ^ 32
 
--- What it comes to where the table knew `nets`: a count at the list's front, of all nets just if they are new, and then the table knows them
--- too and their slots have taken their places.
+-- What it comes to where the table knew `nets`: a count at the list's front, of all nets just if none is among those, and then the table
+-- knows them too and their slots have taken their places.
 pub record Learnt (nets list : List ℕ) (base : ℕ) (list′ table′ : List ℕ) (r : ℕ) : Type 0 where
-  pub front : Front list (apart list nets) r
+  pub front : Front list (disjoint list nets) r
   pub knows : r ≡ length list → Knows table′ base (nets ++ list)
   pub written : r ≡ length list → list′ ≡ map (λ (x : ℕ). slotOf x (nets ++ list)) list
 

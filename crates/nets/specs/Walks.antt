@@ -2,18 +2,13 @@
 -- list's end nothing is left.
 use Prim.Native.Nat.{ℕ, _+_, _<_, _≤_}
 use native.Mathlib.Numerals.{add-one}
-use mathlib.Core.Path.{_≡_, refl, ap}
-use mathlib.Core.Bool.{Bool, true, false, not, _&&_, _||_}
+use mathlib.Core.Path.{_≡_, ap}
+use mathlib.Core.Bool.{true, false, not, _&&_, _||_}
 use mathlib.Core.List.{List, [], _∷_, _++_}
 use lib.Dec.{eqb}
 use lib.ListN.{length, getD, take, drop, drop-of-length-le}
 use lib.Seq.{take-suc, drop-cons}
 use Rattle.meaning.specs.Boxlist.{member, disjoint, duplicates, subset}
-use Rattle.nets.specs.Members.{disjoint-snoc}
-
--- The nets of a list are new: no two of them are the same, and none stands in the other list.
-abbrev pub apart : (l ns : List ℕ) → Bool
-apart l ns = not (duplicates l) && disjoint l ns
 
 module _ (l : List ℕ) (i : ℕ) (h : i < length l) where
   pub from-here : drop i l ≡ getD l i 0 ∷ drop (i + 1) l
@@ -38,24 +33,6 @@ module _ (l : List ℕ) (i : ℕ) (h : i < length l) where
   unfolding subset
   subset-here ns = rw from-here
 
-  -- The net here is new and the rest is apart from it too.
-  pub apart-here : (ns : List ℕ) → apart (drop i l) ns ≡ (not (member (getD l i 0) ns) && apart (drop (i + 1) l) (ns ++ (getD l i 0 ∷ [])))
-  apart-here ns =
-      rw (duplicates-here, disjoint-here ns, disjoint-snoc (drop (i + 1) l) ns (getD l i 0))
-      (regroup (member (getD l i 0) (drop (i + 1) l)) (duplicates (drop (i + 1) l)) (member (getD l i 0) ns) (disjoint (drop (i + 1) l) ns))
-    where
-      regroup : (m d n j : Bool) → (not (m || d) && (not n && j)) ≡ (not n && (not d && (j && not m)))
-      regroup true true true j = refl
-      regroup true true false j = refl
-      regroup true false true j = refl
-      regroup true false false true = refl
-      regroup true false false false = refl
-      regroup false true true j = refl
-      regroup false true false j = refl
-      regroup false false true j = refl
-      regroup false false false true = refl
-      regroup false false false false = refl
-
 module _ (l : List ℕ) (i : ℕ) (h : length l ≤ i) where
   pub member-end : (x : ℕ) → member x (drop i l) ≡ false
   unfolding member
@@ -72,6 +49,3 @@ module _ (l : List ℕ) (i : ℕ) (h : length l ≤ i) where
   pub subset-end : (ns : List ℕ) → subset (drop i l) ns ≡ true
   unfolding subset
   subset-end ns = rw (drop-of-length-le l h)
-
-  pub apart-end : (ns : List ℕ) → apart (drop i l) ns ≡ true
-  apart-end ns = rw (duplicates-end, disjoint-end ns)

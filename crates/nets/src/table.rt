@@ -37,8 +37,8 @@ pub fn learn(list: &[u16], table: &mut [u32], base: u32)
     }
 }
 
-// How many nets at the front of the list are new, to the table and to each other: all of them, or those in front of the first that is
-// not. One pass asks, learns and writes: each net takes the next slot from `first` on, and its slot takes its place in the list. The
+// How many nets at the front of the list, no two of which are the same, the table does not know: all of them, or those in front of the
+// first that it knows. One pass asks, learns and writes: each net takes the next slot from `first` on, and its slot takes its place in the list. The
 // answer is a count and not a yes or no, so that the place behind the list comes from the loop, whose end the processor foresees, and
 // the next list need not wait for a count to be loaded.
 pub fn learn_new(list: &mut [u16], table: &mut [u32], base: u32, first: u32) -> usize

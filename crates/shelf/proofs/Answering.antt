@@ -5,13 +5,13 @@ use mathlib.Core.List.{List}
 use lib.ListN.{length}
 use Rattle.meaning.specs.Reading.{File, holds, fails, read}
 use Rattle.meaning.specs.Verdict.{Verdict, good, refused, fileVerdict, verdictOf, verdict}
-use Rattle.meaning.specs.Calls.{answer, ifGood, onRead, onFile}
-use Rattle.counting.specs.Contents.{moduleCount, listedOf}
-use Rattle.counting.specs.declared.contents.Listed.{Listed}
-use Rattle.counting.specs.declared.contents.Listed.the-variants.{Modules, Refused}
-use Rattle.shelf.specs.Answers.{checkOf}
-use Rattle.shelf.specs.declared.judged.Checked.{Checked}
-use Rattle.shelf.specs.declared.judged.Checked.the-variants.{Good, Broken}
+use Rattle.meaning.specs.Calls.{answer, ifGood, onRead, onFile, moduleCount}
+use Rattle.answers.specs.Contents.{listedOf}
+use Rattle.answers.specs.declared.Listed.{Listed}
+use Rattle.answers.specs.declared.Listed.the-variants.{Modules, Refused}
+use Rattle.answers.specs.Judged.{checkOf}
+use Rattle.answers.specs.declared.Checked.{Checked}
+use Rattle.answers.specs.declared.Checked.the-variants.{Good, Broken}
 
 abbrev pub judged : Listed → Checked
 judged (Modules count) = Good

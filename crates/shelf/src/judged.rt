@@ -1,20 +1,15 @@
 // The check: whether a file is accepted, and if not, the one refusal of 1 to 17 with its place.
-use counting::contents::Listed;
+use answers::Checked;
+use answers::Listed;
 ghost use mathlib.Core.Path.{_≡_};
 ghost use Rattle.meaning.specs.Verdict.{verdict};
-ghost use Rattle.shelf.specs.Answers.{checkOf};
-
-// What the check says of a file.
-pub enum Checked {
-    Good,
-    Broken { number: u16, place: usize },
-}
+ghost use Rattle.answers.specs.Judged.{checkOf};
 
 // A file is accepted exactly where its modules can be counted, and refused as that is.
 pub fn check(file: &[u8]) -> Checked
     ensures { λ r. ⌜ r ≡ checkOf (verdict (now (file .entry))) ⌝ }
 {
-    match counting::contents::modules(file) {
+    match call_door::modules(file) {
         Listed::Modules(_) => Checked::Good,
         Listed::Refused { number, place } => Checked::Broken { number, place },
     }

@@ -1,17 +1,17 @@
 // The library that others see: total functions on slices, with no `requires`. Each has its contract where it is defined.
 mod judged; // judged.rt: the check
 
-pub use counting::answers::Counted;
-pub use counting::answers::Figures;
-pub use counting::contents::Listed;
-pub use counting::contents::Named;
-pub use counting::contents::modules;
-pub use counting::contents::number_at;
-pub use counting::count;
-pub use evaluating::evaluate;
-pub use flattening::flatten;
-pub use judged::Checked;
+pub use answers::Checked;
+pub use answers::Listed;
+pub use answers::Named;
+pub use answers::Writing;
+pub use call_count::answers::Counted;
+pub use call_count::answers::Figures;
+pub use call_door::count;
+pub use call_door::evaluate;
+pub use call_door::flatten;
+pub use call_door::modules;
+pub use call_door::number_at;
 pub use judged::check;
-pub use writer::Writing;
-pub use writer::adder;
-pub use writer::counter;
+pub use write_order::adder;
+pub use write_order::counter;

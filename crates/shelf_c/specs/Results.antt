@@ -1,20 +1,23 @@
--- The three numbers that a C caller gets of a call that writes: number and place as document 01 has them, and how many bytes of the
--- output buffer were written, 0 on a refusal.
+-- What a C caller gets: number and place as document 01 has them, and behind the other pointers what was asked for. On a refusal nothing
+-- is written but the place.
 use Prim.Native.Nat.{ℕ}
-use mathlib.Core.Path.{_≡_}
+use mathlib.Core.Path.{_≡_, sym, _∙_}
+use mathlib.Core.Bool.{cond}
 use mathlib.Core.List.{List, [], _∷_}
+use lib.Dec.{eqb}
 use lib.ListN.{length, replicate}
 use Rattle.meaning.specs.Calls.{Decision, refusal, answer, Written, Figures, numberOf, placeOf}
-use Rattle.writer.specs.declared.answer.Writing.{Writing}
-use Rattle.writer.specs.declared.answer.Writing.the-variants.{Wrote, Refused}
+use Rattle.answers.specs.declared.Writing.{Writing}
+use Rattle.answers.specs.declared.Writing.the-variants.{Wrote, Refused}
 
-abbrev pub writtenOf : Decision Written → ℕ
-writtenOf (refusal number place) = 0
-writtenOf (answer w) = length (w .bytes)
+-- How many bytes of the output buffer were written.
+abbrev pub writtenAfter : Decision Written → ℕ → ℕ
+writtenAfter (refusal number place) before = before
+writtenAfter (answer w) before = length (w .bytes)
 
-pub record Reports (decision : Decision Written) (number written place : ℕ) : Type 0 where
+pub record Reports (decision : Decision Written) (number before written place : ℕ) : Type 0 where
   pub numberIs : number ≡ numberOf decision
-  pub writtenIs : written ≡ writtenOf decision
+  pub writtenIs : written ≡ writtenAfter decision before
   pub placeIs : place ≡ placeOf decision
 
 -- The same numbers, read off the library's answer.
@@ -22,20 +25,23 @@ abbrev pub numberIn : Writing → ℕ
 numberIn (Wrote count) = 0
 numberIn (Refused number place) = number
 
-abbrev pub writtenIn : Writing → ℕ
-writtenIn (Wrote count) = count
-writtenIn (Refused number place) = 0
+abbrev pub writtenIn : Writing → ℕ → ℕ
+writtenIn (Wrote count) before = count
+writtenIn (Refused number place) before = before
 
 abbrev pub placeIn : Writing → ℕ
 placeIn (Wrote count) = 0
 placeIn (Refused number place) = place
 
--- What a call that answers one number hands back: 0 on a refusal.
-abbrev pub answerOf : Decision ℕ → ℕ
-answerOf (refusal number place) = 0
-answerOf (answer n) = n
+-- What a call that answers one number hands back.
+abbrev pub answerAfter : Decision ℕ → ℕ → ℕ
+answerAfter (refusal number place) before = before
+answerAfter (answer n) before = n
 
--- What a count hands back: seven figures and sixteen counts of gates, all 0 on a refusal.
+-- What a count hands back where its number is 0: seven figures and sixteen counts of gates.
+abbrev pub unlessRefused : Decision Figures → (of before : List ℕ) → List ℕ
+unlessRefused decision of before = cond (eqb (numberOf decision) 0) of before
+
 abbrev pub figuresIn : Decision Figures → List ℕ
 figuresIn (refusal number place) = replicate 7 0
 figuresIn (answer f) = f .inputs ∷ f .outputs ∷ f .gates ∷ f .size ∷ f .room ∷ f .delay ∷ f .load ∷ []
@@ -43,3 +49,27 @@ figuresIn (answer f) = f .inputs ∷ f .outputs ∷ f .gates ∷ f .size ∷ f .
 abbrev pub tallyIn : Decision Figures → List ℕ
 tallyIn (refusal number place) = replicate 16 0
 tallyIn (answer f) = f .tally
+
+-- Each contract says of each result what it equals, so any two outcomes that it permits coincide: those of a call that writes,
+pub one-report :
+    {decision : Decision Written} {before number number′ written written′ place place′ : ℕ}
+    → Reports decision number before written place
+    → Reports decision number′ before written′ place′
+    → (number ≡ number′) × ((written ≡ written′) × (place ≡ place′))
+one-report one other = (one .numberIs ∙ sym (other .numberIs), (one .writtenIs ∙ sym (other .writtenIs), one .placeIs ∙ sym (other .placeIs)))
+
+-- of one that answers one number,
+pub one-answer :
+    (decision : Decision ℕ) (before : ℕ) {number number′ found found′ place place′ : ℕ}
+    → (number ≡ numberOf decision) × ((found ≡ answerAfter decision before) × (place ≡ placeOf decision))
+    → (number′ ≡ numberOf decision) × ((found′ ≡ answerAfter decision before) × (place′ ≡ placeOf decision))
+    → (number ≡ number′) × ((found ≡ found′) × (place ≡ place′))
+one-answer decision before one other = (one .0 ∙ sym (other .0), (one .1 .0 ∙ sym (other .1 .0), one .1 .1 ∙ sym (other .1 .1)))
+
+-- and of a count. The check hands back a number and a place, each an equation.
+pub one-count :
+    (decision : Decision Figures) (figures tally : List ℕ) {figures₁ figures₂ tally₁ tally₂ : List ℕ}
+    → (figures₁ ≡ unlessRefused decision (figuresIn decision) figures) × (tally₁ ≡ unlessRefused decision (tallyIn decision) tally)
+    → (figures₂ ≡ unlessRefused decision (figuresIn decision) figures) × (tally₂ ≡ unlessRefused decision (tallyIn decision) tally)
+    → (figures₁ ≡ figures₂) × (tally₁ ≡ tally₂)
+one-count decision figures tally one other = (one .0 ∙ sym (other .0), one .1 ∙ sym (other .1))

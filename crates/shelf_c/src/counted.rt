@@ -3,9 +3,8 @@ use shelf::Listed;
 use shelf::Named;
 ghost use mathlib.Core.Path.{_≡_};
 ghost use lib.ListN.{length};
-ghost use Rattle.meaning.specs.Calls.{counting, numberOf, placeOf, scratchAfter};
-ghost use Rattle.counting.specs.Contents.{moduleCount, numberAt};
-ghost use Rattle.shelf_c.specs.Results.{answerOf, figuresIn, tallyIn};
+ghost use Rattle.meaning.specs.Calls.{counting, numberOf, placeOf, scratchAfter, moduleCount, numberAt};
+ghost use Rattle.shelf_c.specs.Results.{answerAfter, unlessRefused, figuresIn, tallyIn};
 
 // `figures` gets inputs, outputs, gates, expanded size, room, delay and largest load.
 #[no_mangle]
@@ -19,11 +18,16 @@ pub extern "C" fn shelf_count(
 ) -> u16
     ensures { λ r. ⌜ r ≡ numberOf (counting (now (file .entry)) number (length (now (scratch .entry)))) ⌝ }
     ensures { λ _. ⌜ now (place .exit) ≡ placeOf (counting (now (file .entry)) number (length (now (scratch .entry)))) ⌝ }
-    ensures { λ _. ⌜ now (figures .exit) ≡ figuresIn (counting (now (file .entry)) number (length (now (scratch .entry)))) ⌝ }
-    ensures { λ _. ⌜ now (tally .exit) ≡ tallyIn (counting (now (file .entry)) number (length (now (scratch .entry)))) ⌝ }
+    ensures { λ _. ⌜ now (figures .exit) ≡ unlessRefused (counting (now (file .entry)) number (length (now (scratch .entry)))) (figuresIn (counting (now (file .entry)) number (length (now (scratch .entry))))) (now (figures .entry)) ⌝ }
+    ensures { λ _. ⌜ now (tally .exit) ≡ unlessRefused (counting (now (file .entry)) number (length (now (scratch .entry)))) (tallyIn (counting (now (file .entry)) number (length (now (scratch .entry))))) (now (tally .entry)) ⌝ }
     ensures { λ _. ⌜ now (scratch .exit) ≡ scratchAfter (λ f. f .room) (counting (now (file .entry)) number (length (now (scratch .entry)))) (now (scratch .entry)) ⌝ }
 {
     let counted = shelf::count(file, number, scratch);
+    let refusal = counted.number;
+    *place = counted.place;
+    if refusal != 0 {
+        return refusal;
+    }
     let found = counted.figures;
     *figures = [
         found.inputs,
@@ -37,14 +41,13 @@ pub extern "C" fn shelf_count(
     let kinds = found.tally;
     let counts = kinds.counts;
     *tally = counts;
-    *place = counted.place;
-    counted.number
+    0
 }
 
 #[no_mangle]
 pub extern "C" fn shelf_modules(file: &[u8], modules: &mut usize, place: &mut usize) -> u16
     ensures { λ r. ⌜ r ≡ numberOf (moduleCount (now (file .entry))) ⌝ }
-    ensures { λ _. ⌜ now (modules .exit) ≡ answerOf (moduleCount (now (file .entry))) ⌝ }
+    ensures { λ _. ⌜ now (modules .exit) ≡ answerAfter (moduleCount (now (file .entry))) (now (modules .entry)) ⌝ }
     ensures { λ _. ⌜ now (place .exit) ≡ placeOf (moduleCount (now (file .entry))) ⌝ }
 {
     match shelf::modules(file) {
@@ -54,7 +57,6 @@ pub extern "C" fn shelf_modules(file: &[u8], modules: &mut usize, place: &mut us
             0
         }
         Listed::Refused { number, place: at } => {
-            *modules = 0;
             *place = at;
             number
         }
@@ -69,7 +71,7 @@ pub extern "C" fn shelf_number_at(
     place: &mut usize,
 ) -> u16
     ensures { λ r. ⌜ r ≡ numberOf (numberAt (now (file .entry)) position) ⌝ }
-    ensures { λ _. ⌜ now (number .exit) ≡ answerOf (numberAt (now (file .entry)) position) ⌝ }
+    ensures { λ _. ⌜ now (number .exit) ≡ answerAfter (numberAt (now (file .entry)) position) (now (number .entry)) ⌝ }
     ensures { λ _. ⌜ now (place .exit) ≡ placeOf (numberAt (now (file .entry)) position) ⌝ }
 {
     match shelf::number_at(file, position) {
@@ -82,7 +84,6 @@ pub extern "C" fn shelf_number_at(
             number: refusal,
             place: at,
         } => {
-            *number = 0;
             *place = at;
             refusal
         }

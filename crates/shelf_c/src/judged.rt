@@ -2,12 +2,12 @@
 use shelf::Checked;
 ghost use mathlib.Core.Path.{_≡_};
 ghost use Rattle.meaning.specs.Verdict.{verdict};
-ghost use Rattle.shelf.specs.Answers.{checkOf, numberOf, placeOf};
+ghost use Rattle.answers.specs.Judged.{checkOf, checkedNumber, checkedPlace};
 
 #[no_mangle]
 pub extern "C" fn shelf_check(file: &[u8], place: &mut usize) -> u16
-    ensures { λ r. ⌜ r ≡ numberOf (checkOf (verdict (now (file .entry)))) ⌝ }
-    ensures { λ _. ⌜ now (place .exit) ≡ placeOf (checkOf (verdict (now (file .entry)))) ⌝ }
+    ensures { λ r. ⌜ r ≡ checkedNumber (checkOf (verdict (now (file .entry)))) ⌝ }
+    ensures { λ _. ⌜ now (place .exit) ≡ checkedPlace (checkOf (verdict (now (file .entry)))) ⌝ }
 {
     match shelf::check(file) {
         Checked::Good => {

@@ -15,7 +15,7 @@ pub extern "C" fn shelf_evaluate(
     written: &mut usize,
     place: &mut usize,
 ) -> u16
-    ensures { λ r. ⌜ Reports (evaluation (now (file .entry)) number (now (values .entry)) (length (now (scratch .entry))) (length (now (out .entry)))) r (now (written .exit)) (now (place .exit)) ⌝ }
+    ensures { λ r. ⌜ Reports (evaluation (now (file .entry)) number (now (values .entry)) (length (now (scratch .entry))) (length (now (out .entry)))) r (now (written .entry)) (now (written .exit)) (now (place .exit)) ⌝ }
     ensures { λ _. ⌜ now (out .exit) ≡ outAfter (evaluation (now (file .entry)) number (now (values .entry)) (length (now (scratch .entry))) (length (now (out .entry)))) (now (out .entry)) ⌝ }
     ensures { λ _. ⌜ now (scratch .exit) ≡ scratchAfter (λ w. w .cleared) (evaluation (now (file .entry)) number (now (values .entry)) (length (now (scratch .entry))) (length (now (out .entry)))) (now (scratch .entry)) ⌝ }
 {
@@ -35,7 +35,7 @@ pub extern "C" fn shelf_flatten(
     written: &mut usize,
     place: &mut usize,
 ) -> u16
-    ensures { λ r. ⌜ Reports (flattening (now (file .entry)) number (length (now (scratch .entry))) (length (now (out .entry)))) r (now (written .exit)) (now (place .exit)) ⌝ }
+    ensures { λ r. ⌜ Reports (flattening (now (file .entry)) number (length (now (scratch .entry))) (length (now (out .entry)))) r (now (written .entry)) (now (written .exit)) (now (place .exit)) ⌝ }
     ensures { λ _. ⌜ now (out .exit) ≡ outAfter (flattening (now (file .entry)) number (length (now (scratch .entry))) (length (now (out .entry)))) (now (out .entry)) ⌝ }
     ensures { λ _. ⌜ now (scratch .exit) ≡ scratchAfter (λ w. w .cleared) (flattening (now (file .entry)) number (length (now (scratch .entry))) (length (now (out .entry)))) (now (scratch .entry)) ⌝ }
 {

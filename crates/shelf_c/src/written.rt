@@ -7,10 +7,10 @@ ghost use Rattle.meaning.specs.Counter.{counter as counterOf};
 ghost use Rattle.meaning.specs.Calls.{writing, outAfter};
 ghost use Rattle.shelf_c.specs.Results.{Reports, numberIn, writtenIn, placeIn};
 
-// Hands back the three numbers of an answer.
+// Hands back the three numbers of an answer; of a refusal only two.
 pub(crate) fn report(answer: Writing, written: &mut usize, place: &mut usize) -> u16
     ensures { λ r. ⌜ r ≡ numberIn answer ⌝ }
-    ensures { λ _. ⌜ now (written .exit) ≡ writtenIn answer ⌝ }
+    ensures { λ _. ⌜ now (written .exit) ≡ writtenIn answer (now (written .entry)) ⌝ }
     ensures { λ _. ⌜ now (place .exit) ≡ placeIn answer ⌝ }
 {
     match answer {
@@ -20,7 +20,6 @@ pub(crate) fn report(answer: Writing, written: &mut usize, place: &mut usize) ->
             0
         }
         Writing::Refused { number, place: at } => {
-            *written = 0;
             *place = at;
             number
         }
@@ -34,7 +33,7 @@ pub extern "C" fn shelf_adder(
     written: &mut usize,
     place: &mut usize,
 ) -> u16
-    ensures { λ r. ⌜ Reports (writing adderOf width (length (now (out .entry)))) r (now (written .exit)) (now (place .exit)) ⌝ }
+    ensures { λ r. ⌜ Reports (writing adderOf width (length (now (out .entry)))) r (now (written .entry)) (now (written .exit)) (now (place .exit)) ⌝ }
     ensures { λ _. ⌜ now (out .exit) ≡ outAfter (writing adderOf width (length (now (out .entry)))) (now (out .entry)) ⌝ }
 {
     report(shelf::adder(width, out), written, place)
@@ -47,7 +46,7 @@ pub extern "C" fn shelf_counter(
     written: &mut usize,
     place: &mut usize,
 ) -> u16
-    ensures { λ r. ⌜ Reports (writing counterOf width (length (now (out .entry)))) r (now (written .exit)) (now (place .exit)) ⌝ }
+    ensures { λ r. ⌜ Reports (writing counterOf width (length (now (out .entry)))) r (now (written .entry)) (now (written .exit)) (now (place .exit)) ⌝ }
     ensures { λ _. ⌜ now (out .exit) ≡ outAfter (writing counterOf width (length (now (out .entry)))) (now (out .entry)) ⌝ }
 {
     report(shelf::counter(width, out), written, place)

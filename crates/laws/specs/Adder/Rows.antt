@@ -10,29 +10,26 @@ use Rattle.meaning.specs.Lists.{All}
 use Rattle.meaning.specs.Layout.{each, occurrenceNumbers, moduleNumbers, fileNumbers, numberBytes, encode}
 use Rattle.meaning.specs.Figures.{gateCount, delay}
 use Rattle.meaning.specs.Adder.{upFrom, adderCells, rippleAdder, adder}
+use Rattle.laws.specs.Rows.{adderBytes}
 use Rattle.laws.specs.Adder.ByTest.{all-by-test}
 use Rattle.laws.specs.Adder.Figures.{adder-gates}
 use Rattle.laws.specs.Adder.Delay.{adder-delay}
 
--- Width 1, whole, in hexadecimal, 67 bytes.
-pub bytes-at-width-1 : encode (adder 1)
-    ≡ 0x03 ∷ 0x12 ∷ 0x03 ∷ 0x00 ∷ 0x01 ∷ 0x02 ∷ 0x02 ∷ 0x03 ∷ 0x04 ∷ 0x01 ∷ 0x02 ∷ 0x03 ∷ 0x04 ∷ 0x11 ∷ 0x03 ∷ 0x01 ∷ 0x02 ∷ 0x00
-    ∷ 0x11 ∷ 0x03 ∷ 0x00 ∷ 0x01 ∷ 0x02 ∷ 0x02 ∷ 0x03 ∷ 0x04 ∷ 0x03 ∷ 0x02 ∷ 0x05 ∷ 0x06 ∷ 0x10 ∷ 0x02 ∷ 0x00 ∷ 0x01 ∷ 0x02 ∷ 0x03
-    ∷ 0x07 ∷ 0x10 ∷ 0x02 ∷ 0x05 ∷ 0x02 ∷ 0x01 ∷ 0x04 ∷ 0x05 ∷ 0x02 ∷ 0x06 ∷ 0x07 ∷ 0x10 ∷ 0x02 ∷ 0x00 ∷ 0x01 ∷ 0x02 ∷ 0x02 ∷ 0x03
-    ∷ 0x02 ∷ 0x01 ∷ 0x02 ∷ 0x09 ∷ 0x02 ∷ 0x00 ∷ 0x01 ∷ 0x01 ∷ 0x03 ∷ 0x0A ∷ 0x02 ∷ 0x00 ∷ 0x01 ∷ []
+-- Width 1, whole.
+pub bytes-at-width-1 : encode (adder 1) ≡ adderBytes
 unfolding encode fileNumbers moduleNumbers occurrenceNumbers each numberBytes adder rippleAdder adderCells upFrom
 bytes-at-width-1 = refl
 
 -- A row of Table 1: adder size in bits, ripple gate count, ripple max delay.
-pub record Row : Type 0 where
+pub record TableRow : Type 0 where
   pub bits : ℕ
   pub gates : ℕ
   pub maxDelay : ℕ
 
-abbrev row : (bits gates maxDelay : ℕ) → Row
+abbrev row : (bits gates maxDelay : ℕ) → TableRow
 row bits gates maxDelay = record { bits = bits; gates = gates; maxDelay = maxDelay }
 
-abbrev pub rippleColumn : List Row
+abbrev pub rippleColumn : List TableRow
 rippleColumn =
     row 1 5 3
     ∷ row 2 10 5
@@ -46,16 +43,17 @@ rippleColumn =
     ∷ row 64 320 129
     ∷ []
 
-pub record Agrees (r : Row) : Type 0 where
+-- What is printed is so.
+pub record Printed (r : TableRow) : Type 0 where
   pub gates : gateCount (adder (r .bits)) 18 ≡ r .gates
   pub maxDelay : delay (adder (r .bits)) 18 ≡ r .maxDelay
 
--- A row whose figures are 5n and 2n+1 agrees.
-abbrev linear : Row → Bool
+-- A row whose figures are 5n and 2n+1 is right.
+abbrev linear : TableRow → Bool
 linear r = leb 1 (r .bits) && (eqb (5 * r .bits) (r .gates) && eqb (2 * r .bits + 1) (r .maxDelay))
 
-linear-agrees : (r : Row) → linear r ≡ true → Agrees r
-linear-agrees r passed =
+linear-printed : (r : TableRow) → linear r ≡ true → Printed r
+linear-printed r passed =
     let both = and-eq-true-iff (leb 1 (r .bits)) _ .0 passed in
     let figures = and-eq-true-iff (eqb (5 * r .bits) (r .gates)) _ .0 (both .1) in
     record {
@@ -64,5 +62,5 @@ linear-agrees r passed =
     }
 
 -- Gate count and delay agree with Table 1 at each width printed up to 64.
-pub table-1 : All Agrees rippleColumn
-table-1 = all-by-test linear linear-agrees rippleColumn refl
+pub table-1 : All Printed rippleColumn
+table-1 = all-by-test linear linear-printed rippleColumn refl

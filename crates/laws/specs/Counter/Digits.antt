@@ -3,7 +3,7 @@ use Prim.Native.Nat.{ℕ, zero, suc, _+_, _*_, _^_, _/_, _%_, _≤_, _<_}
 use mathlib.Core.Path.{_≡_, refl}
 use mathlib.Core.Bool.{Bool, true, false, cond}
 use mathlib.Core.List.{List, [], _∷_, _++_}
-use native.Mathlib.Nat.{pow-suc}
+use native.Mathlib.Nat.{pow-suc, one-le-pow}
 use native.Mathlib.Omega.{arith}
 use lib.Dec.{eqb}
 use lib.ListN.{length, replicate}
@@ -85,6 +85,19 @@ length-within (suc k) n c h = go (eqb n 0) refl c h (length-within k (n / 2))
 pub digits-fewest : (n c : ℕ) → n < 2 ^ c → length (digits n) ≤ c
 unfolding digits
 digits-fewest n c h = length-within n n c h
+
+-- Powers of two are in the order of their exponents, so a number between two neighbours has one digit more than the exponent.
+pub power-below : (j c : ℕ) → 2 ^ j < 2 ^ c → j < c
+power-below j zero less = absurd (omega (arith, one-le-pow j 2 (omega arith)))
+power-below zero (suc c) less = omega arith
+power-below (suc j) (suc c) less = omega (arith, power-below j c (omega (arith, pow-suc 2 j, pow-suc 2 c)))
+
+pub below-digits : (n : ℕ) → n < 2 ^ length (digits n)
+below-digits n = omega (arith, binary-below (digits n), binary-digits n)
+
+pub digits-count : (n k : ℕ) → 2 ^ k ≤ n → n < 2 ^ suc k → length (digits n) ≡ suc k
+digits-count n k least most =
+    omega (arith, digits-fewest n (suc k) most, power-below k (length (digits n)) (omega (arith, below-digits n)))
 
 -- The digits of a level and above, of which the highest is 1. With each digit 1 the count of bits becomes one more than its
 -- level, so that at the end it is as many as there are digits.

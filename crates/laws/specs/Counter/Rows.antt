@@ -14,7 +14,7 @@ use Rattle.meaning.specs.Layout.{each, occurrenceNumbers, moduleNumbers, fileNu
 use Rattle.meaning.specs.Adder.{upFrom}
 use Rattle.meaning.specs.Counter.{zerosFirst, leadingZeros, choose, blockNumber, joinBlock, block, blocks, digitsWithin, digits, joinParts, lastCount, counterModule, counter}
 use Rattle.laws.specs.Adder.ByTest.{all-by-test}
-use Rattle.laws.specs.Counter.Outputs.{Counted, counter-on-known}
+use Rattle.laws.specs.Counter.Outputs.{CountsZeros, counter-on-known}
 
 pub record Row : Type 0 where
   pub width : ℕ
@@ -33,7 +33,7 @@ rows =
     ∷ []
 
 abbrev pub Yields : Row → Type 0
-Yields r = Counted (r .width) (r .zeros) (evaluate (counter (r .width)) 32 (map known (r .bits)))
+Yields r = CountsZeros (r .width) (r .zeros) (evaluate (counter (r .width)) 32 (map known (r .bits)))
 
 isRight : Row → Bool
 isRight r = leb 1 (r .width) && (eqb (length (r .bits)) (r .width) && eqb (leadingZeros (r .bits)) (r .zeros))

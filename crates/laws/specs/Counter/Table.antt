@@ -1,16 +1,20 @@
--- The table of docs/COUNTER.md: gates and delay of the counter at each width from 1 to 64.
-use Prim.Native.Nat.{ℕ, _-_, _≤_}
-use mathlib.Core.Path.{_≡_, refl}
-use mathlib.Core.Bool.{Bool, true, _&&_, and-eq-true-iff}
+-- The table of docs/COUNTER.md: gates and delay of the counter at each width from 1 to 64, read off the laws for every width.
+use Prim.Native.Nat.{ℕ, suc, _+_, _*_, _-_, _^_, _≤_, _<_, max}
+use mathlib.Core.Logic.{_⊎_, inl, inr}
+use mathlib.Core.Path.{_≡_, refl, _∙_}
+use mathlib.Core.Bool.{Bool, true, false, cond, _&&_, and-eq-true-iff}
 use mathlib.Core.List.{List, [], _∷_}
+use native.Mathlib.Omega.{arith}
 use lib.Dec.{eqb}
-use lib.ListN.{getD}
-use borrow.Author.Tests.{eqb-true}
-use Rattle.meaning.specs.Boxlist.{assoc}
-use Rattle.meaning.specs.Evaluation.{look, lookAll, pairs, walk, runModule, run}
-use Rattle.meaning.specs.Figures.{largest, bodyWeight, gateWeight, gateCount, arrivals, delayBy, delay}
-use Rattle.meaning.specs.Adder.{upFrom}
-use Rattle.meaning.specs.Counter.{choose, blockNumber, joinBlock, block, blocks, digitsWithin, digits, joinParts, lastCount, counterModule, counter}
+use lib.ListN.{length, getD}
+use borrow.Author.Tests.{eqb-true, eqb-false}
+use Rattle.meaning.specs.Figures.{gateCount, delay}
+use Rattle.meaning.specs.Counter.{digitsWithin, digits, counter}
+use Rattle.laws.specs.Counter.Digits.{power-below, below-digits, digits-fewest}
+use Rattle.laws.specs.Counter.Levels.{atParts}
+use Rattle.laws.specs.Counter.Reached.{partGates, gates-of-counter}
+use Rattle.laws.specs.Counter.Signals.{either-side}
+use Rattle.laws.specs.Counter.Late.{counter-delay-power, counter-delay-between}
 use Rattle.laws.specs.Counter.Widths.{everyWidth, at-width}
 
 -- From width 1 on.
@@ -38,17 +42,41 @@ pub record Figures (n : ℕ) : Type 0 where
   pub gates : gateCount (counter n) 32 ≡ gatesAt n
   pub maxDelay : delay (counter n) 32 ≡ delayAt n
 
+-- The level of the highest part, and its power of two.
+abbrev highest : ℕ → ℕ
+highest n = length (digits n) - 1
+
+module _ (n : ℕ) (some : 1 ≤ n) where
+  some-digit : length (digits n) ≡ suc (highest n)
+  some-digit = omega (arith, power-below 0 (length (digits n)) (omega (arith, below-digits n)))
+
+  power-within : (n < 2 ^ highest n) ⊎ (2 ^ highest n ≤ n) → 2 ^ highest n ≤ n
+  power-within (inl less) = absurd (omega (arith, some-digit, digits-fewest n (highest n) less))
+  power-within (inr h) = h
+
+  delay-by-power : (b : Bool) → eqb n (2 ^ highest n) ≡ b
+      → delay (counter n) 32 ≡ cond b (max 1 (2 * highest n)) (2 * highest n + 1)
+  delay-by-power true e = counter-delay-power n (highest n) (eqb-true n (2 ^ highest n) e)
+  delay-by-power false e =
+      let other = eqb-false n (2 ^ highest n) e in
+      counter-delay-between n (highest n) (omega (arith, power-within (either-side n (2 ^ highest n)))) (rw some-digit at (below-digits n))
+
+delayOf : ℕ → ℕ
+delayOf n = cond (eqb n (2 ^ highest n)) (max 1 (2 * highest n)) (2 * highest n + 1)
+
+delay-of-counter : (n : ℕ) → 1 ≤ n → delay (counter n) 32 ≡ delayOf n
+unfolding delayOf
+delay-of-counter n some = delay-by-power n some (eqb n (2 ^ highest n)) refl
+
 agrees : ℕ → Bool
-agrees n = eqb (gateCount (counter n) 32) (gatesAt n) && eqb (delay (counter n) 32) (delayAt n)
+agrees n = eqb (atParts partGates 0 0 (digits n)) (gatesAt n) && eqb (delayOf n) (delayAt n)
 
 every-agrees : everyWidth agrees 64 ≡ true
-unfolding
-    everyWidth agrees gateCount gateWeight bodyWeight delay delayBy arrivals run runModule walk lookAll look pairs largest assoc
-    upFrom choose blockNumber joinBlock block blocks digitsWithin digits joinParts lastCount counterModule counter
+unfolding everyWidth agrees delayOf atParts partGates digitsWithin digits
 every-agrees = refl
 
 pub counter-table : (n : ℕ) → 1 ≤ n → n ≤ 64 → Figures n
 unfolding agrees
 counter-table n some most =
-    let both = and-eq-true-iff (eqb (gateCount (counter n) 32) (gatesAt n)) _ .0 (at-width agrees 64 every-agrees n some most) in
-    record { gates = eqb-true _ _ (both .0); maxDelay = eqb-true _ _ (both .1) }
+    let both = and-eq-true-iff (eqb (atParts partGates 0 0 (digits n)) (gatesAt n)) _ .0 (at-width agrees 64 every-agrees n some most) in
+    record { gates = gates-of-counter n ∙ eqb-true _ _ (both .0); maxDelay = delay-of-counter n some ∙ eqb-true _ _ (both .1) }

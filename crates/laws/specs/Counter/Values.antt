@@ -11,89 +11,58 @@ use Rattle.meaning.specs.Values.{Val, known, un, byFillings}
 use Rattle.meaning.specs.Gates.{B-XOR, gate, gates, gateValue}
 use Rattle.meaning.specs.Adder.{binary}
 use Rattle.meaning.specs.Counter.{OR, XOR, AND}
+use Rattle.laws.specs.Counter.Law.{chosen, length-joined, chosen-end}
 use Rattle.laws.specs.Counter.Leading.{Lead, found, empty, unsure, over, map-known-zeros}
 use Rattle.laws.specs.Counter.Digits.{binary-zeros-above, binary-one-above}
 
--- What a net reads as in evaluation that nothing gave a value.
-abbrev pub unset : Val
-unset = known false
-
 -- The gates of a join, and what they make of known arguments.
-unfoldable pub andVal : Val → Val → Val
+abbrev andVal : Val → Val → Val
 andVal a b = gateValue AND (a ∷ b ∷ [])
 
-unfoldable pub orVal : Val → Val → Val
+abbrev orVal : Val → Val → Val
 orVal a b = gateValue OR (a ∷ b ∷ [])
 
-unfoldable pub xorVal : Val → Val → Val
+abbrev xorVal : Val → Val → Val
 xorVal a b = gateValue XOR (a ∷ b ∷ [])
 
 and-shut : (v : Val) → andVal (known false) v ≡ known false
-unfolding andVal gateValue gate gates byFillings
+unfolding gateValue gate gates byFillings
 and-shut (known true) = refl
 and-shut (known false) = refl
 and-shut un = refl
 
 and-open : (v : Val) → andVal (known true) v ≡ v
-unfolding andVal gateValue gate gates byFillings
+unfolding gateValue gate gates byFillings
 and-open (known true) = refl
 and-open (known false) = refl
 and-open un = refl
 
 or-shut : (v : Val) → orVal v (known false) ≡ v
-unfolding orVal gateValue gate gates byFillings
+unfolding gateValue gate gates byFillings
 or-shut (known true) = refl
 or-shut (known false) = refl
 or-shut un = refl
 
 or-open : (v : Val) → orVal (known false) v ≡ v
-unfolding orVal gateValue gate gates byFillings
+unfolding gateValue gate gates byFillings
 or-open (known true) = refl
 or-open (known false) = refl
 or-open un = refl
 
 xor-known : (a b : Bool) → xorVal (known a) (known b) ≡ known (B-XOR a b)
-unfolding xorVal gateValue gate gates byFillings
+unfolding gateValue gate gates byFillings
 xor-known a b = refl
 
--- Count bits chosen between a high part and a shorter low one.
-unfoldable pub chosen : Val → (high low : List Val) → List Val
-chosen e [] ls = []
-chosen e (h ∷ hs) [] = h ∷ hs
-chosen e (h ∷ hs) (l ∷ ls) = orVal h (andVal e l) ∷ chosen e hs ls
-
-pub length-chosen : (e : Val) (hs ls : List Val) → length (chosen e hs ls) ≡ length hs
-unfolding chosen
-length-chosen e [] ls = refl
-length-chosen e (h ∷ hs) [] = refl
-length-chosen e (h ∷ hs) (l ∷ ls) = ap suc (length-chosen e hs ls)
-
-length-joined : (e : Val) (hs ls : List Val) (top : Val) → length (chosen e hs ls ++ (top ∷ [])) ≡ suc (length hs)
-length-joined e hs ls top = omega (arith, length-append (chosen e hs ls) (top ∷ []), length-chosen e hs ls)
-
-pub chosen-append : (e : Val) (hs more ls : List Val) → length hs ≡ length ls → chosen e (hs ++ more) ls ≡ chosen e hs ls ++ more
-unfolding chosen
-chosen-append e [] [] [] same = refl
-chosen-append e [] (m ∷ more) [] same = refl
-chosen-append e [] more (l ∷ ls) same = absurd (omega arith)
-chosen-append e (h ∷ hs) more [] same = absurd (omega arith)
-chosen-append e (h ∷ hs) more (l ∷ ls) same = rw (chosen-append e hs more ls (omega arith))
-
-chosen-shut : (hs ls : List Val) → chosen (known false) hs ls ≡ hs
+chosen-shut : (hs ls : List Val) → chosen gateValue (known false) hs ls ≡ hs
 unfolding chosen
 chosen-shut [] ls = refl
 chosen-shut (h ∷ hs) [] = refl
 chosen-shut (h ∷ hs) (l ∷ ls) = rw (and-shut l, or-shut h, chosen-shut hs ls)
 
-chosen-end : (e : Val) (hs : List Val) → chosen e hs [] ≡ hs
-unfolding chosen
-chosen-end e [] = refl
-chosen-end e (h ∷ hs) = refl
-
 chosen-open : (j n : ℕ) (ls : List Val) → j ≡ length ls + n
-    → chosen (known true) (replicate j (known false)) ls ≡ ls ++ replicate n (known false)
+    → chosen gateValue (known true) (replicate j (known false)) ls ≡ ls ++ replicate n (known false)
 unfolding chosen
-chosen-open j n [] e = let same : j ≡ n = omega arith in rw (chosen-end (known true) (replicate j (known false)), same)
+chosen-open j n [] e = let same : j ≡ n = omega arith in rw (chosen-end gateValue (known true) (replicate j (known false)), same)
 chosen-open zero n (l ∷ ls) e = absurd (omega arith)
 chosen-open (suc j) n (l ∷ ls) e = rw (and-open l, or-open l, chosen-open j n ls (omega arith))
 
@@ -120,7 +89,7 @@ length-top : {n : ℕ} (bs : List Bool) (b : Bool) → length bs ≡ n → lengt
 length-top bs b same = omega (arith, length-append bs (b ∷ []))
 
 one-on-top : (j room : ℕ) (bs : List Bool) → j ≡ length bs + room
-    → Topped j (chosen (known true) (replicate j (known false)) (map known bs) ++ (known true ∷ [])) (2 ^ j + binary bs)
+    → Topped j (chosen gateValue (known true) (replicate j (known false)) (map known bs) ++ (known true ∷ [])) (2 ^ j + binary bs)
 one-on-top j room bs fits =
     let full : length (bs ++ replicate room false) ≡ j =
     omega (arith, length-append bs (replicate room false), length-replicate room false)
@@ -139,7 +108,7 @@ one-on-top j room bs fits =
     }
 
 zero-on-top : {j : ℕ} (bs : List Bool) (ls : List Val) → length bs ≡ j
-    → Topped j (chosen (known false) (map known bs) ls ++ (known false ∷ [])) (binary bs)
+    → Topped j (chosen gateValue (known false) (map known bs) ls ++ (known false ∷ [])) (binary bs)
 zero-on-top bs ls full =
     record {
       bits = bs ++ (false ∷ []);
@@ -150,7 +119,7 @@ zero-on-top bs ls full =
 
 -- Two blocks joined are a block of the next level.
 pub join-blocks : {j : ℕ} {low high : Lead} {ls hs : List Val} {el eh : Val} → Answers j low ls el → Answers j high hs eh
-    → Answers (suc j) (over (2 ^ j) low high) (chosen eh hs ls ++ (xorVal eh (andVal eh el) ∷ [])) (andVal eh el)
+    → Answers (suc j) (over (2 ^ j) low high) (chosen gateValue eh hs ls ++ (xorVal eh (andVal eh el) ∷ [])) (andVal eh el)
 join-blocks {ls = ls} {el = el} low (counts bs n b) =
     let t = zero-on-top bs ls n in
     rw (and-shut el, xor-known false false, t .values) (counts (t .bits) (t .size) (t .reads ∙ b))
@@ -170,10 +139,10 @@ join-blocks {j} nothing nothing =
     nothing
 join-blocks {j} {ls = ls} {el = el} (anything n) nothing =
     anything
-    (length-joined (known true) (replicate j (known false)) ls (xorVal (known true) (andVal (known true) el))
+    (length-joined gateValue (known true) (replicate j (known false)) ls (xorVal (known true) (andVal (known true) el))
     ∙ ap suc (length-replicate j (known false)))
 join-blocks {ls = ls} {hs = hs} {el = el} {eh = eh} low (anything n) =
-    anything (length-joined eh hs ls (xorVal eh (andVal eh el)) ∙ ap suc n)
+    anything (length-joined gateValue eh hs ls (xorVal eh (andVal eh el)) ∙ ap suc n)
 
 -- What the counter over so many bits answers in n outputs.
 pub data Counts (n width : ℕ) : Lead → List Val → Type 0 where
@@ -188,7 +157,7 @@ length-counts (anything n) = n
 
 -- A block above a shorter counter.
 pub join-counter : {n width j : ℕ} {low high : Lead} {ls hs : List Val} {e : Val} → n ≤ j → Counts n width low ls
-    → Answers j high hs e → Counts (suc j) (width + 2 ^ j) (over (2 ^ j) low high) (chosen e hs ls ++ (e ∷ []))
+    → Answers j high hs e → Counts (suc j) (width + 2 ^ j) (over (2 ^ j) low high) (chosen gateValue e hs ls ++ (e ∷ []))
 join-counter {ls = ls} short low (counts bs n b) =
     let t = zero-on-top bs ls n in
     rw (t .values) (counts (t .bits) (t .size) (t .reads ∙ b))
@@ -199,5 +168,5 @@ join-counter {n} {j = j} short (nothing bs size b) nothing =
     let t = one-on-top j (j - n) bs (omega arith) in
     rw (t .values) (nothing (t .bits) (t .size) (omega (arith, t .reads)))
 join-counter {j = j} {ls = ls} short (anything n) nothing =
-    anything (length-joined (known true) (replicate j (known false)) ls (known true) ∙ ap suc (length-replicate j (known false)))
-join-counter {ls = ls} {hs = hs} {e = e} short low (anything n) = anything (length-joined e hs ls e ∙ ap suc n)
+    anything (length-joined gateValue (known true) (replicate j (known false)) ls (known true) ∙ ap suc (length-replicate j (known false)))
+join-counter {ls = ls} {hs = hs} {e = e} short low (anything n) = anything (length-joined gateValue e hs ls e ∙ ap suc n)

@@ -1,5 +1,5 @@
 -- The flattened module is the same module: its outputs on three values, its gates and its delays are the module's.
-use Prim.Native.Nat.{ℕ}
+use Prim.Native.Nat.{ℕ, _+_}
 use mathlib.Core.Path.{_≡_, refl}
 use mathlib.Core.List.{List, [], _∷_}
 use lib.ListN.{length}
@@ -9,12 +9,12 @@ use Rattle.meaning.specs.Boxlist.{box, assoc}
 use Rattle.meaning.specs.Limits.{expandedSize}
 use Rattle.meaning.specs.Verdict.{good, fileVerdict}
 use Rattle.meaning.specs.Evaluation.{evaluate}
-use Rattle.meaning.specs.Figures.{gateCount, tally, delayBy}
+use Rattle.meaning.specs.Figures.{gateCount, tally, room, delayBy}
 use Rattle.meaning.specs.Flattening.{flatModule}
 use Rattle.laws.specs.Adder.Nets.{length-upFrom}
 use Rattle.laws.specs.Flatten.Values.{evaluate-of-flat, delay-of-flat}
 use Rattle.laws.specs.Flatten.Counts.{gateCount-of-flat, tally-of-flat}
-use Rattle.laws.specs.Flatten.Shape.{outputCount-of-flat, expandedSize-of-flat}
+use Rattle.laws.specs.Flatten.Shape.{outputCount-of-flat, expandedSize-of-flat, room-of-flat}
 
 -- A module by itself is the same as the module of this number in a list.
 pub record SameModule (ms : List Module) (number : ℕ) (m f : Module) : Type 0 where
@@ -25,6 +25,7 @@ pub record SameModule (ms : List Module) (number : ℕ) (m f : Module) : Type 0 
   pub gates : gateCount (f ∷ []) number ≡ gateCount ms number
   pub tallies : tally (f ∷ []) number ≡ tally ms number
   pub size : expandedSize (f ∷ []) number ≡ gateCount ms number
+  pub rooms : room (f ∷ []) number ≡ length (m .inputs) + gateCount ms number
   pub delays : (delay : ℕ → ℕ) → delayBy delay (f ∷ []) number ≡ delayBy delay ms number
 
 pub flat-is-same :
@@ -42,5 +43,6 @@ flat-is-same ms number m accepted found =
       gates = gateCount-of-flat ms number (length (m .inputs));
       tallies = tally-of-flat ms number (length (m .inputs));
       size = expandedSize-of-flat ms number m accepted found;
+      rooms = room-of-flat ms number m accepted found;
       delays = delay-of-flat ms number m accepted found;
     }

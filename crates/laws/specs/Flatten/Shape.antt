@@ -2,15 +2,16 @@
 -- nets, all different. The module that flattening gives has it, with as many gates as the module reaches and as many outputs as
 -- it has.
 use Prim.Native.Nat.{ℕ, _+_}
-use mathlib.Core.Path.{_≡_, refl, sym, _∙_}
+use mathlib.Core.Path.{_≡_, refl, sym, ap, _∙_}
 use mathlib.Core.List.{List, [], _∷_}
+use native.Mathlib.Omega.{arith}
 use lib.ListN.{length}
 use borrow.Author.Tests.{eq-eqb}
 use Rattle.meaning.specs.Syntax.{Module}
 use Rattle.meaning.specs.Members.{_∈_, Twice}
 use Rattle.meaning.specs.Boxlist.{box, assoc}
-use Rattle.meaning.specs.Limits.{expandedSize}
-use Rattle.meaning.specs.Figures.{gateWeight, gateCount}
+use Rattle.meaning.specs.Limits.{netCount, expandedSize}
+use Rattle.meaning.specs.Figures.{gateWeight, gateCount, room}
 use Rattle.meaning.specs.Verdict.{good, fileVerdict}
 use Rattle.meaning.specs.Flattening.{Board, flatModule}
 use Rattle.meaning.specs.Adder.{upFrom}
@@ -18,7 +19,7 @@ use Rattle.laws.specs.Accepted.{good-accepted}
 use Rattle.laws.specs.Standing.{stands}
 use Rattle.laws.specs.Adder.Nets.{length-upFrom}
 use Rattle.laws.specs.Flatten.Numbered.{Between, below-run}
-use Rattle.laws.specs.Flatten.Wired.{Wired, done, place-wired, next-of-wired, size-of-wired, count-of-wired}
+use Rattle.laws.specs.Flatten.Wired.{Wired, done, place-wired, next-of-wired, size-of-wired, count-of-wired, driven-of-wired, none-referred}
 use Rattle.laws.specs.Flatten.Distinct.{place-new}
 use Rattle.laws.specs.Flatten.Counts.{gateCount-of-flat}
 
@@ -63,3 +64,19 @@ module _ (ms : List Module) (number : ℕ) (m : Module) (accepted : fileVerdict 
   pub expandedSize-of-flat : expandedSize (flatModule ms number (length (m .inputs)) ∷ []) number ≡ gateCount ms number
   unfolding expandedSize flatModule
   expandedSize-of-flat = rw (eq-eqb number number refl) (size-of-wired (expandedSize []) (flat-shape .wired) ∙ length-of-flat)
+
+  -- Its room is an entry for each input and each gate.
+  pub room-of-flat : room (flatModule ms number (length (m .inputs)) ∷ []) number ≡ length (m .inputs) + gateCount ms number
+  unfolding room netCount flatModule
+  room-of-flat =
+      let inputs = length (m .inputs) in
+      let shape = flat-shape in
+      rw (eq-eqb number number refl)
+      (omega (
+        arith,
+        none-referred (room []) (shape .wired),
+        ap length (driven-of-wired (shape .wired)),
+        length-upFrom 0 inputs,
+        length-upFrom inputs (length (flatModule ms number inputs .occurrences)),
+        length-of-flat,
+      ))

@@ -22,6 +22,18 @@ use Rattle.laws.specs.Flatten.Matching.{pairs-match, inputs-match, in-fr
 abbrev pub single : {A : Type 0} → (ℕ → List A → A) → Meaning A
 single value kind vs = value kind vs ∷ []
 
+-- What an occurrence refers to, among these modules, gives as many values as the occurrence drives nets.
+abbrev pub referred : {A : Type 0} → A → (ℕ → List A → A) → List Module → Meaning A
+referred unset value ms = apply (single value) (run unset (single value) ms)
+
+pub length-of-referred :
+    {A : Type 0} (unset : A) (value : ℕ → List A → A) {ms : List Module} {o : Occurrence} (vs : List A)
+    → Reference ms o
+    → length (o .drives) ≡ length (referred unset value ms (o .refers) vs)
+length-of-referred unset value vs (toGate g takes drives) = rw g (sym drives)
+length-of-referred unset value {ms} {o} vs (toModule m g found takes drives) =
+    rw g (drives ∙ sym (length-of-run unset (single value) ms (o .refers) vs ∙ ap outputCount found))
+
 -- What was placed stands for these values, and everything is kept.
 pub record Shows {A : Type 0} (Fine : Board → Type 0) (Is : Board → ℕ → A → Type 0)
     (a : Board) (p : Placed) (vs : List A) : Type 0 where
@@ -52,19 +64,6 @@ module _ {A : Type 0} (unset : A) (value : ℕ → List A → A) (Fine : Board �
         → Forall₂ (Is b) nets vs
         → Shows Fine Is b (place ms number nets b) (run unset (single value) ms number vs)
 
-  -- What an occurrence refers to, among these modules.
-  abbrev referred : List Module → Meaning A
-  referred ms = apply (single value) (run unset (single value) ms)
-
-  -- It gives as many values as the occurrence drives nets.
-  length-of-referred :
-      {ms : List Module} {o : Occurrence} (vs : List A)
-      → Reference ms o
-      → length (o .drives) ≡ length (referred ms (o .refers) vs)
-  length-of-referred vs (toGate g takes drives) = rw g (sym drives)
-  length-of-referred {ms} {o} vs (toModule m g found takes drives) =
-      rw g (drives ∙ sym (length-of-run unset (single value) ms (o .refers) vs ∙ ap outputCount found))
-
   module _ (gates : Gates) where
     referred-shows :
         {ms : List Module} {o : Occurrence} {nets : List ℕ} {vs : List A} (b : Board)
@@ -72,7 +71,7 @@ module _ {A : Type 0} (unset : A) (value : ℕ → List A → A) (Fine : Board �
         → Reference ms o
         → length nets ≡ length (o .takes)
         → Forall₂ (Is b) nets vs
-        → Shows Fine Is b (placeReferred (place ms) (o .refers) nets b) (referred ms (o .refers) vs)
+        → Shows Fine Is b (placeReferred (place ms) (o .refers) nets b) (referred unset value ms (o .refers) vs)
     referred-shows {o = o} b later (toGate g takes drives) count rs = rw g (gates .shows (o .refers) b g (takes ∙ sym count) rs)
     referred-shows {ms} {o} b later (toModule m g found takes drives) count rs =
         rw g (later .shows (o .refers) (stands (o .refers) ms found) b (count ∙ takes) rs)
@@ -95,7 +94,7 @@ module _ {A : Type 0} (unset : A) (value : ℕ → List A → A) (Fine : Board �
     body-shows {ms} {signals} {w = w} {env} later (step {o = o} {os} ok rest) h =
         let taken = lookAll-matches (o .takes) (λ x i. subset-in (o .takes) signals (ok .bound) i) (h .matches) in
         let shown = referred-shows (w .board) later (ok .reference) (length-of-lookAll 0 (o .takes) (w .env)) taken in
-        let count = length-of-referred (lookAll unset (o .takes) env) (ok .reference) in
+        let count = length-of-referred unset value (lookAll unset (o .takes) env) (ok .reference) in
         let bound = pairs-match (o .drives) count (shown .outputs) (matches-kept (shown .kept) (h .matches)) in
         let w′ = body-shows later rest (record { kept = kept-on (h .kept) (shown .kept); matches = bound }) in
         record {

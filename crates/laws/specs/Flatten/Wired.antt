@@ -10,7 +10,7 @@ use Rattle.meaning.specs.Syntax.{Occurrence, Module}
 use Rattle.meaning.specs.Gates.{isGate, gate}
 use Rattle.meaning.specs.Members.{_∈_}
 use Rattle.meaning.specs.Limits.{driven, bodySize}
-use Rattle.meaning.specs.Figures.{bodyWeight}
+use Rattle.meaning.specs.Figures.{bodyWeight, largestReferred}
 use Rattle.meaning.specs.Flattening.{Board, place}
 use Rattle.meaning.specs.Adder.{upFrom}
 use Rattle.laws.specs.WellFormed.{Accepted}
@@ -97,3 +97,9 @@ pub count-of-wired : {n k : ℕ} {os : List Occurrence} (later : ℕ → ℕ) �
 unfolding bodyWeight
 count-of-wired later done = refl
 count-of-wired later (more g rest) = rw (g .kind) (omega (arith, count-of-wired later rest))
+
+-- They refer to no module.
+pub none-referred : {n k : ℕ} {os : List Occurrence} (later : ℕ → ℕ) → Wired n os k → largestReferred later os ≡ 0
+unfolding largestReferred
+none-referred later done = refl
+none-referred later (more g rest) = rw (g .kind) (omega (arith, none-referred later rest))

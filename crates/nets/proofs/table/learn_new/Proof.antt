@@ -1,18 +1,20 @@
--- `nets::table::learn_new` meets its contract. The loop's invariant: the nets before place i were new, the table knows them besides the
--- nets that it knew, their slots are in their places, and the list is new just if it is from place i on. Assumes nothing.
+-- `nets::table::learn_new` meets its contract. The loop's invariant: the table knows the nets before place i besides those that it knew,
+-- their slots are in their places, and the list has none that it knew just if it has none from place i on. Assumes nothing.
 use Prim.Native.Nat.{ℕ, suc, _+_, _-_, _<_, _≤_}
 use native.Mathlib.Omega.{arith}
 use mathlib.Core.Path.{_≡_, refl, sym, ap, ap₂, _∙_}
-use mathlib.Core.Bool.{false}
+use mathlib.Core.Bool.{false, or-false}
 use mathlib.Core.List.{List, [], _∷_, _++_, append-assoc, append-nil}
 use borrow.Author.Tests.{le-leb, lt-leb}
+use lib.Dec.{leb}
 use lib.ListN.{length, getD, take, drop, set, length-set, length-append}
 use lib.Seq.{take-all, split-at, length-take-le, getD-set-other}
-use Rattle.meaning.specs.Boxlist.{member}
+use Rattle.meaning.specs.Boxlist.{member, disjoint, duplicates}
 use Rattle.nets.specs.Slots.{slotOf, Knows, Below}
+use Rattle.nets.specs.Members.{member-append, entry-fresh}
 use Rattle.nets.specs.Bounds.{below-set}
 use Rattle.nets.specs.SlotLaws.{slot-fresh}
-use Rattle.nets.specs.Walks.{apart, up-to-here, apart-here, apart-end}
+use Rattle.nets.specs.Walks.{up-to-here, disjoint-here, disjoint-end}
 use Rattle.nets.specs.Fronts.{front-whole, front-short}
 use Rattle.nets.specs.Writing.{replaced, replaced-next, replaced-all}
 use Rattle.nets.specs.Tables.{Learnt, known-member, knows-one}
@@ -21,7 +23,7 @@ use Rattle.nets.proofs.table.learn_new.Tie as tie
 
 -- Where the table knew `nets`.
 record Learning (nets list₀ : List ℕ) (base : ℕ) (list table : List ℕ) (i : ℕ) : Type 0 where
-  left : apart list₀ nets ≡ apart (drop i list₀) (nets ++ take i list₀)
+  left : disjoint list₀ nets ≡ disjoint (drop i list₀) nets
   knows : Knows table base (nets ++ take i list₀)
   written : list ≡ replaced (λ (x : ℕ). slotOf x (nets ++ list₀)) list₀ i
 
@@ -38,25 +40,23 @@ module _ {nets list₀ : List ℕ} {base : ℕ} {list table : List ℕ} {i : ℕ
   learnt : i ≤ length list₀ → length list₀ ≤ i → Learnt nets list₀ base list table i
   learnt within end =
       record {
-        front = front-whole (omega arith) (sym (l .left ∙ apart-end list₀ i end (nets ++ take i list₀)));
+        front = front-whole (omega arith) (sym (l .left ∙ disjoint-end list₀ i end nets));
         knows = λ e. rw (← take-all i list₀ end) (l .knows);
         written = λ e. l .written ∙ replaced-all (λ (x : ℕ). slotOf x (nets ++ list₀)) list₀ i end;
       }
 
-  module _ (here : i < length list₀) where
-    -- The net at i is known: it is not new.
+  module _ (single : duplicates list₀ ≡ false) (here : i < length list₀) where
+    -- The net at i is none of those before it: if the table knows it, it is among `nets`.
+    earlier : member (getD list₀ i 0) nets ≡ leb base (getD table (getD list₀ i 0) 0)
+    earlier =
+        sym (member-append (getD list₀ i 0) nets (take i list₀) ∙ rw (entry-fresh list₀ i here single, or-false (member (getD list₀ i 0) nets)))
+        ∙ known-member table base (nets ++ take i list₀) (l .knows) (getD list₀ i 0)
+
+    -- The net at i is known.
     met : base ≤ getD table (getD list₀ i 0) 0 → Learnt nets list₀ base list table i
     met known =
         record {
-          front =
-              front-short here
-              (sym
-              (l .left
-              ∙ rw (
-                apart-here list₀ i here (nets ++ take i list₀),
-                known-member table base (nets ++ take i list₀) (l .knows) (getD list₀ i 0),
-                le-leb base (getD table (getD list₀ i 0) 0) known,
-              )));
+          front = front-short here (sym (l .left ∙ rw (disjoint-here list₀ i here nets, earlier, le-leb base (getD table (getD list₀ i 0) 0) known)));
           knows = λ e. absurd (omega arith);
           written = λ e. absurd (omega arith);
         }
@@ -67,7 +67,7 @@ module _ {nets list₀ : List ℕ} {base : ℕ} {list table : List ℕ} {i : ℕ
         → Learning nets list₀ base (set list i (first + i)) (set table x (base + (first + i))) (i + 1)
     learn-one first x count is inTable unknown =
         record {
-          left = l .left ∙ apart-here list₀ i here (nets ++ take i list₀) ∙ rw (← is, new, grown);
+          left = l .left ∙ rw (disjoint-here list₀ i here nets, earlier, ← is, lt-leb base (getD table x 0) unknown);
           knows = rw (← grown, ← next) (knows-one x inTable new (l .knows));
           written =
               ap₂ (λ (ys : List ℕ) (slot : ℕ). set ys i slot) (l .written) (sym next ∙ sym slot ∙ ap (λ (y : ℕ). slotOf y (nets ++ list₀)) is)
@@ -105,7 +105,7 @@ loop-holds c =
       tableKept = refl;
       ahead = λ j h. refl;
       low = λ l. l;
-      learning = λ nets k e. record { left = rw (append-nil nets); knows = rw (append-nil nets) k; written = refl };
+      learning = λ nets k e. record { left = refl; knows = rw (append-nil nets) k; written = refl };
     }
 
 cast-net : tie.Need-cast-net Inv-loop μ-loop
@@ -124,7 +124,7 @@ returns : tie.Need-returns Inv-loop μ-loop
 returns c =
     let turn = c .before .before .before in
     let inv = turn .before .loop .inv in (
-      (λ nets k e. met (inv .learning nets k e) (omega arith) (rw (← inv .ahead (turn .before .loop .i) (omega arith)) (c .if1 .taken))),
+      (λ nets k e. met (inv .learning nets k e) (turn .before .before .pre .single) (omega arith) (rw (← inv .ahead (turn .before .loop .i) (omega arith)) (c .if1 .taken))),
       inv .low,
     )
 
@@ -151,7 +151,7 @@ loop-again c =
       ahead = λ j h. getD-set-other (at .loop .list) i j (first + i) 0 (λ e. omega arith) ∙ inv .ahead j (omega arith);
       low = λ l. below-set (getD (at .loop .list) i 0) (at .before .args .base + (first + i)) (omega arith) (omega arith) (inv .low l);
       learning = λ nets k e.
-          learn-one (inv .learning nets k e) (omega arith) first (getD (at .loop .list) i 0) e same (omega arith) (c .if1 .left);
+          learn-one (inv .learning nets k e) (at .before .pre .single) (omega arith) first (getD (at .loop .list) i 0) e same (omega arith) (c .if1 .left);
     }
 
 returns-2 : tie.Need-returns-2 Inv-loop μ-loop

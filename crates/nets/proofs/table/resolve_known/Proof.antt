@@ -131,7 +131,7 @@ resolve-known-spec =
     mul-wrapping-sub-u32-2
     shared-slice-read-wrapping-sub-u32
     (λ c κs. search needs)
-    (λ c. c .before .before .before .before .before .loop .inv .kept)
+    (λ c. let called = c .before in called .before .before .before .before .loop .inv .kept)
     returns
     (λ c. omega arith)
     (λ c. omega arith)

@@ -1,0 +1,3 @@
+-- What the proofs of a count share.
+pub mod Engines
+pub mod Outcomes

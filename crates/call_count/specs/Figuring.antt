@@ -1,0 +1,14 @@
+-- What working out the figures of a module answers.
+use Prim.Native.Nat.{ℕ}
+use mathlib.Core.Path.{_≡_}
+use mathlib.Core.List.{List}
+use Rattle.meaning.specs.Syntax.{Module}
+use Rattle.meaning.specs.Figures.{room}
+use Rattle.meaning.specs.Calls.{figuresOn}
+use Rattle.run_engine.specs.Calls.{cleared}
+use Rattle.call_count.specs.Answers.{figuresOf}
+use Rattle.call_count.specs.declared.answers.Figures.{Figures}
+
+pub record Figured (ms : List Module) (number : ℕ) (m : Module) (scratch scratch′ : List ℕ) (result : Figures) : Type 0 where
+  pub is : result ≡ figuresOf (figuresOn number ms m)
+  pub clean : scratch′ ≡ cleared (room ms number) scratch

@@ -1,0 +1,3 @@
+-- What the calls answer, and what they rest on.
+pub mod Answers
+pub mod Figuring

@@ -1,0 +1,5 @@
+// The figures of a module that stands in the image: refusal 21, then its inputs, outputs, tally, gates, expanded size, room, delay and
+// largest load.
+pub mod answers;
+pub mod figuring;
+pub mod here;

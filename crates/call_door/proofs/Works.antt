@@ -1,0 +1,40 @@
+-- What is asked of a module that stands is what each call on it promises.
+use Prim.Native.Nat.{ℕ}
+use mathlib.Core.Path.{_≡_, sym, subst}
+use mathlib.Core.List.{List}
+use lib.ListN.{length}
+use Rattle.meaning.specs.Calls.{evaluationOn, countingOn, flatteningOn}
+use Rattle.answers.specs.Settled.{Settles}
+use Rattle.answers.specs.declared.Writing.{Writing}
+use Rattle.call_count.specs.Answers.{Counts}
+use Rattle.call_count.specs.declared.answers.Counted.{Counted}
+use Rattle.open_finding.specs.Standing.{Standing}
+use Rattle.open_finding.specs.declared.Site.{Site}
+use Rattle.call_door.specs.declared.asks.Task.{Task}
+use Rattle.call_door.specs.declared.asks.Task.the-variants.{Evaluate, Own}
+use Rattle.call_door.specs.declared.asks.Own.the-variants.{Count, Flatten}
+use Rattle.call_door.specs.declared.asks.Sheet.{Sheet}
+use Rattle.call_door.specs.Asks.{Done}
+
+module _ {image starts nets : List ℕ} {site : Site} (s : Standing image starts nets site) {task : Task} {values scratch out scratch′ out′ : List ℕ} {r : Sheet}
+  where
+    -- What is known of one kind of task.
+    pub told : (kind : Task) → task ≡ kind
+        → Done kind (site .number) values scratch out (s .ms) (s .found .m) scratch′ out′ r
+        → Done task (site .number) values scratch out (s .ms) (s .found .m) scratch′ out′ r
+    told kind is = subst (λ (t : Task). Done t (site .number) values scratch out (s .ms) (s .found .m) scratch′ out′ r) (sym is)
+
+    pub evaluates : {w : Writing} → task ≡ Evaluate → r .writing ≡ w
+        → Settles (evaluationOn (site .number) values (length scratch) (length out) (s .ms) (s .found .m)) scratch out scratch′ out′ w
+        → Done task (site .number) values scratch out (s .ms) (s .found .m) scratch′ out′ r
+    evaluates is written settles = told Evaluate is (record { done = rw written settles })
+
+    pub counts : {c : Counted} → task ≡ Own Count → r .counted ≡ c
+        → Counts (countingOn (site .number) (length scratch) (s .ms) (s .found .m)) scratch scratch′ c
+        → Done task (site .number) values scratch out (s .ms) (s .found .m) scratch′ out′ r
+    counts is written counted = told (Own Count) is (record { done = rw written counted })
+
+    pub flattens : {w : Writing} → task ≡ Own Flatten → r .writing ≡ w
+        → Settles (flatteningOn (site .number) (length scratch) (length out) (s .ms) (s .found .m)) scratch out scratch′ out′ w
+        → Done task (site .number) values scratch out (s .ms) (s .found .m) scratch′ out′ r
+    flattens is written settles = told (Own Flatten) is (record { done = rw written settles })

@@ -1,0 +1,54 @@
+-- Each kind of task is done.
+use borrow.Author.Needs.{needs}
+use Rattle.call_door.specs.declared.asks.Task.the-variants.{Own}
+use Rattle.call_door.proofs.Works.{told, evaluates}
+use Rattle.call_door.proofs.working.work_at.Statement.{statement}
+use Rattle.call_door.proofs.working.work_at.Tie as tie
+
+returns : tie.Need-returns
+returns c s =
+    let done = c .before .before .before .before in
+    let known = done .before .before .before .before in
+    told s (Own _) (known .before .task .given .1) (done .own-long .ensures s _)
+
+returns-2 : tie.Need-returns-2
+returns-2 c s =
+    let done = c .before .before .before .before in
+    let small = done .before .before .before in
+    told s (Own _) (small .before .before .before .before .task .given .1) (done .own-short .ensures s _)
+
+returns-3 : tie.Need-returns-3
+returns-3 c s =
+    let written = c .before in
+    let done = written .before .before .before .before in
+    evaluates s (done .before .before .before .enum-told .given .1) (c .wrote .ensures) (done .evaluate-at .ensures s)
+
+returns-4 : tie.Need-returns-4
+returns-4 c s =
+    let done = c .before .before .before .before in
+    let large = done .before .before .before in
+    told s (Own _) (large .before .before .before .task .given .1) (done .own-long2 .ensures s _)
+
+pub work-at-spec : {M : Type 1} → statement M
+work-at-spec =
+    tie.close
+    (tie.spec
+    (λ c. search needs)
+    (λ c κs. search needs)
+    (λ c κs. search needs)
+    (λ c. search needs)
+    (λ c κs. search needs)
+    (λ c. search needs)
+    (λ c. search needs)
+    returns
+    (λ c κs. search needs)
+    (λ c. search needs)
+    (λ c. search needs)
+    returns-2
+    (λ c κs. search needs)
+    (λ c. search needs)
+    (λ c. search needs)
+    returns-3
+    (λ c. search needs)
+    (λ c. search needs)
+    returns-4)

@@ -1,0 +1,62 @@
+-- What is promised of the answer, for each thing that can be asked.
+use Prim.Native.Nat.{ℕ}
+use mathlib.Core.Path.{_≡_}
+use mathlib.Core.List.{List}
+use lib.ListN.{length}
+use Rattle.meaning.specs.Syntax.{Module}
+use Rattle.meaning.specs.Boxlist.{assoc}
+use Rattle.meaning.specs.Calls.{Decision, onFile, onModule, Written, Figures, evaluationOn, countingOn, flatteningOn, moduleCount, numberAt}
+use Rattle.answers.specs.Settled.{Settles}
+use Rattle.answers.specs.declared.Writing.the-variants as writing
+use Rattle.call_count.specs.Answers.{Counts, refusedWith}
+use Rattle.answers.specs.Contents.{listedOf, namedOf}
+use Rattle.answers.specs.declared.Listed.the-variants as listed
+use Rattle.answers.specs.declared.Named.the-variants as named
+use Rattle.call_door.specs.declared.asks.Ask.{Ask}
+use Rattle.call_door.specs.declared.asks.Ask.the-variants.{Modules, NumberAt, Of}
+use Rattle.call_door.specs.declared.asks.Task.{Task}
+use Rattle.call_door.specs.declared.asks.Task.the-variants.{Evaluate, Own}
+use Rattle.call_door.specs.declared.asks.Own.the-variants.{Count, Flatten}
+use Rattle.call_door.specs.declared.asks.Sheet.{Sheet}
+
+-- A refusal, in every field.
+abbrev pub refusedSheet : (number place : ℕ) → Sheet
+refusedSheet number place =
+    record {
+      writing = writing.Refused number place;
+      counted = refusedWith number place;
+      listed = listed.Refused number place;
+      named = named.Refused number place;
+    }
+
+-- What is asked of a module comes to one of these,
+abbrev pub Result : Task → Type 0
+Result Evaluate = Written
+Result (Own Count) = Figures
+Result (Own Flatten) = Written
+
+-- decided so once the module is found,
+abbrev pub decides : (task : Task) (number : ℕ) (values : List ℕ) (scratch out : ℕ) (ms : List Module) → Module → Decision (Result task)
+decides Evaluate number values scratch out ms m = evaluationOn number values scratch out ms m
+decides (Own Count) number values scratch out ms m = countingOn number scratch ms m
+decides (Own Flatten) number values scratch out ms m = flatteningOn number scratch out ms m
+
+-- and given so.
+abbrev pub Gives : (task : Task) → Decision (Result task) → (scratch out scratch′ out′ : List ℕ) → Sheet → Type 0
+Gives Evaluate d scratch out scratch′ out′ r = Settles d scratch out scratch′ out′ (r .writing)
+Gives (Own Count) d scratch out scratch′ out′ r = Counts d scratch scratch′ (r .counted)
+Gives (Own Flatten) d scratch out scratch′ out′ r = Settles d scratch out scratch′ out′ (r .writing)
+
+pub record Done (task : Task) (number : ℕ) (values scratch out : List ℕ) (ms : List Module) (m : Module) (scratch′ out′ : List ℕ) (r : Sheet) : Type 0 where
+  pub done : Gives task (decides task number values (length scratch) (length out) ms m) scratch out scratch′ out′ r
+
+-- What is asked of a file.
+abbrev pub Met : Ask → (file values scratch out scratch′ out′ : List ℕ) → Sheet → Type 0
+Met Modules file values scratch out scratch′ out′ r = r .listed ≡ listedOf (moduleCount file)
+Met (NumberAt position) file values scratch out scratch′ out′ r = r .named ≡ namedOf (numberAt file position)
+Met (Of task number) file values scratch out scratch′ out′ r =
+    Gives task (onFile file λ ms. onModule (assoc number ms) (decides task number values (length scratch) (length out) ms))
+    scratch out scratch′ out′ r
+
+pub record Meets (ask : Ask) (file values scratch out scratch′ out′ : List ℕ) (r : Sheet) : Type 0 where
+  pub met : Met ask file values scratch out scratch′ out′ r

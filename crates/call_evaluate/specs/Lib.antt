@@ -1,0 +1,2 @@
+-- What evaluation promises.
+pub mod Evaluates

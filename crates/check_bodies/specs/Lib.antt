@@ -1,0 +1,3 @@
+-- What the functions on occurrences take and answer.
+pub mod Occurrences
+pub mod Bodies

@@ -1,0 +1,2 @@
+-- What the check of a file takes and answers.
+pub mod Files

@@ -1,0 +1,3 @@
+-- What the functions on a module take and answer.
+pub mod Heads
+pub mod Modules

@@ -1,0 +1,6 @@
+-- Facts that the proofs cite.
+pub mod Repeats
+pub mod Going
+pub mod FileWalk
+pub mod FileSteps
+pub mod FileTurn

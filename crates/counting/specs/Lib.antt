@@ -1,5 +1,0 @@
--- What the calls answer, and what they rest on.
-pub mod Answers
-pub mod Figuring
-pub mod Contents
-pub mod Looking

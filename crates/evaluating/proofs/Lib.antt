@@ -1,6 +1,0 @@
--- Facts that the proofs cite.
-pub mod SmallValues
-pub mod Headed
-pub mod Refusing
-pub mod Answering
-pub mod Seeking

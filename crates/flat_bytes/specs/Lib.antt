@@ -1,0 +1,4 @@
+-- What the contracts of `flat_bytes` cite.
+pub mod Slots
+pub mod Gates
+pub mod Front

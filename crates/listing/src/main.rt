@@ -1,9 +1,0 @@
-// Prints the listing of the file on standard input: a line for each module, or one line that says why the file is refused. It reads
-// 65,536 bytes at most, one more than a file may have.
-use libc::STDIN_FILENO;
-
-fn main() {
-    let mut file = io::large_buffer();
-    let count = io::read_full(STDIN_FILENO, &mut file);
-    lister::printing::print(&file[..count]);
-}

@@ -1,0 +1,2 @@
+-- Facts that the proof of `add_loads` cites.
+pub mod Placing

@@ -1,0 +1,2 @@
+-- What the contracts of `load_steps` cite.
+pub mod Steps

@@ -1,0 +1,2 @@
+-- Facts that the proof cites.
+pub mod SmallNumbers

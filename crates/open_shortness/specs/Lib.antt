@@ -1,0 +1,2 @@
+-- What it means that a file is short.
+pub mod Shortness

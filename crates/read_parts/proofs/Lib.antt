@@ -1,0 +1,4 @@
+-- Facts that the proofs cite.
+pub mod Bytes
+pub mod Stored
+pub mod Largest

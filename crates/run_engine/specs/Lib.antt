@@ -1,0 +1,7 @@
+-- What the contracts of `runner` cite, and the laws that turn them into what a file means.
+pub mod Slots
+pub mod Calls
+pub mod Mapped
+pub mod Evaluating
+pub mod Arriving
+pub mod Loading

@@ -1,2 +1,0 @@
--- What the library answers, in document 01's numbers.
-pub mod Answers

@@ -1,0 +1,2 @@
+-- What the writers' contracts cite, beside `meaning`.
+pub mod Orders

@@ -1,0 +1,73 @@
+// Orders: an adder or a leading-zero counter of a width, written into a lent buffer.
+ghost use Prim.Native.Nat.{_≤_};
+ghost use lib.ListN.{length};
+ghost use Rattle.meaning.specs.Layout.{encode};
+ghost use Rattle.meaning.specs.Adder.{adder as adderOf};
+ghost use Rattle.meaning.specs.Counter.{counter as counterOf};
+ghost use Rattle.meaning.specs.Calls.{writing, fitting};
+ghost use Rattle.bytes_out.specs.Filled.{Filled};
+ghost use Rattle.answers.specs.Answers.{Answers};
+ghost use Rattle.write_order.specs.Orders.{modulesOf};
+use crate::answer::answer;
+use answers::Writing;
+
+// What is written to order.
+enum Order {
+    Adder,
+    Counter,
+}
+
+// The bytes of the widest adder: no file that is written to order has more.
+const MOST: usize = 1019;
+
+// The bytes of the whole file, and how many they are.
+fn file(order: Order, width: usize, bytes: &mut [u8]) -> usize
+    requires { ⌜ (1 ≤ width) × (width ≤ 64) × (1019 ≤ length (now bytes)) ⌝ }
+    ensures { λ r. ⌜ Filled (encode (modulesOf order width)) (now (bytes .entry)) (now (bytes .exit)) r ⌝ }
+{
+    match order {
+        Order::Adder => write_ripple::file(width as u16, bytes),
+        Order::Counter => write_counter::file(width as u8, bytes),
+    }
+}
+
+// Writes straight into a buffer that has room for any file. Of a shorter one nothing may be touched before the file is sure to fit: its
+// bytes are written into a list of the writer's own first.
+fn deliver(order: Order, width: usize, out: &mut [u8]) -> Writing
+    requires { ⌜ (1 ≤ width) × (width ≤ 64) ⌝ }
+    ensures { λ r. ⌜ Answers (fitting (encode (modulesOf order width)) 0 (length (now (out .entry)))) (now (out .entry)) (now (out .exit)) r ⌝ }
+{
+    if MOST <= out.len() {
+        return Writing::Wrote(file(order, width, out));
+    }
+    let mut bytes = [0u8; MOST];
+    let count = file(order, width, &mut bytes);
+    answer(&bytes[..count], out)
+}
+
+// 23 where the width is outside 1 to 64, then 22.
+fn write(order: Order, width: usize, out: &mut [u8]) -> Writing
+    ensures { λ r. ⌜ Answers (writing (modulesOf order) width (length (now (out .entry)))) (now (out .entry)) (now (out .exit)) r ⌝ }
+{
+    match width {
+        1..=64 => deliver(order, width, out),
+        _ => Writing::Refused {
+            number: 23,
+            place: 0,
+        },
+    }
+}
+
+// Writes the adder of a width into `out`.
+pub fn adder(width: usize, out: &mut [u8]) -> Writing
+    ensures { λ r. ⌜ Answers (writing adderOf width (length (now (out .entry)))) (now (out .entry)) (now (out .exit)) r ⌝ }
+{
+    write(Order::Adder, width, out)
+}
+
+// Writes the leading-zero counter of a width into `out`.
+pub fn counter(width: usize, out: &mut [u8]) -> Writing
+    ensures { λ r. ⌜ Answers (writing counterOf width (length (now (out .entry)))) (now (out .entry)) (now (out .exit)) r ⌝ }
+{
+    write(Order::Counter, width, out)
+}
