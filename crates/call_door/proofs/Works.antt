@@ -1,5 +1,5 @@
 -- What is asked of a module that stands is what each call on it promises.
-use Prim.Native.Nat.{ℕ}
+use Prim.Native.Nat.{ℕ, _≤_}
 use mathlib.Core.Path.{_≡_, sym, subst}
 use mathlib.Core.List.{List}
 use lib.ListN.{length}
@@ -12,9 +12,14 @@ use Rattle.open_finding.specs.Standing.{Standing}
 use Rattle.open_finding.specs.declared.Site.{Site}
 use Rattle.call_door.specs.declared.asks.Task.{Task}
 use Rattle.call_door.specs.declared.asks.Task.the-variants.{Evaluate, Own}
+use Rattle.call_door.specs.declared.asks.Own.{Own as Kind}
 use Rattle.call_door.specs.declared.asks.Own.the-variants.{Count, Flatten}
 use Rattle.call_door.specs.declared.asks.Sheet.{Sheet}
-use Rattle.call_door.specs.Asks.{Done}
+use Rattle.call_door.specs.Asks.{InShort, Done}
+
+-- A flattening is in short lists where the module is small.
+pub small : {own : Kind} (site : Site) → own ≡ Flatten → InShort own site → (site .size ≤ 832) × (site .room ≤ 1024)
+small site is = subst (λ (k : Kind). InShort k site) is
 
 module _ {image starts nets : List ℕ} {site : Site} (s : Standing image starts nets site) {task : Task} {values scratch out scratch′ out′ : List ℕ} {r : Sheet}
   where

@@ -1,5 +1,5 @@
 -- What is promised of the answer, for each thing that can be asked.
-use Prim.Native.Nat.{ℕ}
+use Prim.Native.Nat.{ℕ, _≤_}
 use mathlib.Core.Path.{_≡_}
 use mathlib.Core.List.{List}
 use lib.ListN.{length}
@@ -12,10 +12,12 @@ use Rattle.call_count.specs.Answers.{Counts, refusedWith}
 use Rattle.answers.specs.Contents.{listedOf, namedOf}
 use Rattle.answers.specs.declared.Listed.the-variants as listed
 use Rattle.answers.specs.declared.Named.the-variants as named
+use Rattle.open_finding.specs.declared.Site.{Site}
 use Rattle.call_door.specs.declared.asks.Ask.{Ask}
 use Rattle.call_door.specs.declared.asks.Ask.the-variants.{Modules, NumberAt, Of}
 use Rattle.call_door.specs.declared.asks.Task.{Task}
 use Rattle.call_door.specs.declared.asks.Task.the-variants.{Evaluate, Own}
+use Rattle.call_door.specs.declared.asks.Own.{Own as Kind}
 use Rattle.call_door.specs.declared.asks.Own.the-variants.{Count, Flatten}
 use Rattle.call_door.specs.declared.asks.Sheet.{Sheet}
 
@@ -28,6 +30,11 @@ refusedSheet number place =
       listed = listed.Refused number place;
       named = named.Refused number place;
     }
+
+-- Short lists serve on a module of a short file.
+abbrev pub InShort : Kind → Site → Type 0
+InShort Count site = 0 ≤ site .size
+InShort Flatten site = (site .size ≤ 832) × (site .room ≤ 1024)
 
 -- What is asked of a module comes to one of these,
 abbrev pub Result : Task → Type 0

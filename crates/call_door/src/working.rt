@@ -7,9 +7,24 @@ ghost use Prim.Native.Nat.{ℕ, _≤_};
 ghost use mathlib.Core.List.{List};
 ghost use lib.ListN.{length};
 ghost use Rattle.open_finding.specs.Standing.{Standing};
-ghost use Rattle.call_door.specs.Asks.{Done};
+ghost use Rattle.call_door.specs.Asks.{InShort, Done};
+ghost use mathlib.Core.Path.{_≡_};
+ghost use mathlib.Core.Bool.{true};
 
-// On a small module of a short file, in short lists.
+// Whether short lists serve on a module of a short file: for a count they always do, since loads stand where numbers of the image do; for a
+// flattening where the module is small.
+fn in_short(own: Own, site: Site) -> bool
+    ensures { λ r. ⌜ (r ≡ true → InShort own site) ⌝ }
+{
+    let size = site.size;
+    let room = site.room;
+    match own {
+        Own::Count => true,
+        Own::Flatten => size <= 832 && room <= 1024,
+    }
+}
+
+// On a module of a short file, in short lists.
 fn own_short(
     own: Own,
     image: &[u16],
@@ -20,7 +35,8 @@ fn own_short(
     out: &mut [u8],
 ) -> Sheet
     requires { ⌜ Standing (now image) (now starts) (now nets) site ⌝ }
-    requires { ⌜ (length (now image) ≤ 1024) × ((site .size ≤ 832) × (site .room ≤ 1024)) ⌝ }
+    requires { ⌜ length (now image) ≤ 1024 ⌝ }
+    requires { ⌜ InShort own site ⌝ }
     ensures { λ r. ⌜ ((s : Standing (now (image .entry)) (now (starts .entry)) (now (nets .entry)) site)
         → (values : List ℕ) → Done (Task.Own own) (site .number) values (now (scratch .entry)) (now (out .entry)) (s .ms) (s .found .m) (now (scratch .exit)) (now (out .exit)) r) ⌝ }
 {
@@ -107,9 +123,7 @@ pub(crate) fn work_at(
             if 1024 < image.len() {
                 return own_long(own, image, starts, nets, site, scratch, out);
             }
-            let size = site.size;
-            let room = site.room;
-            if size <= 832 && room <= 1024 {
+            if in_short(own, site) {
                 return own_short(own, image, starts, nets, site, scratch, out);
             }
             own_long(own, image, starts, nets, site, scratch, out)

@@ -59,17 +59,17 @@ pub one-report :
 one-report one other = (one .numberIs ∙ sym (other .numberIs), (one .writtenIs ∙ sym (other .writtenIs), one .placeIs ∙ sym (other .placeIs)))
 
 -- of one that answers one number,
-pub one-answer :
+pub one-number-report :
     (decision : Decision ℕ) (before : ℕ) {number number′ found found′ place place′ : ℕ}
     → (number ≡ numberOf decision) × ((found ≡ answerAfter decision before) × (place ≡ placeOf decision))
     → (number′ ≡ numberOf decision) × ((found′ ≡ answerAfter decision before) × (place′ ≡ placeOf decision))
     → (number ≡ number′) × ((found ≡ found′) × (place ≡ place′))
-one-answer decision before one other = (one .0 ∙ sym (other .0), (one .1 .0 ∙ sym (other .1 .0), one .1 .1 ∙ sym (other .1 .1)))
+one-number-report decision before one other = (one .0 ∙ sym (other .0), (one .1 .0 ∙ sym (other .1 .0), one .1 .1 ∙ sym (other .1 .1)))
 
 -- and of a count. The check hands back a number and a place, each an equation.
-pub one-count :
+pub one-count-report :
     (decision : Decision Figures) (figures tally : List ℕ) {figures₁ figures₂ tally₁ tally₂ : List ℕ}
     → (figures₁ ≡ unlessRefused decision (figuresIn decision) figures) × (tally₁ ≡ unlessRefused decision (tallyIn decision) tally)
     → (figures₂ ≡ unlessRefused decision (figuresIn decision) figures) × (tally₂ ≡ unlessRefused decision (tallyIn decision) tally)
     → (figures₁ ≡ figures₂) × (tally₁ ≡ tally₂)
-one-count decision figures tally one other = (one .0 ∙ sym (other .0), one .1 ∙ sym (other .1))
+one-count-report decision figures tally one other = (one .0 ∙ sym (other .0), one .1 ∙ sym (other .1))

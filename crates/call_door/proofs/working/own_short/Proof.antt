@@ -3,9 +3,19 @@ use borrow.Author.Needs.{needs}
 use mathlib.Core.Path.{ap}
 use Rattle.call_door.specs.declared.asks.Own.{Own as Kind}
 use Rattle.call_door.specs.declared.asks.Task.the-variants.{Own}
-use Rattle.call_door.proofs.Works.{counts, flattens}
+use Rattle.call_door.proofs.Works.{small, counts, flattens}
 use Rattle.call_door.proofs.working.own_short.Statement.{statement}
 use Rattle.call_door.proofs.working.own_short.Tie as tie
+
+abbrev entered : tie.After-slice-known2 → tie.Start
+entered c = c .before .before .before .before .before
+
+-- A flattening has short lists only where the module is small.
+flatten-small-requires : tie.Need-flatten-small-requires
+flatten-small-requires c κs =
+    let told = c .before .before in
+    let given = entered (told .before .before) .pre in
+    (given .0, small _ (told .enum-told2 .given .1) (given .1 .1))
 
 returns : tie.Need-returns
 returns c s values =
@@ -26,7 +36,7 @@ own-short-spec =
     (λ c κs. search needs)
     (λ c κs. search needs)
     (λ c. search needs)
-    (λ c κs. search needs)
+    flatten-small-requires
     (λ c κs. search needs)
     (λ c. search needs)
     returns

@@ -11,11 +11,17 @@ returns c s =
     let known = done .before .before .before .before in
     told s (Own _) (known .before .task .given .1) (done .own-long .ensures s _)
 
+own-short-requires : tie.Need-own-short-requires
+own-short-requires c κs =
+    let small = c .before .before in
+    (search needs, (search needs, small .before .in-short .ensures (small .if2 .taken)))
+
+-- Where it was asked whether short lists serve, the task is known.
 returns-2 : tie.Need-returns-2
 returns-2 c s =
     let done = c .before .before .before .before in
-    let small = done .before .before .before in
-    told s (Own _) (small .before .before .before .before .task .given .1) (done .own-short .ensures s _)
+    let asked = done .before .before .before .before in
+    told s (Own _) (asked .before .before .before .task .given .1) (done .own-short .ensures s _)
 
 returns-3 : tie.Need-returns-3
 returns-3 c s =
@@ -26,8 +32,8 @@ returns-3 c s =
 returns-4 : tie.Need-returns-4
 returns-4 c s =
     let done = c .before .before .before .before in
-    let large = done .before .before .before in
-    told s (Own _) (large .before .before .before .task .given .1) (done .own-long2 .ensures s _)
+    let asked = done .before .before .before .before in
+    told s (Own _) (asked .before .before .before .task .given .1) (done .own-long2 .ensures s _)
 
 pub work-at-spec : {M : Type 1} → statement M
 work-at-spec =
@@ -42,6 +48,7 @@ work-at-spec =
     (λ c. search needs)
     returns
     (λ c κs. search needs)
+    own-short-requires
     (λ c. search needs)
     (λ c. search needs)
     returns-2
