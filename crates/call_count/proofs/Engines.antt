@@ -1,17 +1,14 @@
 -- From the module that stands to the engines: each can be called, and what it answers of the position is what is meant of the number.
-use Prim.Native.Nat.{ℕ, _+_, _≤_, _<_, _^_}
+use Prim.Native.Nat.{ℕ, _+_, _≤_}
 use mathlib.Core.Path.{_≡_, sym, subst}
 use mathlib.Core.List.{List}
 use native.Mathlib.Omega.{arith}
 use lib.ListN.{length}
-use Rattle.meaning.specs.Figures.{tally, room, delay, largestLoad}
-use Rattle.laws.specs.Figures.Tally.{total}
+use Rattle.meaning.specs.Figures.{room, delay, largestLoad}
 use Rattle.image.specs.Resolved.{referTo, resolveModule, resolve}
 use Rattle.image.specs.ResolvedFigures.{room-resolved}
 use Rattle.run_engine.specs.Calls.{Callable, Timed}
 use Rattle.run_engine.specs.Arriving.{delay-means}
-use Rattle.tally_engine.specs.Tallies.{Countable}
-use Rattle.tally_engine.specs.Answers as tallies
 use Rattle.load_engine.specs.Loads.{Loadable}
 use Rattle.load_engine.specs.Ordered.{ordered}
 use Rattle.load_engine.specs.Answers as loads
@@ -20,22 +17,6 @@ use Rattle.open_finding.specs.OnImage.{scene, at-position}
 use Rattle.open_finding.specs.declared.Site.{Site}
 
 module _ {image starts nets : List ℕ} {site : Site} (s : Standing image starts nets site) where
-  -- The tally.
-  pub countable : Countable image starts (site .position)
-  countable =
-      subst (Countable image starts) (s .found .placed)
-      (tallies.countable (accepted (s .held)) (scene s .imaged) (site .number) (s .found .m) (s .found .found))
-
-  pub tally-is :
-      {counts : List ℕ} → ((e : Countable image starts (site .position)) → counts ≡ tally (e .rs) (16 + site .position))
-      → counts ≡ tally (s .ms) (site .number)
-  tally-is {counts} answer =
-      tallies.tallied (accepted (s .held)) (scene s .imaged) (site .number) (s .found .m) (s .found .found)
-      (subst (λ (p : ℕ). (e : Countable image starts p) → counts ≡ tally (e .rs) (16 + p)) (sym (s .found .placed)) answer)
-
-  pub tally-fits : {counts : List ℕ} → counts ≡ tally (s .ms) (site .number) → total counts < 2 ^ 32
-  tally-fits same = rw same (tallies.tally-fits (accepted (s .held)) (site .number))
-
   -- The delay.
   module _ {scratch : List ℕ} (enough : site .room ≤ length scratch) where
     abbrev pub callable : Callable image starts nets (site .position) (site .room) scratch

@@ -13,7 +13,7 @@ use Rattle.laws.specs.Bounds.{weight-size}
 use Rattle.laws.specs.Flatten.Bytes.{bytes-of-flat}
 use Rattle.open_finding.specs.Standing.{Standing, accepted, module-within}
 use Rattle.open_finding.specs.declared.Site.{Site}
-use Rattle.call_flatten.specs.Placeable.{Placeable}
+use Rattle.flat_lists.specs.Placeable.{Placeable}
 use Rattle.call_flatten.proofs.RoomBound.{room-of-bytes}
 
 module _ {image starts nets : List ℕ} {site : Site} (s : Standing image starts nets site) where

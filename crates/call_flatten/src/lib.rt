@@ -10,9 +10,6 @@ ghost use Rattle.meaning.specs.Calls.{flatteningOn};
 ghost use Rattle.answers.specs.Settled.{Settles};
 ghost use Rattle.open_finding.specs.Standing.{Standing};
 
-mod answering;
-mod placing;
-
 // Whether inputs and gates are more than 4,096. The expanded size is at least the number of gates, so that they are counted only where it
 // leaves the question open.
 fn many_nets(image: &[u16], starts: &[usize], nets: &[usize], site: Site) -> bool
@@ -52,7 +49,7 @@ pub fn flatten_small(
             place: 0,
         };
     }
-    placing::place_small(image, starts, nets, site, scratch, out)
+    flat_lists::place_small(image, starts, nets, site, scratch, out)
 }
 
 // Of any module that stands there: refusals 24 and 21 in their order, then the walk.
@@ -88,7 +85,7 @@ pub fn flatten_at(
         };
     }
     if room <= 4096 {
-        return placing::place_middle(image, starts, nets, site, scratch, out);
+        return flat_lists::place_middle(image, starts, nets, site, scratch, out);
     }
-    placing::place_large(image, starts, nets, site, scratch, out)
+    flat_lists::place_large(image, starts, nets, site, scratch, out)
 }

@@ -2,3 +2,4 @@
 pub mod Tallies
 pub mod Rows
 pub mod Answers
+pub mod OfSite

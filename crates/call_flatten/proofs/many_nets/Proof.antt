@@ -7,7 +7,7 @@ use borrow.Author.Tests.{le-ltb}
 use lib.Dec.{ltb}
 use Rattle.image.specs.Scenes.{in-starts, module-there}
 use Rattle.open_finding.specs.OnImage.{scene, inputs-are}
-use Rattle.call_flatten.proofs.Engines.{countable, counts-fit, gates-are}
+use Rattle.tally_engine.specs.OfSite.{countable, tally-is, tally-fits, gates-are}
 use Rattle.call_flatten.proofs.Measured.{flatNets, gates-low, size-low, inputs-low}
 use Rattle.call_flatten.proofs.many_nets.Statement.{statement}
 use Rattle.call_flatten.proofs.many_nets.Tie as tie
@@ -37,7 +37,7 @@ add-result c =
       arith,
       inputs-are s (header .module-at .ensures),
       inputs-low s,
-      gates-are s (counted .tally-module .ensures) (c .before .gates-of .ensures),
+      gates-are s (tally-is s (counted .tally-module .ensures)) (c .before .gates-of .ensures),
       gates-low s,
       size-low s,
     )
@@ -46,7 +46,7 @@ returns-2 : tie.Need-returns-2
 returns-2 c s =
     let counted = c .before .before in
     ap (ltb 4096)
-    (ap₂ _+_ (inputs-are s (headed (counted .before) .module-at .ensures)) (gates-are s (counted .tally-module .ensures) (c .before .gates-of .ensures)))
+    (ap₂ _+_ (inputs-are s (headed (counted .before) .module-at .ensures)) (gates-are s (tally-is s (counted .tally-module .ensures)) (c .before .gates-of .ensures)))
 
 pub many-nets-spec : {M : Type 1} → statement M
 many-nets-spec =
@@ -59,7 +59,7 @@ many-nets-spec =
     add-if1
     returns
     (λ c κs. countable (start (headed c) .pre))
-    (λ c κs. counts-fit (start (headed (c .before)) .pre) (c .tally-module .ensures))
+    (λ c κs. let s = start (headed (c .before)) .pre in tally-fits s (tally-is s (c .tally-module .ensures)))
     (λ c. search needs)
     add-result
     returns-2)

@@ -2,10 +2,10 @@
 use native.Mathlib.Omega.{arith}
 use borrow.Author.Needs.{needs}
 use Rattle.image.specs.Scenes.{in-starts, module-there}
-use Rattle.tally_engine.specs.Answers.{gates-counted}
+use Rattle.tally_engine.specs.OfSite.{countable, tally-is, tally-fits, gates-are}
 use Rattle.open_finding.specs.Standing.{module-within}
 use Rattle.open_finding.specs.OnImage.{scene, inputs-are, outputs-are}
-use Rattle.call_count.proofs.Engines.{countable, tally-is, tally-fits, callable, delay-is, loadable, load-is}
+use Rattle.call_count.proofs.Engines.{callable, delay-is, loadable, load-is}
 use Rattle.call_count.proofs.Outcomes.{scratch-is, figures-are}
 use Rattle.call_count.proofs.figuring.figures_at.Statement.{statement}
 use Rattle.call_count.proofs.figuring.figures_at.Tie as tie
@@ -72,7 +72,7 @@ returns c s =
           (inputs-are s (headed .module-at .ensures))
           (omega (arith, outputs-are s (headed .module-at .ensures)))
           tally
-          (gates-counted _ _ tally (summed .gates-of .ensures))
+          (gates-are s tally (summed .gates-of .ensures))
           (delay-is s enough ran)
           (load-is s (w .weigh .ensures .0));
       clean = scratch-is s _ (ran .clean) (w .weigh .ensures .1 .1);

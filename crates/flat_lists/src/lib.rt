@@ -1,14 +1,14 @@
-// The walk. How many bytes a flattened file has is known only behind the walk, and a refusal changes nothing that was lent: so the
-// walk writes to a list of its own, in entries of its own, of two bytes since they hold nets of the flattened module; what is lent is
-// written only when the call is sure to be answered. A module that is small gets short lists, so that it does not pay for clearing long
-// ones.
+// The walk of a flattening, in lists of its own. How many bytes a flattened file has is known only behind the walk, and a refusal changes
+// nothing that was lent: so the walk writes to a list of its own, in entries of its own, of two bytes since they hold nets of the flattened
+// module; what is lent is written only when the call is sure to be answered. A module that is small gets short lists, so that it does not
+// pay for clearing long ones.
 use answers::Writing;
 use open_finding::Site;
 ghost use Prim.Native.Nat.{_≤_};
 ghost use lib.ListN.{length};
 ghost use Rattle.meaning.specs.Calls.{flatFile, fitting};
 ghost use Rattle.answers.specs.Settled.{Settles};
-ghost use Rattle.call_flatten.specs.Placeable.{Placeable};
+ghost use Rattle.flat_lists.specs.Placeable.{Placeable};
 
 // The walk in given entries, then the answer.
 fn place_in(
@@ -39,12 +39,12 @@ fn place_in(
         flat,
     );
     let room = site.room as usize;
-    crate::answering::answer(flat, ends.gates, ends.whole, room, scratch, out)
+    flat_ending::answer(flat, ends.gates, ends.whole, room, scratch, out)
 }
 
 // A module whose room is at most 1,024 and that has at most 1,024 nets when it is flat: thirteen bytes for each, two for each of 192
 // outputs, and nine more.
-pub(crate) fn place_small(
+pub fn place_small(
     image: &[u16],
     starts: &[usize],
     nets: &[usize],
@@ -74,7 +74,7 @@ pub(crate) fn place_small(
 }
 
 // A module whose room is at most 4,096, as it is where nothing in it refers to another module. 4,096 nets have 53,641 bytes at most.
-pub(crate) fn place_middle(
+pub fn place_middle(
     image: &[u16],
     starts: &[usize],
     nets: &[usize],
@@ -104,7 +104,7 @@ pub(crate) fn place_middle(
 }
 
 // Any module: its room is at most as many as the numbers of its file.
-pub(crate) fn place_large(
+pub fn place_large(
     image: &[u16],
     starts: &[usize],
     nets: &[usize],

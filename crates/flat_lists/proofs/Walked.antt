@@ -15,9 +15,9 @@ use Rattle.flat_engine.specs.FlatBytes.{parts-of-flat}
 use Rattle.flat_engine.specs.declared.Ends.{Ends}
 use Rattle.answers.specs.Settled.{Settles}
 use Rattle.open_finding.specs.declared.Site.{Site}
-use Rattle.call_flatten.specs.Placeable.{Placeable}
-use Rattle.call_flatten.specs.Order.{frontFirst}
-use Rattle.call_flatten.proofs.Engines.{flattenable}
+use Rattle.flat_lists.specs.Placeable.{Placeable}
+use Rattle.flat_ending.specs.Order.{frontFirst}
+use Rattle.flat_lists.proofs.Engine.{flattenable}
 
 module _ {image starts nets : List ℕ} {site : Site} {entries bytes bytes′ : List ℕ} {ends : Ends}
     (done :

@@ -1,11 +1,11 @@
 -- The length of the bytes decides 22, and only then something lent is written.
 use borrow.Author.Needs.{needs}
 use native.Mathlib.Omega.{arith}
-use Rattle.call_flatten.specs.Order.{frontFirst}
-use Rattle.call_flatten.proofs.Ending.{ends-short, ends-written}
-use Rattle.call_flatten.proofs.Pasting.{length-of-parts, parts-pasted}
-use Rattle.call_flatten.proofs.answering.answer.Statement.{statement}
-use Rattle.call_flatten.proofs.answering.answer.Tie as tie
+use Rattle.flat_ending.specs.Order.{frontFirst}
+use Rattle.flat_ending.proofs.Ending.{ends-short, ends-written}
+use Rattle.flat_ending.proofs.Pasting.{length-of-parts, parts-pasted}
+use Rattle.flat_ending.proofs.answer.Statement.{statement}
+use Rattle.flat_ending.proofs.answer.Tie as tie
 
 returns : tie.Need-returns
 returns c =

@@ -6,7 +6,7 @@ ghost use lib.ListN.{length, drop};
 ghost use lib.Seq.{paste};
 ghost use Rattle.meaning.specs.Calls.{fitting};
 ghost use Rattle.answers.specs.Settled.{Settles};
-ghost use Rattle.call_flatten.specs.Order.{frontFirst};
+ghost use Rattle.flat_ending.specs.Order.{frontFirst};
 
 // So many bytes, those from a place on, to a place of `out`.
 fn copy(bytes: &[u8], from: usize, count: usize, out: &mut [u8], at: usize)
@@ -21,7 +21,7 @@ fn copy(bytes: &[u8], from: usize, count: usize, out: &mut [u8], at: usize)
 
 // The gates stand first in `bytes`, and behind them, up to `whole`, what stands in front of them in the file. Clears the room and writes
 // the file, or gives 22 where the buffer is shorter.
-pub(crate) fn answer(
+pub fn answer(
     bytes: &[u8],
     gates: usize,
     whole: usize,

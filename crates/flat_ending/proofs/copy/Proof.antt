@@ -1,10 +1,10 @@
--- `flattening::answering::copy` meets its contract. The loop's invariant: the bytes passed are copied. Assumes nothing.
+-- The loop's invariant: the bytes passed are copied.
 use Prim.Native.Nat.{_-_, _≤_}
 use mathlib.Core.Path.{_≡_}
 use native.Mathlib.Omega.{arith}
 use Rattle.image.specs.Copies.{Copying, none-copied, more-copied}
-use Rattle.call_flatten.proofs.answering.copy.Statement.{statement}
-use Rattle.call_flatten.proofs.answering.copy.Tie as tie
+use Rattle.flat_ending.proofs.copy.Statement.{statement}
+use Rattle.flat_ending.proofs.copy.Tie as tie
 
 abbrev Inv-loop : tie.InvT-loop
 Inv-loop bytes from count out₀ at i₀ out i = (i ≤ count) × Copying bytes from out₀ at i out

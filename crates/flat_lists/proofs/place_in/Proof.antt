@@ -1,9 +1,9 @@
 -- The walk leaves the bytes of the flattened file, its gates first, and they are the answer.
 use borrow.Author.Needs.{needs}
-use Rattle.call_flatten.proofs.Engines.{flattenable}
-use Rattle.call_flatten.proofs.Walked.{whole-within, gates-within, parts-flatten}
-use Rattle.call_flatten.proofs.placing.place_in.Statement.{statement}
-use Rattle.call_flatten.proofs.placing.place_in.Tie as tie
+use Rattle.flat_lists.proofs.Engine.{flattenable}
+use Rattle.flat_lists.proofs.Walked.{whole-within, gates-within, parts-flatten}
+use Rattle.flat_lists.proofs.place_in.Statement.{statement}
+use Rattle.flat_lists.proofs.place_in.Tie as tie
 
 -- The walk from where the room is known, and the function's entry from where the walk is called.
 abbrev walk : tie.After-struct-known → tie.After-flatten

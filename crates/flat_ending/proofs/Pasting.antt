@@ -7,7 +7,7 @@ use lib.ListN.{length, take, drop, length-append, length-drop}
 use lib.Seq.{paste, length-take-le}
 use Rattle.bytes_out.specs.Filled.{Put, Filled}
 use Rattle.bytes_out.specs.Puts.{put-more, put-front}
-use Rattle.call_flatten.specs.Order.{frontFirst}
+use Rattle.flat_ending.specs.Order.{frontFirst}
 
 pasted-put :
     (before : List ℕ) (at : ℕ) (source : List ℕ) (count : ℕ) {after : List ℕ} {next : ℕ}

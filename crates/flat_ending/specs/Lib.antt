@@ -1,0 +1,2 @@
+-- What the end of a flattening cites.
+pub mod Order

@@ -1,0 +1,2 @@
+-- What the walk of a flattening asks.
+pub mod Placeable
