@@ -456,7 +456,7 @@ uint16_t TUNED(evaluate)(const uint8_t *file, size_t file_len, uint16_t number, 
     if (values_len != m->ins)
         return end(place, 19, 0);
     for (size_t i = 0; i < values_len; i++)
-        if (values[i] > 2)
+        if (values[i] > 3)
             return end(place, 20, i);
     if (scratch_len < m->room)
         return end(place, 21, 0);

@@ -29,7 +29,7 @@
  *   17  the expanded size is over 65,535
  *   18  no module of that number, or at that position       0
  *   19  the count of values differs from the inputs          0
- *   20  a value is above 2                                   index of the first such value
+ *   20  a value is above 3                                   index of the first such value
  *   21  scratch has fewer entries than the module's room     0
  *   22  the output buffer is shorter than the answer         0
  *   23  the width is outside 1 to 64                         0
@@ -59,8 +59,9 @@ uint16_t shelf_modules(const uint8_t *file, size_t file_len, size_t *modules, si
  * no such position. */
 uint16_t shelf_number_at(const uint8_t *file, size_t file_len, size_t position, uint16_t *number, size_t *place);
 
-/* Runs the module of that number on values 0 (false), 1 (true), 2 (unknown), one for each input in order. The values
- * of its outputs, in order, come in the first bytes of out; *written is how many there are.
+/* Runs the module of that number on values 0 (false), 1 (true), 2 (unknown), 3 (floats), one for each input in order.
+ * The values of its outputs, in order, come in the first bytes of out; *written is how many there are. Only 0 and 1 are
+ * known: what floats is unknown to every gate, and no output is 3.
  * Refusals 1 to 17, then 18, 19, 20, 21, 22. */
 uint16_t shelf_evaluate(const uint8_t *file, size_t file_len, uint16_t number, const uint8_t *values,
                         size_t values_len, uint32_t *scratch, size_t scratch_len, uint8_t *out, size_t out_len,

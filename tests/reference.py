@@ -28,8 +28,8 @@ def boolean(gate, bits):
 
 
 def gate_value(gate, values):
-    """0 or 1 where every filling of the unknown places agrees, else 2."""
-    places = [[False], [True], [False, True]]
+    """0 or 1 where every filling of the places that are 2 or 3 agrees, else 2."""
+    places = [[False], [True], [False, True], [False, True]]
     results = {boolean(gate, filling) for filling in product(*(places[v] for v in values))}
     return int(results.pop()) if len(results) == 1 else 2
 
@@ -212,7 +212,7 @@ def evaluate(data, number, values, scratch, out):
     if len(values) != len(modules[k][1]):
         raise Refused(19, 0)
     for i, v in enumerate(values):
-        if v > 2:
+        if v > 3:
             raise Refused(20, i)
     if scratch < room(modules, k):
         raise Refused(21, 0)
@@ -339,7 +339,7 @@ def leading_zeros(inputs):
     width = len(inputs)
     count = 0
     for v in reversed(inputs):
-        assert v != 2
+        assert v < 2
         if v == 1:
             break
         count += 1

@@ -64,7 +64,7 @@ def cases():
     # the rows of document 01, then every row
     for row in ([0, 1, 1], [1, 1, 1], [2, 0, 0], [2, 1, 1], [2, 1, 0]):
         yield stored('the 67 bytes on %s' % word(row), DOCUMENT, 18, row)
-    for row in product(range(3), repeat=3):
+    for row in product(range(4), repeat=3):
         yield added(1, row[0], [row[1]], [row[2]])
     yield stored('the full adder alone', DOCUMENT, 17, [1, 0, 1])
     yield stored('the half adder alone', DOCUMENT, 16, [1, 1])
@@ -78,9 +78,9 @@ def cases():
     yield stored('19 a value too few', DOCUMENT, 18, [0, 1])
     yield stored('19 a value too many', DOCUMENT, 18, [0, 1, 1, 1])
     yield stored('19 no values', DOCUMENT, 18, [])
-    yield stored('20 the first value', DOCUMENT, 18, [3, 1, 1])
+    yield stored('20 the first value', DOCUMENT, 18, [4, 1, 1])
     yield stored('20 the last value', DOCUMENT, 18, [0, 1, 255])
-    yield stored('20 the first of two', DOCUMENT, 18, [2, 3, 4])
+    yield stored('20 the first of two', DOCUMENT, 18, [3, 4, 5])
     yield stored('21 scratch of 16 where the room is 17', DOCUMENT, 18, [0, 1, 1], scratch=16)
     yield stored('scratch of 17', DOCUMENT, 18, [0, 1, 1], scratch=17)
     yield stored('21 no scratch', DOCUMENT, 18, [0, 1, 1], scratch=0)
@@ -90,20 +90,20 @@ def cases():
     # two at once, and all
     yield stored('5 before 18', DOCUMENT + b'\0', 19, [0, 1, 1])
     yield stored('18 before 19', DOCUMENT, 19, [])
-    yield stored('19 before 20', DOCUMENT, 18, [3, 1])
-    yield stored('20 before 21', DOCUMENT, 18, [0, 3, 1], scratch=16)
+    yield stored('19 before 20', DOCUMENT, 18, [4, 1])
+    yield stored('20 before 21', DOCUMENT, 18, [0, 4, 1], scratch=16)
     yield stored('21 before 22', DOCUMENT, 18, [0, 1, 1], scratch=16, out=1)
-    yield stored('18 before all others', DOCUMENT, 19, [3], scratch=0, out=0)
-    yield stored('19 before all others', DOCUMENT, 18, [3], scratch=0, out=0)
-    yield stored('20 before all others', DOCUMENT, 18, [0, 0, 3], scratch=0, out=0)
+    yield stored('18 before all others', DOCUMENT, 19, [4], scratch=0, out=0)
+    yield stored('19 before all others', DOCUMENT, 18, [4], scratch=0, out=0)
+    yield stored('20 before all others', DOCUMENT, 18, [0, 0, 4], scratch=0, out=0)
     # hierarchies
     yield stored('an inverter beside the module asked for', encode([PLAIN, INVERTER]), 20, [1, 1])
     yield stored('a later module', encode([PLAIN, INVERTER]), 30, [1])
     swapped = (70, [5, 3], [8, 9], [([9, 8], 71, [3, 5])])
     crossed = (71, [0, 1], [3, 2], [([2], 0, [0]), ([3], NOT, [1])])
-    for row in product(range(3), repeat=2):
+    for row in product(range(4), repeat=2):
         yield stored('arguments and outputs in another order on %s' % word(row), encode([swapped, crossed]), 70, list(row))
-    for v in range(3):
+    for v in range(4):
         yield stored('each module twice the next, on %d' % v, encode(twice_the_next(8, 3)), 50, [v])
     nested = encode([(16 + i, [0], [1], [([1], 17 + i, [0])]) for i in range(127)] + [chain(1, 143)])
     yield stored('128 modules, each in the one before', nested, 16, [1])
@@ -119,8 +119,12 @@ def cases():
     # unknown bits
     for row in ([0, 0, 0, 0], [1, 1, 1, 1], [2, 2, 2, 2], [0, 2, 2, 2], [1, 2, 2, 2], [2, 0, 1, 1], [2, 1, 0, 2]):
         yield stored('a gate of each kind on %s' % word(row), encode([GATES]), 80, row)
+    # inputs that float
+    for row in ([3, 3, 3, 3], [0, 3, 3, 3], [1, 3, 3, 3], [3, 0, 1, 2], [2, 3, 2, 3]):
+        yield stored('a gate of each kind on %s' % word(row), encode([GATES]), 80, row)
+    yield stored('three buffers in a row on 3', encode([(70, [0], [3, 2, 1], [([1], 0, [0]), ([2], 0, [1]), ([3], 0, [2])])]), 70, [3])
     own = (70, [0], [2, 3], [([1], NOT, [0]), ([2], AND, [0, 1]), ([3], XOR, [0, 0])])
-    for v in range(3):
+    for v in range(4):
         yield stored('a net with its own negation, on %d' % v, encode([own]), 70, [v])
     # written adders
     for width in 2, 8, 32, 64:
@@ -144,6 +148,7 @@ def cases():
             yield counted(width, value)
         for highest in sorted({0, width // 3, width - 1}):
             yield counted(width, [2] * highest + [1] + [0] * (width - 1 - highest))
+        yield counted(width, [3] * (width - 1) + [1])
 
 
 def main():

@@ -21,8 +21,8 @@ GATES = [
 ]
 
 for name, arity, function in GATES:
-    for args in product((0, 1, 2), repeat=arity):
-        fillings = product(*[(0, 1) if a == 2 else (a,) for a in args])
+    for args in product((0, 1, 2, 3), repeat=arity):
+        fillings = product(*[(0, 1) if a >= 2 else (a,) for a in args])
         results = {int(function(bits)) for bits in fillings}
         value = results.pop() if len(results) == 1 else 2
         print(name, *args, ":", value)

@@ -179,6 +179,15 @@ static uint32_t *lend_scratch(const struct lender *lender)
     return (uint32_t *)(void *)lend(lender, given.scratch_len * sizeof(uint32_t), NULL);
 }
 
+/* Both sides of the highest value: runs that were answered on a 3, and runs that were refused for a 4. */
+static long met_three, met_four;
+
+static void note_highest(size_t values_len)
+{
+    met_three += plain.number == 0 && memchr(values, 3, values_len) != NULL;
+    met_four += plain.number == 20 && values[plain.place] == 4;
+}
+
 static void compare_evaluate(uint16_t number, size_t values_len, size_t scratch_len, size_t out_len)
 {
     const uint8_t *lent_values = lend(&values_lender, values_len, values);
@@ -195,6 +204,7 @@ static void compare_evaluate(uint16_t number, size_t values_len, size_t scratch_
                                   &plain.place);
     if (memcmp(lent_values, values, values_len) != 0 || !guard_kept(&values_lender, values_len))
         report("the values were changed");
+    note_highest(values_len);
     end_call_with_buffers();
 }
 
@@ -267,15 +277,15 @@ static uint16_t choose_number(size_t modules)
     return number;
 }
 
-/* Values of one mood: anything, known only, mostly unknown; now and then some that are none. */
+/* Values of one mood: anything, known only, mostly unknown or floating; now and then some that are none. */
 static void choose_values(size_t length)
 {
     int mood = below(3), bad = percent(8) && length > 0;
 
     for (size_t i = 0; i < length; i++)
-        values[i] = (uint8_t)(mood == 0 ? below(3) : mood == 1 ? below(2) : percent(80) ? 2 : below(2));
+        values[i] = (uint8_t)(mood == 0 ? below(4) : mood == 1 ? below(2) : percent(80) ? between(2, 3) : below(2));
     for (int i = bad ? between(1, 3) : 0; i > 0; i--)
-        values[below((int)length)] = (uint8_t)(percent(50) ? 3 : between(3, 255));
+        values[below((int)length)] = (uint8_t)(percent(50) ? 4 : between(4, 255));
 }
 
 /* What the right lengths are, by asking the plain reading with plenty of memory. */
@@ -425,5 +435,6 @@ int compare_summary(void)
         }
         printf("\n");
     }
-    return complete;
+    printf("runs answered on a 3: %ld, refused for a 4: %ld\n", met_three, met_four);
+    return complete && met_three > 0 && met_four > 0;
 }

@@ -1,4 +1,5 @@
-/* The rows that the scope itself lists, word for word, asked of the library: nothing here comes from a program. */
+/* The rows that the scope itself lists, word for word, and some of the requests, asked of the library: nothing here
+ * comes from a program. */
 #include "rows.h"
 
 #include "shelf.h"
@@ -58,6 +59,17 @@ static void check_sum(const char *row, const uint8_t *in, const uint8_t *sum)
            row);
 }
 
+/* 20 is for values above 3. */
+static void check_too_high(void)
+{
+    size_t written = 77, place = 77;
+
+    expect(shelf_evaluate(adder_1, sizeof adder_1, 18, (const uint8_t[]){3, 0, 4}, 3, scratch, 17, out, 2, &written,
+                          &place) == 20 &&
+               written == 77 && place == 2,
+           "3 0 4");
+}
+
 static void check_adder_1(void)
 {
     size_t written = 77, place = 77;
@@ -67,6 +79,9 @@ static void check_adder_1(void)
     check_sum("2 0 0", (const uint8_t[]){2, 0, 0}, (const uint8_t[]){2, 0});
     check_sum("2 1 1", (const uint8_t[]){2, 1, 1}, (const uint8_t[]){2, 1});
     check_sum("2 1 0", (const uint8_t[]){2, 1, 0}, (const uint8_t[]){2, 2});
+    check_sum("3 1 1, an input that floats", (const uint8_t[]){3, 1, 1}, (const uint8_t[]){2, 1});
+    check_sum("3 1 2", (const uint8_t[]){3, 1, 2}, (const uint8_t[]){2, 2});
+    check_too_high();
     expect(shelf_flatten(adder_1, sizeof adder_1, 18, scratch, 17, out, MOST, &written, &place) == 0 &&
                written == sizeof flat_adder_1 && memcmp(out, flat_adder_1, written) == 0,
            "adder 1 flattened");

@@ -32,7 +32,7 @@ uint16_t plain_evaluate(const uint8_t *bytes, size_t length, uint16_t number, co
     if (values_len != (size_t)module->inputs.count)
         return plain_end(place, 19, 0);
     for (size_t i = 0; i < values_len; i++) {
-        if (values[i] > 2)
+        if (values[i] > 3)
             return plain_end(place, 20, i);
         inputs[i] = values[i];
     }

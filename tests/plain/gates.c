@@ -1,4 +1,5 @@
-/* The sixteen gates: how many arguments, and the value on 0, 1 and 2 by trying all fillings of the unknown places. */
+/* The sixteen gates: how many arguments, and the value on 0 to 3 by trying all fillings of the places that are not
+ * known, which are those of 2 and of 3. */
 #include "plain.h"
 
 static const int arities[KINDS] = {1, 1, 2, 3, 4, 2, 3, 4, 2, 2, 2, 3, 4, 2, 3, 4};
@@ -47,7 +48,7 @@ static int boolean(int kind, const int *bits)
 static int fits(int arity, int filling, const uint8_t *values)
 {
     for (int i = 0; i < arity; i++)
-        if (values[i] != 2 && values[i] != (filling >> i & 1))
+        if (values[i] < 2 && values[i] != (filling >> i & 1))
             return 0;
     return 1;
 }

@@ -3,13 +3,13 @@
  *     to_verilog SEED > judge.v
  *
  * Written adders and counters of every width and random hierarchies become modules of primitive gates and instances,
- * each with a bench that sets rows of 0, 1 and x and compares the outputs, by !==, with those that shelf_evaluate
+ * each with a bench that sets rows of 0, 1, x and z and compares the outputs, by !==, with those that shelf_evaluate
  * gave. The turning into Verilog is the test's own; the library only answers.
  *
  * Why the two must agree: Verilog works out a primitive gate from the values at its pins alone, each x by itself,
  * and for and, or, nand, nor, xor, xnor, not and buf its tables give 0 or 1 exactly when every filling of the x pins
- * does: a 0 at an and or a 1 at an or decides, any x at an xor does not. That is the scope's rule, gate by gate. Every
- * net has one driver and nothing is ever z. */
+ * does: a 0 at an and or a 1 at an or decides, any x at an xor does not. That is the scope's rule, gate by gate. A z at
+ * a pin counts as x, at a buf too. Every net has one driver, and only the inputs are ever z: outputs are 0, 1 or x. */
 #include "../differential/make.h"
 #include "../differential/random.h"
 #include "shelf.h"
@@ -128,7 +128,7 @@ static void print_word(const uint8_t *values, size_t count)
 {
     printf("%zu'b", count);
     for (size_t i = count; i-- > 0;)
-        putchar("01x"[values[i]]);
+        putchar("01xz"[values[i]]);
 }
 
 static void print_pins(const char *name, uint32_t count)
@@ -144,7 +144,7 @@ static void print_row(uint16_t number, uint32_t inputs, int mood)
     size_t written, place;
 
     for (uint32_t i = 0; i < inputs; i++)
-        values[i] = (uint8_t)(mood == 0 ? below(2) : mood == 1 ? below(3) : percent(15) ? 2 : below(2));
+        values[i] = (uint8_t)(mood == 0 ? below(2) : mood == 1 ? below(4) : percent(15) ? between(2, 3) : below(2));
     if (shelf_evaluate(file, file_len, number, values, inputs, scratch, MOST_SCRATCH, outputs, MOST_LIST, &written,
                        &place) != 0)
         exit(1);

@@ -16,7 +16,6 @@ use Rattle.answers.specs.declared.Writing.the-variants.{Wrote}
 use Rattle.answers.specs.Settled.{Settles}
 use Rattle.open_finding.specs.Standing.{Standing}
 use Rattle.open_finding.specs.declared.Site.{Site}
-use Rattle.call_evaluate.proofs.SmallValues.{all-small}
 use Rattle.call_evaluate.proofs.Running.{runnable, outputs-are, cleared-are}
 
 module _
@@ -54,7 +53,7 @@ module _
                     ∙ sym (length-map (evaluate (s .ms) (site .number) (map value values)) code))
                     ∙ sym (ap writingOf decided);
                 out =
-                    outputs-are s fed wide long ran (all-small values (omega (arith, small)))
+                    outputs-are s fed wide long ran
                     ∙ sym (ap (λ (d : Decision Written). outAfter d out) decided);
               };
           scratched =

@@ -4,7 +4,6 @@ use mathlib.Core.Path.{_≡_, sym, ap, subst, _∙_}
 use mathlib.Core.List.{List, _++_, map}
 use native.Mathlib.Omega.{arith}
 use lib.ListN.{length, drop}
-use Rattle.meaning.specs.Lists.{All}
 use Rattle.meaning.specs.Values.{value, code}
 use Rattle.meaning.specs.Evaluation.{evaluate}
 use Rattle.meaning.specs.Figures.{room}
@@ -36,10 +35,9 @@ module _ {image starts nets : List ℕ} {site : Site} (s : Standing image starts
 
     module _ {scratch′ out′ : List ℕ} (ran : Evaluated (resolve (s .ms)) (site .position) (site .room) values scratch out scratch′ out′) where
       pub outputs-are :
-          All (λ v. v ≤ 2) values
-          → out′ ≡ map code (evaluate (s .ms) (site .number) (map value values)) ++ drop (length (map code (evaluate (s .ms) (site .number) (map value values)))) out
-      outputs-are small =
-          evaluate-means (accepted (s .held)) (site .number) (s .found .m) (s .found .found) fed small
+          out′ ≡ map code (evaluate (s .ms) (site .number) (map value values)) ++ drop (length (map code (evaluate (s .ms) (site .number) (map value values)))) out
+      outputs-are =
+          evaluate-means (accepted (s .held)) (site .number) (s .found .m) (s .found .found) fed
           (subst (λ (p : ℕ). Evaluated (resolve (s .ms)) p (site .room) values scratch out scratch′ out′) (sym (s .found .placed)) ran)
 
       pub cleared-are : scratch′ ≡ cleared (room (s .ms) (site .number)) scratch

@@ -2,13 +2,16 @@
 ghost use mathlib.Core.Path.{_≡_};
 ghost use Rattle.meaning.specs.Calls.{firstAbove};
 
-// The index of the first value above 2, or the count of values where there is none.
+// The highest value: an input that floats.
+const FLOATING: u8 = 3;
+
+// The index of the first value above it, or the count of values where there is none.
 pub(crate) fn first_above(values: &[u8]) -> usize
     ensures { λ r. ⌜ r ≡ firstAbove (now (values .entry)) ⌝ }
 {
     let mut i = 0;
     while i < values.len() {
-        if 2 < values[i] {
+        if FLOATING < values[i] {
             return i;
         }
         i += 1;

@@ -60,10 +60,11 @@ fn count_in(file: &[u8], number: u16, scratch: &mut [u32; 40960]) -> Counted {
     shelf::count(file, number, scratch)
 }
 
-// Values and outputs are words of digits. Any digit is taken for a value; which are good the library says.
+// Values and outputs are words of digits; x and z, in either case, are 2 and 3. Any digit is taken for a value; which are good the library
+// says.
 pub(crate) fn run(path: &[u8], number: &[u8], values: &[u8]) {
-    if !crate::words::all_digits(values) {
-        crate::saying::fail(b"not a word of 0, 1 and 2: ", values);
+    if !crate::words::all_values(values) {
+        crate::saying::fail(b"not a word of 0, 1, 2 and 3, or x and z: ", values);
         return;
     }
     match crate::words::parse(number) {

@@ -87,7 +87,7 @@ fn say_rule_of_calls(number: u16) {
     match number {
         18 => say(b"no module of the file has that number"),
         19 => say(b"the count of values is not the count of inputs"),
-        20 => say(b"it is above 2"),
+        20 => say(b"it is above 3"),
         21 => say(b"the scratch has fewer entries than the module's room"),
         22 => say(b"the output buffer is shorter than the answer"),
         _ => {}

@@ -51,7 +51,8 @@ gimlet list FILE                 a line for each module: position, number, input
                                  outputs, gates, size, room, delay, largest load
 gimlet count FILE MODULE         the figures of a module, and its gates of each kind
 gimlet run FILE MODULE VALUES    the outputs of a module; values and outputs are words
-                                 of 0, 1 and 2, where 2 is unknown
+                                 of 0, 1 and 2, where 2 is unknown; a value may also
+                                 be 3, which floats; x and z stand for 2 and 3
 gimlet flatten FILE MODULE OUT   writes the module as plain gates to the file OUT
 gimlet adder WIDTH OUT           writes an adder, width 1 to 64; its module is 18
 gimlet counter WIDTH OUT         writes a leading-zero counter, width 1 to 64; its

@@ -104,15 +104,47 @@ pub(crate) fn all_digits(word: &[u8]) -> bool {
     true
 }
 
-// The digits of a word as numbers, at the front of a buffer. A word longer than the buffer is cut, and still longer than any list of
+// Whether each byte of a word stands for a value.
+pub(crate) fn all_values(word: &[u8]) -> bool {
+    for i in 0..word.len() {
+        if !is_value(word[i]) {
+            return false;
+        }
+    }
+    true
+}
+
+fn is_value(byte: u8) -> bool {
+    match byte {
+        b'0'..=b'9' => true,
+        b'x' => true,
+        b'X' => true,
+        b'z' => true,
+        b'Z' => true,
+        _ => false,
+    }
+}
+
+// The values that a word's bytes stand for, at the front of a buffer. A word longer than the buffer is cut, and still longer than any list of
 // values that a module takes.
 pub(crate) fn to_values(word: &[u8], buffer: &mut [u8]) -> usize {
     let mut i = 0;
     while i < word.len() && i < buffer.len() {
-        buffer[i] = value_of(word[i]);
+        buffer[i] = input_of(word[i]);
         i += 1;
     }
     i
+}
+
+// The value of a byte of such a word: x is unknown and z floats, as simulators write them.
+fn input_of(byte: u8) -> u8 {
+    match byte {
+        b'x' => 2,
+        b'X' => 2,
+        b'z' => 3,
+        b'Z' => 3,
+        _ => value_of(byte),
+    }
 }
 
 // The value of a digit.

@@ -10,6 +10,7 @@ use lib.Dec.{eqb, leb}
 use lib.ListN.{length}
 use borrow.Author.Tests.{eq-eqb, ne-eqb}
 use Rattle.meaning.specs.Syntax.{Module}
+use Rattle.meaning.specs.Values.{floating}
 use Rattle.meaning.specs.Members.{_∈_}
 use Rattle.meaning.specs.Boxlist.{Found, box, F, assoc, isBox}
 use Rattle.meaning.specs.Layout.{encode}
@@ -58,17 +59,17 @@ values-outcome :
     → Outcome (valueRules i values ++ rs) (came (demand 20 place (eqb (firstAbove values) (length values)) next))
 unfolding valueRules firstAbove
 values-outcome i place [] next there o = o
-values-outcome {rs = rs} i place (x ∷ xs) next there o = go (leb-tells x 2) there (λ e. values-outcome (suc i) place xs next e o)
+values-outcome {rs = rs} i place (x ∷ xs) next there o = go (leb-tells x floating) there (λ e. values-outcome (suc i) place xs next e o)
   where
     go :
         {b : Bool}
-        → Tells (x ≤ 2) (2 < x) b
+        → Tells (x ≤ floating) (floating < x) b
         → place ≡ i + cond b (suc (firstAbove xs)) 0
         → (place ≡ suc i + firstAbove xs → Outcome (valueRules (suc i) xs ++ rs) (came (demand 20 place (eqb (firstAbove xs) (length xs)) next)))
-        → Outcome (rule 20 i (2 < x) ∷ (valueRules (suc i) xs ++ rs))
+        → Outcome (rule 20 i (floating < x) ∷ (valueRules (suc i) xs ++ rs))
         (came (demand 20 place (eqb (cond b (suc (firstAbove xs)) 0) (suc (length xs))) next))
     go (tells-true h) there further =
-        kept (λ (l : 2 < x). omega arith) (rw (← eqb-suc (firstAbove xs) (length xs)) at (further (omega arith)))
+        kept (λ (l : floating < x). omega arith) (rw (← eqb-suc (firstAbove xs) (length xs)) at (further (omega arith)))
     go (tells-false h) there further =
         let here : place ≡ i = omega arith in
         rw (here, ne-eqb 0 (suc (length xs)) (λ e. omega arith)) (broken h)

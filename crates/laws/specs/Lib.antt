@@ -45,3 +45,4 @@ pub mod NoneMissing
 pub mod Figures
 pub mod Counter
 pub mod Demands
+pub mod Floating

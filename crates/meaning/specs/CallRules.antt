@@ -5,6 +5,7 @@ use mathlib.Core.Logic.{_⊎_, _≢_}
 use mathlib.Core.List.{List, [], _∷_, _++_}
 use lib.ListN.{length}
 use Rattle.meaning.specs.Syntax.{Module}
+use Rattle.meaning.specs.Values.{floating}
 use Rattle.meaning.specs.Members.{_∈_}
 use Rattle.meaning.specs.Boxlist.{assoc}
 use Rattle.meaning.specs.Layout.{encode}
@@ -53,10 +54,10 @@ leaves file (toCount number) lent =
     record { scratch = scratchAfter (λ f. f .room) (counting file number (length (lent .scratch))) (lent .scratch); out = lent .out }
 leaves file (toFlatten number) lent = lentAfter (flattening file number (length (lent .scratch)) (length (lent .out))) lent
 
--- 20: a value above 2; the place is its index.
+-- 20: a value above 3; the place is its index.
 unfoldable pub valueRules : (index : ℕ) → List ℕ → List Rule
 valueRules index [] = []
-valueRules index (x ∷ xs) = rule 20 index (2 < x) ∷ valueRules (suc index) xs
+valueRules index (x ∷ xs) = rule 20 index (floating < x) ∷ valueRules (suc index) xs
 
 -- Evaluation uses 18, 19, 20, 21, 22; counts 18, 21; flattening 18, 24, 21, 22.
 unfoldable pub callRules : Call → Lent → List Module → List Rule

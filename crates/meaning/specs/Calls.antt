@@ -6,7 +6,7 @@ use mathlib.Core.Bool.{Bool, true, false, cond}
 use mathlib.Core.List.{List, [], _∷_, _++_, map}
 use lib.Dec.{eqb, leb}
 use lib.ListN.{length, drop, replicate}
-use Rattle.meaning.specs.Values.{value, code}
+use Rattle.meaning.specs.Values.{value, floating, code}
 use Rattle.meaning.specs.Syntax.{Module}
 use Rattle.meaning.specs.Boxlist.{Found, box, F, assoc}
 use Rattle.meaning.specs.Layout.{encode}
@@ -52,10 +52,10 @@ abbrev pub onModule : {R : Type 0} → Found → (Module → Decision R) → Dec
 onModule (box m) ask = ask m
 onModule F ask = refusal 18 0
 
--- The first index of a value above 2; the count of values where there is none.
+-- The first index of a value above 3; the count of values where there is none.
 unfoldable pub firstAbove : List ℕ → ℕ
 firstAbove [] = 0
-firstAbove (x ∷ xs) = cond (leb x 2) (suc (firstAbove xs)) 0
+firstAbove (x ∷ xs) = cond (leb x floating) (suc (firstAbove xs)) 0
 
 -- What an answer writes: bytes to the output buffer, and 0 to so many entries of scratch.
 pub record Written : Type 0 where
@@ -75,7 +75,7 @@ scratchAfter cleared (answer r) scratch = replicate (cleared r) 0 ++ drop (clear
 abbrev pub fitting : (bytes : List ℕ) (cleared out : ℕ) → Decision Written
 fitting bytes cleared out = demand 22 0 (leb (length bytes) out) (answer (record { bytes = bytes; cleared = cleared }))
 
--- Evaluation: 18; 19 count of values differs from the inputs; 20 a value above 2, place its index; 21 scratch has fewer entries than
+-- Evaluation: 18; 19 count of values differs from the inputs; 20 a value above 3, place its index; 21 scratch has fewer entries than
 -- room; 22 the output buffer is shorter than the answer.
 abbrev pub evaluationOn : (number : ℕ) (values : List ℕ) (scratch out : ℕ) (ms : List Module) → Module → Decision Written
 evaluationOn number values scratch out ms m =

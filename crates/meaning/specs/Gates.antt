@@ -106,6 +106,6 @@ gate number = getD gates number (record { arity = 0; function = λ bs. false })
 unfoldable pub gateValue : ℕ → List Val → Val
 gateValue number vs = byFillings (gate number .function) vs
 
--- The same on the numbers 0, 1 and 2 that stand for the values.
+-- The same on numbers: every number above 1 is an unknown argument, and the result is 0, 1 or 2.
 unfoldable pub gateCode : ℕ → List ℕ → ℕ
 gateCode number xs = code (gateValue number (map value xs))

@@ -1,5 +1,5 @@
--- The three values of a net: false, true, unknown. In a file's values and in the code they are 0, 1 and 2;
--- any larger number that reaches a gate counts as unknown.
+-- The three values of a net: false, true, unknown. As numbers they are 0, 1 and 2. An input may also be 3, which floats (document 02,
+-- M-106): it is unknown, as every number above 1 is. So a value is known where its number is 0 or 1, and no value has the number 3.
 use Prim.Native.Nat.{ℕ}
 use mathlib.Core.Bool.{Bool, true, false, cond}
 use mathlib.Core.List.{List, [], _∷_}
@@ -11,6 +11,10 @@ pub data Val : Type 0 where
 
 abbrev pub value : ℕ → Val
 value n = cond (eqb n 0) (known false) (cond (eqb n 1) (known true) un)
+
+-- The number of an input that floats, the highest that an input may have.
+abbrev pub floating : ℕ
+floating = 3
 
 abbrev pub code : Val → ℕ
 code (known false) = 0

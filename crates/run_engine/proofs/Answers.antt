@@ -1,10 +1,10 @@
 -- A call on the module at position k: its inputs are loaded, it is run, its outputs are read, and scratch is cleared. What is read is what
 -- the file gives, and nothing of the run is left.
-use Prim.Native.Nat.{ℕ, suc, _+_, _-_, _≤_, _<_}
+use Prim.Native.Nat.{ℕ, _+_, _-_, _≤_, _<_}
 use mathlib.Core.Path.{_≡_, sym, ap, ap₂, _∙_}
-use mathlib.Core.List.{List, [], _∷_, _++_}
+use mathlib.Core.List.{List, _++_, map}
 use native.Mathlib.Omega.{arith}
-use lib.ListN.{length, getD, take, drop, length-append, length-drop, replicate, length-replicate}
+use lib.ListN.{length, getD, take, drop, length-append, length-map, length-drop, replicate, length-replicate}
 use lib.Seq.{take-append-seam, drop-append-seam}
 use Rattle.meaning.specs.Syntax.{Module}
 use Rattle.meaning.specs.Lists.{none, more}
@@ -24,6 +24,7 @@ use Rattle.image.specs.Calling.{inputs-within}
 use Rattle.image.specs.declared.places.Header.{Header}
 use Rattle.run_walk.specs.Job.{atGate, jobMeaning, workOf}
 use Rattle.run_walk.specs.Running.{Runnable, Ran}
+use Rattle.run_engine.specs.Slots.{entered}
 use Rattle.run_engine.specs.Calls.{Callable, answers, cleared}
 use Rattle.run_walk.specs.declared.gate.Job.{Job}
 use Rattle.run_walk.specs.declared.gate.Job.the-variants.{Value}
@@ -40,9 +41,15 @@ module _ {image starts nets : List ℕ} {k given : ℕ} {scratch : List ℕ} (e 
     pub fed : length vs ≡ length (e .scene .m .inputs)
     pub front : scratch₁ ≡ vs ++ drop (length vs) scratch
 
+  -- What values enter as.
   pub values-fed :
-      (vs : List ℕ) {scratch₁ : List ℕ} → length vs ≡ length (e .scene .m .inputs) → scratch₁ ≡ vs ++ drop (length vs) scratch → Fed vs scratch₁
-  values-fed vs fed front = record { fed = fed; front = front }
+      (values : List ℕ) {scratch₁ : List ℕ}
+      → length values ≡ length (e .scene .m .inputs)
+      → scratch₁ ≡ map entered values ++ drop (length values) scratch
+      → Fed (map entered values) scratch₁
+  values-fed values fed front =
+      let long = length-map values entered in
+      record { fed = long ∙ fed; front = front ∙ ap (λ (n : ℕ). map entered values ++ drop n scratch) (sym long) }
 
   -- Zeros as inputs.
   pub zeros-fed :
@@ -107,11 +114,6 @@ module _ {image starts nets : List ℕ} {k given : ℕ} {scratch : List ℕ} (e 
 
         pub outputs-read : valuesAt 0 image (h .from) (h .to) 0 scratch₂ ≡ answers job (e .rs) k vs
         outputs-read = values-stand (h .from) (header .outputs) (header .to) 0 0 scratch₂ ∙ outputs-are
-
--- A list of which every entry is a byte.
-pub all-bytes : (xs : List ℕ) → ((i : ℕ) → getD xs i 0 < 256) → Bytes xs
-all-bytes [] h = none
-all-bytes (x ∷ xs) h = more (h 0) (all-bytes xs (λ i. h (suc i)))
 
 -- From bytes a module gives bytes.
 pub answers-bytes : (rs : List Module) (k : ℕ) {vs : List ℕ} → Bytes vs → Bytes (answers Value rs k vs)

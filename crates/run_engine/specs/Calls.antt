@@ -1,13 +1,14 @@
 -- What evaluating a module and finding its delay ask and answer: the file that stands in the image, and nothing of how it is run.
 use Prim.Native.Nat.{ℕ, _+_, _≤_}
 use mathlib.Core.Path.{_≡_}
-use mathlib.Core.List.{List, _++_}
+use mathlib.Core.List.{List, _++_, map}
 use lib.ListN.{length, drop, replicate}
 use Rattle.meaning.specs.Syntax.{Module}
 use Rattle.meaning.specs.Figures.{largest, room}
 use Rattle.image.specs.Frames.{runFrames}
 use Rattle.image.specs.Scenes.{Scene}
 use Rattle.run_walk.specs.Job.{jobMeaning}
+use Rattle.run_engine.specs.Slots.{entered}
 use Rattle.run_walk.specs.declared.gate.Job.{Job}
 use Rattle.run_walk.specs.declared.gate.Job.the-variants.{Value, Arrival}
 
@@ -33,7 +34,7 @@ abbrev pub cleared : (given : ℕ) → List ℕ → List ℕ
 cleared given scratch = replicate given 0 ++ drop given scratch
 
 pub record Evaluated (rs : List Module) (k given : ℕ) (values scratch out scratch′ out′ : List ℕ) : Type 0 where
-  pub outputs : out′ ≡ answers Value rs k values ++ drop (length (answers Value rs k values)) out
+  pub outputs : out′ ≡ answers Value rs k (map entered values) ++ drop (length (answers Value rs k (map entered values))) out
   pub clean : scratch′ ≡ cleared given scratch
 
 pub record Timed (rs : List Module) (m : Module) (k given : ℕ) (scratch scratch′ : List ℕ) (r : ℕ) : Type 0 where

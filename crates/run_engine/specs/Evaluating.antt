@@ -1,10 +1,9 @@
 -- What `evaluate` answers on the resolved file is what the file means: the codes of the outputs' values.
-use Prim.Native.Nat.{ℕ, _≤_}
-use mathlib.Core.Path.{_≡_, refl, sym, ap, ap₂, _∙_}
+use Prim.Native.Nat.{ℕ}
+use mathlib.Core.Path.{_≡_, refl, ap, ap₂, _∙_}
 use mathlib.Core.Bool.{false}
 use mathlib.Core.List.{List, [], _∷_, _++_, map, Forall₂·nil, Forall₂·cons}
-use lib.ListN.{length, drop}
-use Rattle.meaning.specs.Lists.{All, none, more}
+use lib.ListN.{length, drop, length-map}
 use Rattle.meaning.specs.Syntax.{Module}
 use Rattle.meaning.specs.Values.{Val, known, value, code}
 use Rattle.meaning.specs.Gates.{gateValue, gateCode}
@@ -15,8 +14,9 @@ use Rattle.laws.specs.Related.{Respects}
 use Rattle.image.specs.Resolved.{positionOf, resolve}
 use Rattle.image.specs.Fitting.{accepted-fits}
 use Rattle.image.specs.FramesMean.{frames-mean}
-use Rattle.gates.specs.ThreeValues.{value-of-code, code-of-value}
+use Rattle.gates.specs.ThreeValues.{value-of-code}
 use Rattle.run_walk.specs.Job.{atGate, jobMeaning}
+use Rattle.run_engine.specs.Slots.{entered}
 use Rattle.run_engine.specs.Calls.{answers, Evaluated}
 use Rattle.run_engine.specs.Mapped.{Mapped, mapped-is, run-mapped}
 use Rattle.run_walk.specs.declared.gate.Job.the-variants.{Value}
@@ -25,9 +25,10 @@ values-of-codes : (vs : List Val) → map value (map code vs) ≡ vs
 values-of-codes [] = refl
 values-of-codes (v ∷ vs) = ap₂ _∷_ (value-of-code v) (values-of-codes vs)
 
-codes-of-values : {xs : List ℕ} → All (λ x. x ≤ 2) xs → map code (map value xs) ≡ xs
-codes-of-values none = refl
-codes-of-values (more {x = x} h rest) = ap₂ _∷_ (code-of-value x h) (codes-of-values rest)
+inputs-coded : (xs : List ℕ) → map entered xs ≡ map code (map value xs)
+unfolding entered
+inputs-coded [] = refl
+inputs-coded (x ∷ xs) = ap (λ (l : List ℕ). code (value x) ∷ l) (inputs-coded xs)
 
 gates-coded : Respects (Mapped code) (jobMeaning Value) gateOutputs
 unfolding atGate gateCode
@@ -39,7 +40,7 @@ gates-coded =
           Forall₂·nil;
     }
 
--- The module of a number, at its position in the resolved file, on values that are 0, 1 or 2.
+-- The module of a number, at its position in the resolved file, on inputs of any numbers.
 pub evaluated :
     {ms : List Module}
     → Accepted ms
@@ -47,12 +48,11 @@ pub evaluated :
     → assoc number ms ≡ box m
     → (values : List ℕ)
     → length values ≡ length (m .inputs)
-    → All (λ v. v ≤ 2) values
-    → answers Value (resolve ms) (positionOf number ms) values ≡ map code (evaluate ms number (map value values))
+    → answers Value (resolve ms) (positionOf number ms) (map entered values) ≡ map code (evaluate ms number (map value values))
 unfolding evaluate
-evaluated {ms} accepted number m found values count small =
-    frames-mean 0 (jobMeaning Value) (λ kind xs h. refl) (accepted-fits accepted) number m found values count
-    ∙ ap (run 0 (jobMeaning Value) ms number) (sym (codes-of-values small))
+evaluated {ms} accepted number m found values count =
+    frames-mean 0 (jobMeaning Value) (λ kind xs h. refl) (accepted-fits accepted) number m found (map entered values) (length-map values entered ∙ count)
+    ∙ ap (run 0 (jobMeaning Value) ms number) (inputs-coded values)
     ∙ run-mapped code (known false) gates-coded ms number (map value values)
 
 -- What is promised of the buffer, said of the file.
@@ -63,9 +63,8 @@ pub evaluate-means :
     → assoc number ms ≡ box m
     → {given : ℕ} {values scratch out scratch′ out′ : List ℕ}
     → length values ≡ length (m .inputs)
-    → All (λ v. v ≤ 2) values
     → Evaluated (resolve ms) (positionOf number ms) given values scratch out scratch′ out′
     → let outputs = map code (evaluate ms number (map value values)) in
     out′ ≡ outputs ++ drop (length outputs) out
-evaluate-means accepted number m found {values = values} {out = out} count small e =
-    e .outputs ∙ ap (λ (l : List ℕ). l ++ drop (length l) out) (evaluated accepted number m found values count small)
+evaluate-means accepted number m found {values = values} {out = out} count e =
+    e .outputs ∙ ap (λ (l : List ℕ). l ++ drop (length l) out) (evaluated accepted number m found values count)

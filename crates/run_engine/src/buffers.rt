@@ -1,17 +1,26 @@
 // The front of a lent buffer: values loaded into scratch, and outputs given as bytes.
 ghost use mathlib.Core.Path.{_≡_};
-ghost use mathlib.Core.List.{_++_};
+ghost use mathlib.Core.List.{_++_, map};
 ghost use Prim.Native.Nat.{_≤_};
 ghost use lib.ListN.{length, drop};
 ghost use Rattle.image.specs.Slots.{valuesAt};
-ghost use Rattle.run_engine.specs.Slots.{Givable};
+ghost use Rattle.run_engine.specs.Slots.{Givable, entered};
+
+const UNKNOWN: u32 = 2;
+
+// What an input enters scratch as: only 0 and 1 are known, and one that floats is unknown from here on.
+fn entered(input: u8) -> u32
+    ensures { λ r. ⌜ r ≡ entered input ⌝ }
+{
+    if input < 2 { input as u32 } else { UNKNOWN }
+}
 
 pub fn load(values: &[u8], scratch: &mut [u32])
     requires { ⌜ length (now values) ≤ length (now scratch) ⌝ }
-    ensures { λ _. ⌜ now (scratch .exit) ≡ now (values .entry) ++ drop (length (now (values .entry))) (now (scratch .entry)) ⌝ }
+    ensures { λ _. ⌜ now (scratch .exit) ≡ map entered (now (values .entry)) ++ drop (length (now (values .entry))) (now (scratch .entry)) ⌝ }
 {
     for i in 0..values.len() {
-        scratch[i] = values[i] as u32;
+        scratch[i] = entered(values[i]);
     }
 }
 

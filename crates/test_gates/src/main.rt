@@ -1,4 +1,4 @@
-// Prints the value of each of the sixteen gates on all combinations of 0, 1 and 2: a line for each, the gates in order and their
+// Prints the value of each of the sixteen gates on all combinations of 0 to 3: a line for each, the gates in order and their
 // arguments counted up, the last one fastest. The values are those that a run of a module finds.
 use gates::Kind;
 use libc::STDOUT_FILENO;
@@ -25,30 +25,30 @@ fn main() {
     rows(15, b"B-NOR4", 4);
 }
 
-// The lines of a gate. A line's arguments are the last digits of its place, written in base three.
+// The lines of a gate. A line's arguments are the last digits of its place, written in base four.
 fn rows(number: u16, name: &[u8], arity: usize)
     requires { ⌜ arity ≤ 4 ⌝ }
 {
     let from = 4 - arity;
     for k in 0..combinations(arity) {
-        let digits = [digit(k / 27), digit(k / 9), digit(k / 3), digit(k)];
+        let digits = [digit(k / 64), digit(k / 16), digit(k / 4), digit(k)];
         row(number, name, &digits[from..]);
     }
 }
 
 fn combinations(arity: usize) -> usize
-    ensures { λ r. ⌜ r ≤ 81 ⌝ }
+    ensures { λ r. ⌜ r ≤ 256 ⌝ }
 {
     match arity {
-        1 => 3,
-        2 => 9,
-        3 => 27,
-        _ => 81,
+        1 => 4,
+        2 => 16,
+        3 => 64,
+        _ => 256,
     }
 }
 
 fn digit(k: usize) -> u32 {
-    (k % 3) as u32
+    (k % 4) as u32
 }
 
 fn row(number: u16, name: &[u8], args: &[u32])

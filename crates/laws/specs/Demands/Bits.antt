@@ -30,7 +30,7 @@ pub codes-of-known : (bs : List Bool) → map code (map known bs) ≡ map bit bs
 codes-of-known [] = refl
 codes-of-known (b ∷ bs) = ap₂ {C = List ℕ} _∷_ (code-of-known b) (codes-of-known bs)
 
--- No bit is above 2.
+-- No bit is above 3.
 pub bits-small : (bs : List Bool) → firstAbove (map bit bs) ≡ length (map bit bs)
 unfolding firstAbove
 bits-small [] = refl

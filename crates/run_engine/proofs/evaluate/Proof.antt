@@ -9,6 +9,7 @@ use lib.ListN.{length, drop}
 use Rattle.meaning.specs.Ceilings.{Bytes}
 use Rattle.run_walk.specs.declared.gate.Job.the-variants.{Value}
 use Rattle.image.specs.Scenes.{in-starts, module-stands, module-there}
+use Rattle.run_engine.proofs.Entering.{entries-bytes}
 use Rattle.run_engine.proofs.Answers as answers
 use Rattle.run_engine.proofs.evaluate.Statement.{statement}
 use Rattle.run_engine.proofs.evaluate.Tie as tie
@@ -66,8 +67,7 @@ give-requires c κs =
       readable = answers.outputs-readable call fed Value run header (ran .run-module .kept .1 .1 .1 .1 .1 .0);
       bytes =
           subst Bytes (sym (answers.outputs-read call fed Value run header))
-          (answers.answers-bytes (call .rs) (a .k)
-          (answers.all-bytes (a .values .now) (λ i. omega (arith, placed .before .before .before .before .shared-slice-known4 .given i))));
+          (answers.answers-bytes (call .rs) (a .k) (entries-bytes (a .values .now)));
       room = omega (arith, answers.outputs-counted call fed Value run header, e .fits);
     }
 

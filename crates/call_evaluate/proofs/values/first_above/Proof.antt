@@ -7,6 +7,7 @@ use native.Mathlib.Numerals.{add-one}
 use lib.ListN.{length, getD, drop, drop-of-length-le}
 use lib.Seq.{drop-cons}
 use borrow.Author.Tests.{le-leb, lt-leb}
+use Rattle.meaning.specs.Values.{floating}
 use Rattle.meaning.specs.Calls.{firstAbove}
 use Rattle.call_evaluate.proofs.values.first_above.Statement.{statement}
 use Rattle.call_evaluate.proofs.values.first_above.Tie as tie
@@ -18,13 +19,13 @@ abbrev μ-loop : tie.MeasureT-loop
 μ-loop values i₀ i = length values - i
 
 module _ (values : List ℕ) (i : ℕ) (inside : i < length values) where
-  above : 2 < getD values i 0 → firstAbove (drop i values) ≡ 0
+  above : floating < getD values i 0 → firstAbove (drop i values) ≡ 0
   unfolding firstAbove
-  above h = rw (drop-cons values i 0 inside, lt-leb (getD values i 0) 2 h)
+  above h = rw (drop-cons values i 0 inside, lt-leb (getD values i 0) floating h)
 
-  below : getD values i 0 ≤ 2 → firstAbove (drop i values) ≡ suc (firstAbove (drop (i + 1) values))
+  below : getD values i 0 ≤ floating → firstAbove (drop i values) ≡ suc (firstAbove (drop (i + 1) values))
   unfolding firstAbove
-  below h = rw (add-one i, drop-cons values i 0 inside, le-leb (getD values i 0) 2 h)
+  below h = rw (add-one i, drop-cons values i 0 inside, le-leb (getD values i 0) floating h)
 
 none : (values : List ℕ) (i : ℕ) → length values ≤ i → firstAbove (drop i values) ≡ 0
 unfolding firstAbove
