@@ -474,14 +474,15 @@ uint16_t TUNED(evaluate)(const uint8_t *file, size_t file_len, uint16_t number, 
 
 /* ---- counts */
 
-static uint32_t tallies[MODULES][GATES], input_loads[MODULES][LIST], loads[NETS];
+static uint32_t tallies[MODULES][GATES], loads[NETS];
+static uint32_t input_loads[MODULES][LIST], output_loads[MODULES][LIST];
 
-/* Tally and loads of a module, those of later modules being there. */
+/* Tally and loads of a module, those of later modules being there. What an occurrence drives are the next slots. */
 static void count_module(uint32_t k)
 {
     struct module *m = &modules[k];
     const uint16_t *at = image + m->image;
-    uint32_t *tally = tallies[k], most = 0;
+    uint32_t *tally = tallies[k], *driven = loads + m->ins, most = 0;
 
     memset(tally, 0, sizeof tallies[k]);
     memset(loads, 0, m->nets * sizeof *loads);
@@ -492,6 +493,7 @@ static void count_module(uint32_t k)
             tally[refers]++;
             for (uint32_t j = 0; j < arity[refers]; j++)
                 loads[*at++]++;
+            driven++;
         } else {
             uint32_t inner = refers - GATES;
 
@@ -499,6 +501,8 @@ static void count_module(uint32_t k)
                 tally[j] += tallies[inner][j];
             for (uint32_t j = 0; j < modules[inner].ins; j++)
                 loads[*at++] += input_loads[inner][j];
+            for (uint32_t j = 0; j < modules[inner].outs; j++)
+                *driven++ = output_loads[inner][j];
             if (modules[inner].load > most)
                 most = modules[inner].load;
         }
@@ -507,6 +511,8 @@ static void count_module(uint32_t k)
         if (loads[i] > most)
             most = loads[i];
     memcpy(input_loads[k], loads, m->ins * sizeof *loads);
+    for (uint32_t i = 0; i < m->outs; i++)
+        output_loads[k][i] = loads[output_slots[k][i]];
     m->load = most;
 }
 

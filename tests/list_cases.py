@@ -9,10 +9,16 @@ import functools
 
 import reference
 from check_cases import INVERTER, NOT, PLAIN, chain, exact, twice_the_next
-from reference import Refused, adder, count, encode
+from reference import Refused, adder, count, encode, flatten
 from stored import store
 
 SCRATCH = 16384
+
+# P has input A and drives O1 by B-NOT of A and O2 by B-NOT of O1; Q drives Y and Z by P, then W by B-NOT of Y
+P = (21, [0], [1, 2], [([1], NOT, [0]), ([2], NOT, [1])])
+DRIVEN = [(20, [0], [2, 3], [([1, 2], 21, [0]), ([3], NOT, [1])]), P]
+DEEP = [(30, [0], [2, 5, 6], [([1, 2], 31, [0]), ([3, 4], 31, [2]), ([5], NOT, [2]), ([6], NOT, [2])]),
+        (31, [0], [2, 1], [([1, 2], 21, [0]), ([3], NOT, [1])]), P]
 
 # a listing asks of one file again and again
 check = reference.check = functools.lru_cache(maxsize=1)(reference.check)
@@ -99,6 +105,10 @@ def cases():
         [(20, [0, 1], [2, 3], [([2], 22, [0, 1]), ([3], 22, [2, 0])]),
          (22, [0, 1], [3], [([2], 23, [0]), ([3], 10, [2, 1])]),
          (23, [0], [3], [([1], NOT, [0]), ([2], NOT, [0]), ([3], 10, [1, 2])])])
+    yield 'load of a driven net inside the module that drives it', encode(DRIVEN)
+    yield 'the same flattened', flatten(encode(DRIVEN), 20, SCRATCH, 99)
+    yield 'load of a driven net three levels down, its outputs crossed', encode(DEEP)
+    yield 'the same flattened', flatten(encode(DEEP), 30, SCRATCH, 99)
     # refusals
     yield '2 the file ends where a byte is due', adder(1)[:-1]
     yield '3 second byte 0', b'\x80\0'

@@ -238,16 +238,16 @@ def loads(modules, k):
     largest = 0
     for drives, refers, takes in occurrences:
         if refers < 16:
-            inside = [1] * len(takes)
+            inside, driven = [1] * len(takes), [0]
         else:
             j = referred(modules, k, refers)
             below, deepest = loads(modules, j)
-            inside = [below[net] for net in modules[j][1]]
+            inside, driven = [below[net] for net in modules[j][1]], [below[net] for net in modules[j][2]]
             largest = max(largest, deepest)
         for net, extra in zip(takes, inside):
             load[net] += extra
-        for net in drives:
-            load[net] = 0
+        for net, extra in zip(drives, driven):
+            load[net] = extra
     return load, max([largest] + list(load.values()))
 
 

@@ -20,6 +20,9 @@ static const char *const call_names[CALLS] = {"check", "modules", "number_at", "
                                               "count", "flatten", "adder",     "counter"};
 static long met[CALLS][REFUSALS];
 
+/* Flattened files that were counted, and counts of such of several levels, one by each reading. */
+static long flattened, flattened_deep;
+
 /* What is lent to the library (`ours`) and to the plain reading (`plain`). */
 static struct lender file_lender, values_lender, our_scratch, plain_scratch, our_out, plain_out;
 
@@ -235,6 +238,45 @@ static void compare_flatten(uint16_t number, size_t scratch_len, size_t out_len)
     end_call_with_buffers();
 }
 
+/* Gates, delay and largest load of a module. */
+struct kept {
+    uint32_t gates, size, delay, load;
+};
+
+typedef uint16_t count_call(const uint8_t *, size_t, uint16_t, uint32_t *, size_t, uint32_t *, uint32_t *, size_t *);
+
+static struct kept kept_of(count_call *count, const uint8_t *bytes, size_t length, uint16_t number)
+{
+    static uint32_t scratch[SCRATCH_MOST];
+    uint32_t figures[7], tally[16];
+    size_t place;
+
+    if (count(bytes, length, number, scratch, SCRATCH_MOST, figures, tally, &place) != 0)
+        report("a file that flattening answers, or its flattened file, has no figures");
+    return (struct kept){figures[2], figures[3], figures[5], figures[6]};
+}
+
+/* A file that was just flattened, whose bytes stand in `out`, has the figures of its module that flattening keeps. */
+static void flattened_alike(count_call *count, const uint8_t *bytes, const struct lender *out, uint16_t number)
+{
+    struct kept whole = kept_of(count, bytes, file_len, number);
+    struct kept flat = kept_of(count, out->end - given.out_len, ours.result, number);
+
+    if (flat.gates != whole.gates || flat.delay != whole.delay || flat.load != whole.load)
+        report("the figures of the flattened file differ");
+    if (whole.size != whole.gates)
+        flattened_deep++;
+}
+
+static void compare_flattened(uint16_t number)
+{
+    if (ours.number != 0)
+        return;
+    flattened_alike(shelf_count, lent_file, &our_out, number);
+    flattened_alike(plain_count, file, &plain_out, number);
+    flattened++;
+}
+
 /* ---- what to pass */
 
 /* The right length, one less, none, or more. */
@@ -317,6 +359,7 @@ static void compare_module_calls(size_t modules)
     compare_evaluate(number, values_len, near(right.room), near(right.outputs));
     compare_count(number, near(right.room));
     compare_flatten(number, near(right.room), near(right.flat));
+    compare_flattened(number);
 }
 
 void compare_file(const uint8_t *bytes, size_t length)
@@ -436,5 +479,7 @@ int compare_summary(void)
         printf("\n");
     }
     printf("runs answered on a 3: %ld, refused for a 4: %ld\n", met_three, met_four);
-    return complete && met_three > 0 && met_four > 0;
+    printf("flattened files with the gates, delay and load of their module: %ld, of several levels %ld\n", flattened,
+           flattened_deep / 2);
+    return complete && met_three > 0 && met_four > 0 && flattened_deep > 0;
 }

@@ -49,6 +49,8 @@ static void add_module(struct figures *own, const struct occurrence *occurrence,
     own->load = larger(own->load, of_inner->load);
     for (int i = 0; i < occurrence->takes.count; i++)
         load[occurrence->takes.net[i]] += inner_load[inner->inputs.net[i]];
+    for (int i = 0; i < occurrence->drives.count; i++)
+        load[occurrence->drives.net[i]] += inner_load[inner->outputs.net[i]];
 }
 
 static void module_figures(const struct file *file, int position, struct figures *all)

@@ -4,7 +4,8 @@ use mathlib.Core.Path.{_≡_, sym, subst}
 use mathlib.Core.List.{List}
 use native.Mathlib.Omega.{arith}
 use lib.ListN.{length}
-use Rattle.meaning.specs.Figures.{room, delay, largestLoad}
+use Rattle.meaning.specs.Figures.{room, delay}
+use Rattle.meaning.specs.Loads.{largestLoad}
 use Rattle.image.specs.Resolved.{referTo, resolveModule, resolve}
 use Rattle.image.specs.ResolvedFigures.{room-resolved}
 use Rattle.run_engine.specs.Calls.{Callable, Timed}

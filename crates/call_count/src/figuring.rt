@@ -11,7 +11,7 @@ ghost use Rattle.call_count.specs.Answers.{Counts};
 ghost use Rattle.call_count.specs.Figuring.{Figured};
 
 // Two walks work in scratch, one after the other: one for the delay, one for tally and load
-// together. The loads of inputs are kept in a list of their own.
+// together. The loads of inputs and outputs are kept in a list of their own.
 fn figures_at(
     image: &[u16],
     starts: &[usize],

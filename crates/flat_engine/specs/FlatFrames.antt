@@ -11,10 +11,11 @@ use Rattle.meaning.specs.Flattening.{Board, Placed, Placing, placeReferred, pla
 use Rattle.meaning.specs.Adder.{upFrom}
 use Rattle.laws.specs.Adder.Nets.{length-upFrom}
 use Rattle.image.specs.Resolved.{netsOf}
+use Rattle.image.specs.Entries.{run-at}
 use Rattle.image.specs.Frames.{readSlots, Filled, FrameOk}
 use Rattle.flat_engine.specs.Placing.{walkPlaced, placeFrame, placeFrames}
 use Rattle.flat_engine.specs.Growing.{Grows, board-grows}
-use Rattle.flat_engine.specs.Runs.{run-at, take-run, read-run}
+use Rattle.flat_engine.specs.Runs.{take-run, read-run}
 use Rattle.flat_engine.specs.AtPosition.{AtPosition}
 
 -- A walk keeps what stood at the front of the frame.

@@ -1,18 +1,12 @@
--- Numbers in a row, as nets and as slots: what stands at each place, and what a frame has at such slots.
-use Prim.Native.Nat.{ℕ, zero, suc, _+_, _≤_, _<_}
-use mathlib.Core.Path.{_≡_, refl, ap₂, _∙_}
+-- Numbers in a row, as nets and as slots: the first of them, and what a frame has at such slots.
+use Prim.Native.Nat.{ℕ, zero, suc, _+_, _≤_}
+use mathlib.Core.Path.{_≡_, refl, ap₂}
 use mathlib.Core.List.{List, _∷_}
 use native.Mathlib.Omega.{arith}
-use lib.ListN.{length, getD, take, drop}
+use lib.ListN.{length, take, drop}
 use lib.Seq.{drop-cons}
 use Rattle.meaning.specs.Adder.{upFrom}
 use Rattle.image.specs.Frames.{readSlots}
-
-pub run-at : (first count i : ℕ) → i < count → getD (upFrom first count) i 0 ≡ first + i
-unfolding upFrom
-run-at first zero i h = absurd (omega arith)
-run-at first (suc n) zero h = omega arith
-run-at first (suc n) (suc i) h = run-at (suc first) n i (omega arith) ∙ omega arith
 
 pub take-run : (first n count : ℕ) → n ≤ count → take n (upFrom first count) ≡ upFrom first n
 unfolding upFrom

@@ -19,7 +19,13 @@ entry-more l at more i inside = go (eqb i at) refl
     go true e = rw (eqb-true i at e) (getD-set-same l at (getD l at 0 + more) 0 inside)
     go false e = getD-set-other l at i (getD l at 0 + more) 0 (eqb-false i at e) ∙ omega arith
 
--- What a function makes of the numbers from one on.
+-- The numbers from one on, and what a function makes of them.
+pub run-at : (first count i : ℕ) → i < count → getD (upFrom first count) i 0 ≡ first + i
+unfolding upFrom
+run-at first zero i h = absurd (omega arith)
+run-at first (suc n) zero h = omega arith
+run-at first (suc n) (suc i) h = run-at (suc first) n i (omega arith) ∙ omega arith
+
 pub mapped : (f : ℕ → ℕ) (first count i : ℕ) → i < count → getD (map f (upFrom first count)) i 0 ≡ f (first + i)
 unfolding upFrom
 mapped f first zero i less = absurd (omega arith)

@@ -33,7 +33,9 @@ pub record OccurrenceThere (image : List ℕ) (at : ℕ) : Type 0 where
 
 pub record PlaceOf (image : List ℕ) (at : ℕ) (o : Occurrence) (p : Place) : Type 0 where
   pub drives : p .drives ≡ length (o .drives)
+  pub driven : Stands image (at + 1) (o .drives)
   pub refers : p .refers ≡ o .refers
+  pub from : p .from ≡ at + 3 + length (o .drives)
   pub takes : Stands image (p .from) (o .takes)
   pub to : p .to ≡ p .from + length (o .takes)
   pub next : p .to ≡ at + length (occurrenceNumbers o)

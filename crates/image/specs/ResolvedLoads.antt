@@ -1,31 +1,27 @@
--- Resolution keeps loads: slots of two nets of a module differ where the nets do, so a slot stands as an argument wherever its net does.
+-- Resolution keeps loads: slots of two nets of a module differ where the nets do, so a slot stands as an argument wherever its net does,
+-- and is driven where its net is.
 use Prim.Native.Nat.{ℕ, suc, _+_, max}
 use mathlib.Core.Path.{_≡_, refl, sym, ap, ap₂, _∙_}
 use mathlib.Core.Bool.{Bool, true, false, cond, _||_, true≢false}
 use mathlib.Core.List.{List, [], _∷_, _++_, map, append-assoc}
 use borrow.Author.Tests.{eqb-true, eqb-false, eq-eqb, ne-eqb}
 use lib.Dec.{eqb}
-use lib.ListN.{length, getD, replicate, length-map}
+use lib.ListN.{getD, length-map}
 use Rattle.meaning.specs.Syntax.{Occurrence, Module}
-use Rattle.meaning.specs.Gates.{isGate}
 use Rattle.meaning.specs.Boxlist.{box, assoc, member, subset}
 use Rattle.meaning.specs.Limits.{driven}
-use Rattle.meaning.specs.Figures.{largest, placesLoad, netLoad, inputLoads, largestLoad}
-use Rattle.laws.specs.Tests.{is-true}
-use Rattle.laws.specs.Members.{subset-tells}
+use Rattle.meaning.specs.Figures.{largest}
+use Rattle.meaning.specs.Loads.{placesLoad, Loads, gateLoads, referredLoads, netLoad, loadsInside, largestLoad}
 use Rattle.nets.specs.Slots.{slotOf}
 use Rattle.nets.specs.Booleans.{and-left, and-right}
-use Rattle.nets.specs.Members.{subset-append-left}
+use Rattle.nets.specs.Members.{subset-append-left, subset-append-right, subset-self}
 use Rattle.image.specs.Resolved.{positionOf, netsOf, slotIn, resolveOccurrence, resolveModule, resolveFrom, resolve}
 use Rattle.image.specs.Fitting.{Fits}
 use Rattle.image.specs.Shapes.{nets-of-resolved}
-use Rattle.image.specs.Searching.{loadsOf, inputLoads-search, largestLoadOf, largestLoad-search}
+use Rattle.image.specs.Searching.{loadsOf, loadsInside-search, largestLoadOf, largestLoad-search}
 use Rattle.image.specs.Keeping.{Turn, kept-throughout, kept-in-file}
 use Rattle.image.specs.Ordered.{Ordered, done, step, ordered}
 use Rattle.image.specs.ResolvedFigures.{Equal, SameReferred, references-same, largestReferred-kept}
-
-subset-self : (xs : List ℕ) → subset xs xs ≡ true
-subset-self xs = is-true (subset-tells xs xs) (λ lacking. lacking .missing (lacking .listed))
 
 -- At a net's slot stands the net.
 slot-entry : (x : ℕ) (nets : List ℕ) → member x nets ≡ true → getD nets (slotOf x nets) 0 ≡ x
@@ -51,18 +47,18 @@ module _ (all : List ℕ) where
 
   placesLoad-kept :
       (x : ℕ) → member x all ≡ true
-      → (takes loads : List ℕ) → subset takes all ≡ true
-      → placesLoad (slotOf x all) (map (λ y. slotOf y all) takes) loads ≡ placesLoad x takes loads
+      → (places loads : List ℕ) → subset places all ≡ true
+      → placesLoad (slotOf x all) (map (λ y. slotOf y all) places) loads ≡ placesLoad x places loads
   unfolding placesLoad subset
   placesLoad-kept x among [] loads within = refl
-  placesLoad-kept x among (y ∷ takes) [] within = refl
-  placesLoad-kept x among (y ∷ takes) (load ∷ loads) within =
-      let here = and-left (member y all) (subset takes all) within in
+  placesLoad-kept x among (y ∷ places) [] within = refl
+  placesLoad-kept x among (y ∷ places) (load ∷ loads) within =
+      let here = and-left (member y all) (subset places all) within in
       ap₂ (λ (b : Bool) (n : ℕ). cond b load 0 + n) (slots-differ x y among here)
-      (placesLoad-kept x among takes loads (and-right (member y all) (subset takes all) within))
+      (placesLoad-kept x among places loads (and-right (member y all) (subset places all) within))
 
   netLoad-kept :
-      {refer : ℕ → ℕ} {later : List Module} {l l′ : ℕ → List ℕ}
+      {refer : ℕ → ℕ} {later : List Module} {l l′ : ℕ → Loads}
       → SameReferred refer later l l′
       → {nets : List ℕ} {os : List Occurrence}
       → all ≡ nets ++ driven os
@@ -74,19 +70,27 @@ module _ (all : List ℕ) where
   netLoad-kept references e done x among = refl
   netLoad-kept {refer} {later} {l} {l′} references {nets} e (step {o} {os} ok rest) x among =
       ap₂ _+_
-      (ap (placesLoad (slotOf x all) (map (λ y. slotOf y all) (o .takes))) loads ∙ placesLoad-kept x among (o .takes) _ known)
+      (ap₂ _+_
+      (ap (λ (ls : Loads). placesLoad (slotOf x all) (map (λ y. slotOf y all) (o .takes)) (ls .inputs)) loads
+      ∙ placesLoad-kept x among (o .takes) _ known)
+      (ap (λ (ls : Loads). placesLoad (slotOf x all) (map (λ y. slotOf y all) (o .drives)) (ls .outputs)) loads
+      ∙ placesLoad-kept x among (o .drives) _ own))
       (netLoad-kept references (e ∙ sym (append-assoc nets (o .drives) (driven os))) rest x among)
     where
       known : subset (o .takes) all ≡ true
       known = ap (subset (o .takes)) e ∙ subset-append-left (o .takes) nets (driven (o ∷ os)) (ok .bound)
 
-      loads :
-          cond (isGate (refer (o .refers))) (replicate (length (map (λ y. slotOf y all) (o .takes))) 1) (l′ (refer (o .refers)))
-          ≡ cond (isGate (o .refers)) (replicate (length (o .takes)) 1) (l (o .refers))
-      loads = rw length-map (references .same (λ kind. replicate (length (o .takes)) 1) o (ok .reference))
+      own : subset (o .drives) all ≡ true
+      own =
+          ap (subset (o .drives)) e
+          ∙ subset-append-right (o .drives) nets (driven (o ∷ os))
+          (subset-append-left (o .drives) (o .drives) (driven os) (subset-self (o .drives)))
+
+      loads : referredLoads l′ (resolveOccurrence (λ y. slotOf y all) refer o) ≡ referredLoads l o
+      loads = rw length-map (references .same (λ kind. gateLoads o) o (ok .reference))
 
   netLoads-kept :
-      {refer : ℕ → ℕ} {later : List Module} {l l′ : ℕ → List ℕ}
+      {refer : ℕ → ℕ} {later : List Module} {l l′ : ℕ → Loads}
       → SameReferred refer later l l′
       → {nets : List ℕ} {os : List Occurrence}
       → all ≡ nets ++ driven os
@@ -102,14 +106,22 @@ module _ (all : List ℕ) where
       (netLoad-kept references e body x (and-left (member x all) (subset xs all) within))
       (netLoads-kept references e body xs (and-right (member x all) (subset xs all) within))
 
-inputLoads-kept :
+loadsInside-kept :
     (refer : ℕ → ℕ) (position : ℕ) (m : Module) (later : List Module)
-    → Turn Equal inputLoads inputLoads refer position m later
+    → Turn Equal loadsInside loadsInside refer position m later
     → loadsOf (resolveModule refer position m) (resolveFrom refer (suc position) later) ≡ loadsOf m later
 unfolding resolveModule netsOf
-inputLoads-kept refer position m later turn =
-    netLoads-kept (netsOf m) (references-same (turn .refers) (turn .before)) refl (ordered (turn .ok)) (m .inputs)
-    (subset-append-left (m .inputs) (m .inputs) (driven (m .occurrences)) (subset-self (m .inputs)))
+loadsInside-kept refer position m later turn =
+    ap₂ (λ (ins outs : List ℕ). record { inputs = ins; outputs = outs })
+    (kept (m .inputs) (subset-append-left (m .inputs) (m .inputs) (driven (m .occurrences)) (subset-self (m .inputs))))
+    (kept (m .outputs) (subset-append-right (m .outputs) (m .inputs) (driven (m .occurrences)) (turn .ok .outputsDriven)))
+  where
+    kept :
+        (xs : List ℕ)
+        → subset xs (netsOf m) ≡ true
+        → map (netLoad (loadsInside (resolveFrom refer (suc position) later)) (resolveModule refer position m .occurrences)) (map (slotIn m) xs)
+        ≡ map (netLoad (loadsInside later) (m .occurrences)) xs
+    kept = netLoads-kept (netsOf m) (references-same (turn .refers) (turn .before)) refl (ordered (turn .ok))
 
 largestLoad-kept :
     (refer : ℕ → ℕ) (position : ℕ) (m : Module) (later : List Module)
@@ -117,12 +129,12 @@ largestLoad-kept :
     → largestLoadOf (resolveModule refer position m) (resolveFrom refer (suc position) later) ≡ largestLoadOf m later
 unfolding resolveModule netsOf
 largestLoad-kept refer position m later turn =
-    let inputs = kept-throughout Equal inputLoads-search inputLoads-search inputLoads-kept (turn .rest) (turn .refers) in
+    let inside = kept-throughout Equal loadsInside-search loadsInside-search loadsInside-kept (turn .rest) (turn .refers) in
     ap₂ max
     (ap largest
-    (ap (map (netLoad (inputLoads (resolveFrom refer (suc position) later)) (resolveModule refer position m .occurrences)))
+    (ap (map (netLoad (loadsInside (resolveFrom refer (suc position) later)) (resolveModule refer position m .occurrences)))
     (nets-of-resolved refer position m)
-    ∙ netLoads-kept (netsOf m) (references-same (turn .refers) inputs) refl (ordered (turn .ok)) (netsOf m) (subset-self (netsOf m))))
+    ∙ netLoads-kept (netsOf m) (references-same (turn .refers) inside) refl (ordered (turn .ok)) (netsOf m) (subset-self (netsOf m))))
     (largestReferred-kept (references-same (turn .refers) (turn .before)) (slotIn m) (turn .ok .body))
 
 module _ {ms : List Module} (fits : Fits ms) (number : ℕ) (m : Module) (found : assoc number ms ≡ box m) where

@@ -9,9 +9,10 @@ use Rattle.meaning.specs.Syntax.{Module}
 use Rattle.meaning.specs.Boxlist.{box, assoc}
 use Rattle.meaning.specs.Limits.{netCount, bodySize, expandedSize}
 use Rattle.meaning.specs.Evaluation.{Meaning, runModule, run}
-use Rattle.meaning.specs.Figures.{largest, bodyWeight, gateWeight, largestReferred, room, netLoad, inputLoads, largestLoad}
+use Rattle.meaning.specs.Figures.{largest, bodyWeight, gateWeight, largestReferred, room}
+use Rattle.meaning.specs.Loads.{Loads, netLoad, moduleLoads, loadsInside, largestLoad}
 use Rattle.laws.specs.Suffix.{Searches, assoc-searches, run-searches, expandedSize-searches, gateWeight-searches, room-searches}
-use Rattle.laws.specs.Suffix.{inputLoads-searches, largestLoad-searches}
+use Rattle.laws.specs.Loads.Suffix.{loadsInside-searches, largestLoad-searches}
 use Rattle.image.specs.Resolved.{netsOf}
 use Rattle.image.specs.Frames.{runFrame, runFrames}
 
@@ -51,17 +52,17 @@ pub room-search : Search room (λ m later. netCount m + largestReferred (room la
 unfolding room
 room-search = record { here = λ m later number h. rw h; past = room-searches }
 
--- The loads of a module's inputs, and its largest load, in front of the later modules.
-abbrev pub loadsOf : Module → List Module → List ℕ
-loadsOf m later = map (netLoad (inputLoads later) (m .occurrences)) (m .inputs)
+-- The loads of a module's inputs and outputs, and its largest load, in front of the later modules.
+abbrev pub loadsOf : Module → List Module → Loads
+loadsOf m later = moduleLoads (loadsInside later) m
 
-pub inputLoads-search : Search inputLoads loadsOf
-unfolding inputLoads
-inputLoads-search = record { here = λ m later number h. rw h; past = inputLoads-searches }
+pub loadsInside-search : Search loadsInside loadsOf
+unfolding loadsInside
+loadsInside-search = record { here = λ m later number h. rw h; past = loadsInside-searches }
 
 abbrev pub largestLoadOf : Module → List Module → ℕ
 largestLoadOf m later =
-    max (largest (map (netLoad (inputLoads later) (m .occurrences)) (netsOf m)))
+    max (largest (map (netLoad (loadsInside later) (m .occurrences)) (netsOf m)))
     (largestReferred (largestLoad later) (m .occurrences))
 
 pub largestLoad-search : Search largestLoad largestLoadOf

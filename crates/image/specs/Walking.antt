@@ -3,18 +3,22 @@
 use Prim.Native.Nat.{ℕ, _+_, _-_, _≤_, _<_}
 use mathlib.Core.Path.{_≡_, refl, sym, ap, subst, _∙_}
 use mathlib.Core.Bool.{true, false, cond, true≢false}
-use mathlib.Core.List.{List, _∷_}
+use mathlib.Core.List.{List, _∷_, _++_}
 use native.Mathlib.Omega.{arith}
-use lib.ListN.{length, getD, take, length-append}
+use lib.ListN.{length, getD, take, length-append, List·getD-append}
+use lib.Seq.{getD-append-add}
 use Rattle.meaning.specs.Syntax.{Occurrence, Module}
 use Rattle.meaning.specs.Gates.{isGate, gate}
 use Rattle.meaning.specs.Layout.{each, occurrenceNumbers}
 use Rattle.meaning.specs.Limits.{driven, netCount}
 use Rattle.meaning.specs.Figures.{largestReferred, room}
 use Rattle.laws.specs.WellFormed.{Reference, toGate, toModule}
+use Rattle.laws.specs.Adder.Nets.{length-upFrom}
 use Rattle.image.specs.Stands.{Stands, stands-front, stands-skip}
 use Rattle.image.specs.Pieces.{moved}
-use Rattle.image.specs.Frames.{readSlots, Filled, Framed, done, step}
+use Rattle.image.specs.Resolved.{netsOf}
+use Rattle.image.specs.Entries.{run-at}
+use Rattle.image.specs.Frames.{readSlots, Filled, Framed, done, step, FrameOk}
 use Rattle.image.specs.Searching.{Search, room-search}
 use Rattle.image.specs.Places.{HeaderOf, OccurrenceThere, PlaceOf}
 use Rattle.image.specs.Scenes.{Scene, frame-is, frame-ok, says-here, Beyond, beyond, says-beyond}
@@ -33,13 +37,36 @@ pub record Ahead (image : List ℕ) (m : Module) (later : List Module) (at left 
   pub framed : Framed later filled rest
   pub fits : filled + length (driven rest) ≡ netCount m
   pub calls : largestReferred (room later) rest ≤ largestReferred (room later) (m .occurrences)
+  pub nets : Filled (netCount m) (driven rest)
+
+-- A list of slots in front of another, and the other.
+filled-front : {size : ℕ} (xs ys : List ℕ) → Filled size (xs ++ ys) → Filled size xs
+filled-front xs ys f =
+    record {
+      slot = λ i h. omega (arith, List·getD-append xs ys 0 i h, f .slot i (omega (arith, length-append xs ys)));
+    }
+
+filled-behind : {size : ℕ} (xs ys : List ℕ) → Filled size (xs ++ ys) → Filled size ys
+filled-behind xs ys f =
+    record {
+      slot = λ i h. omega (arith, getD-append-add xs ys i 0, f .slot (length xs + i) (omega (arith, length-append xs ys)));
+    }
+
+-- All nets of a module have slots.
+all-filled : {position : ℕ} {m : Module} {later : List Module} → FrameOk position m later → Filled (netCount m) (netsOf m)
+all-filled {m = m} ok =
+    record {
+      slot = λ i h.
+          let inside : i < netCount m = omega (arith, ap length (ok .slots), length-upFrom 0 (netCount m)) in
+          omega (arith, ap (λ (xs : List ℕ). getD xs i 0) (ok .slots), run-at 0 (netCount m) i inside);
+    }
 
 -- At first all of them.
 pub all-ahead :
     {image starts nets : List ℕ} {rs : List Module} {k : ℕ} (s : Scene image starts nets rs k) {h : Header}
     → HeaderOf image (getD starts k 0) (s .m) h
     → Ahead image (s .m) (s .later) (h .to + 1) (h .count) (h .inputs) (s .m .occurrences)
-unfolding netCount
+unfolding netCount netsOf
 all-ahead s {h} header =
     record {
       stands = header .body;
@@ -47,6 +74,7 @@ all-ahead s {h} header =
       framed = subst (λ (n : ℕ). Framed (s .later) n (s .m .occurrences)) (sym (header .inputs)) (frame-ok s .framed);
       fits = omega (arith, header .inputs);
       calls = omega arith;
+      nets = filled-behind (s .m .inputs) (driven (s .m .occurrences)) (all-filled (frame-ok s));
     }
 
 -- The one whose turn it is, as it was read.
@@ -57,6 +85,7 @@ pub record Turn
   pub is : rest ≡ o ∷ os
   pub read : PlaceOf image at o place
   pub slots : Filled filled (o .takes)
+  pub nets : Filled (netCount m) (o .drives)
   pub reference : Reference later o
   pub fits : filled + place .drives ≤ netCount m
   pub call : cond (isGate (o .refers)) 0 (room later (o .refers)) ≤ largestReferred (room later) (m .occurrences)
@@ -80,14 +109,15 @@ module _ {image : List ℕ} {m : Module} {later : List Module} {at left filled :
       → ((o : Occurrence) → Stands image at (occurrenceNumbers o) → PlaceOf image at o place)
       → Turn image m later at left filled rest place
   unfolding each driven largestReferred
-  turn {place = place} ahead read = go (ahead .framed) (ahead .fits) (ahead .many) (ahead .calls) (ahead .stands)
+  turn {place = place} ahead read = go (ahead .framed) (ahead .fits) (ahead .many) (ahead .calls) (ahead .nets) (ahead .stands)
     where
       go :
           {filled : ℕ} {rest : List Occurrence} → Framed later filled rest → filled + length (driven rest) ≡ netCount m
           → left ≡ length rest → largestReferred (room later) rest ≤ largestReferred (room later) (m .occurrences)
-          → Stands image at (each occurrenceNumbers rest) → Turn image m later at left filled rest place
-      go done fits many calls stands = absurd (omega arith)
-      go (step {filled} {o} {os} slots reference others) fits many calls stands =
+          → Filled (netCount m) (driven rest) → Stands image at (each occurrenceNumbers rest)
+          → Turn image m later at left filled rest place
+      go done fits many calls slots stands = absurd (omega arith)
+      go (step {filled} {o} {os} slots reference others) fits many calls given stands =
           let there = read o (stands-front (each occurrenceNumbers os) stands) in
           let nets = length-append (o .drives) (driven os) in
           record {
@@ -96,6 +126,7 @@ module _ {image : List ℕ} {m : Module} {later : List Module} {at left filled :
             is = refl;
             read = there;
             slots = slots;
+            nets = filled-front (o .drives) (driven os) given;
             reference = reference;
             fits = omega (arith, there .drives);
             call = omega arith;
@@ -106,6 +137,7 @@ module _ {image : List ℕ} {m : Module} {later : List Module} {at left filled :
                   framed = subst (λ (n : ℕ). Framed later (filled + n) os) (sym (there .drives)) others;
                   fits = omega (arith, there .drives);
                   calls = omega arith;
+                  nets = filled-behind (o .drives) (driven os) given;
                 };
           }
 
@@ -116,6 +148,12 @@ module _
     -- Its arguments can be read, and they are read from the frame so far.
     pub readable : (size : ℕ) → filled ≤ size → Readable image (place .from) (place .to) 0 size
     readable size within = readable-stands (place .from) (t .read .takes) (t .read .to) 0 size (t .slots) (omega arith)
+
+    -- The nets that it drives have slots too.
+    pub driven-readable :
+        (size : ℕ) {from to : ℕ} → from ≡ at + 1 → to ≡ from + place .drives → netCount m ≤ size → Readable image from to 0 size
+    driven-readable size {from} begin end within =
+        readable-stands from (moved (at + 1) begin (t .read .driven)) (omega (arith, t .read .drives)) 0 size (t .nets) (omega arith)
 
     pub arguments :
         {A : Type 0} (none : A) (scratch : List A)

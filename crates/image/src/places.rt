@@ -29,8 +29,8 @@ pub fn module_at(image: &[u16], at: usize) -> Header
     }
 }
 
-// Of an occurrence: how many nets it drives, the number that it refers to, and the places of its arguments. The next occurrence
-// stands at `to`.
+// Of an occurrence: how many nets it drives, the number that it refers to, and the places of its arguments. The nets that it drives end
+// two places before `from`, and the next occurrence stands at `to`.
 pub struct Place {
     pub drives: usize,
     pub refers: u16,

@@ -9,7 +9,6 @@ pub mod Early
 -- Its figures.
 pub mod Figures
 pub mod Delay
-pub mod Load
 -- Its file: the numbers and bytes of it, that they can be written and read, and that the check accepts it.
 pub mod Numbers
 pub mod Bytes

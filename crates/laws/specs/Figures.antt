@@ -3,7 +3,6 @@
 -- Sums over the gates reached: the sum of the tally is the gate count.
 pub mod Weights
 pub mod Tally
--- What delay and load are at most.
+-- What delay is at most, and what number types need.
 pub mod Delay
-pub mod Load
 pub mod Bounds

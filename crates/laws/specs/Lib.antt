@@ -43,6 +43,7 @@ pub mod Adder
 pub mod Flatten
 pub mod NoneMissing
 pub mod Figures
+pub mod Loads
 pub mod Counter
 pub mod Demands
 pub mod Floating

@@ -12,7 +12,7 @@ use Rattle.laws.specs.Members.{twice-none, duplicates-tells, disjoint-te
 use Rattle.laws.specs.WellFormed.{Body, done, step, ModuleOk}
 
 -- Two lists without repetition and with no net in common are without repetition one after the other.
-twice-append : (xs ys : List ℕ) → ¬ (Twice xs) → ¬ (Twice ys) → ¬ (Common xs ys) → ¬ (Twice (xs ++ ys))
+pub twice-append : (xs ys : List ℕ) → ¬ (Twice xs) → ¬ (Twice ys) → ¬ (Common xs ys) → ¬ (Twice (xs ++ ys))
 twice-append [] ys first second apart t = second t
 twice-append (x ∷ xs) ys first second apart (again i) = at (in-either xs i)
   where

@@ -17,7 +17,8 @@ use Rattle.laws.specs.Accepted.{good-accepted}
 use Rattle.laws.specs.References.{another-number}
 use Rattle.laws.specs.Suffix.{Searches, past-front, assoc-searches}
 use Rattle.laws.specs.Suffix.{evaluate-searches, expandedSize-searches, gateCount-searches, tally-searches, room-searches}
-use Rattle.laws.specs.Suffix.{delay-searches, largestLoad-searches, flatModule-searches}
+use Rattle.laws.specs.Suffix.{delay-searches, flatModule-searches}
+use Rattle.laws.specs.Loads.Suffix.{largestLoad-searches}
 
 -- An accepted file that ends with a module and those behind it.
 pub record EndsWith (file : List ℕ) (m : Module) (behind : List Module) : Type 0 where

@@ -11,7 +11,7 @@ use Rattle.meaning.specs.Boxlist.{box, F, assoc}
 use Rattle.meaning.specs.Limits.{expandedSize}
 use Rattle.meaning.specs.Values.{known}
 use Rattle.meaning.specs.Evaluation.{Meaning, run, gateOutputs, evaluate}
-use Rattle.meaning.specs.Figures.{gateWeight, gateCount, kindCount, tally, room, inputLoads, largestLoad}
+use Rattle.meaning.specs.Figures.{gateWeight, gateCount, kindCount, tally, room}
 use Rattle.meaning.specs.Figures.{gateArrival, arrivals, delayBy, delay}
 use Rattle.meaning.specs.Flattening.{place, flatModule}
 
@@ -119,14 +119,6 @@ delayBy-searches delay =
 pub delay-searches : Searches delay
 unfolding delay
 delay-searches = delayBy-searches (λ kind. 1)
-
-pub inputLoads-searches : Searches inputLoads
-unfolding inputLoads
-inputLoads-searches = record { passes = λ m ms number h. rw h }
-
-pub largestLoad-searches : Searches largestLoad
-unfolding largestLoad
-largestLoad-searches = record { passes = λ m ms number h. rw h }
 
 pub place-searches : Searches place
 unfolding place

@@ -2,5 +2,7 @@
 pub mod KnownRows
 pub mod Loading
 pub mod LoadSteps
-pub mod LoadTurns
+pub mod GateLoads
+pub mod ModuleLoads
 pub mod KeptLoads
+pub mod MoreLoads

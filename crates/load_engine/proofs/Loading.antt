@@ -1,18 +1,21 @@
 -- How far working out the loads of a module's nets has come: what the frame holds and what the occurrences ahead add are the loads. So
 -- no sum on the way is above the largest load.
 use Prim.Native.Nat.{ℕ, zero, suc, _+_, _*_, _≤_, _<_, max}
-use mathlib.Core.Path.{_≡_, refl, sym, ap, _∙_}
+use mathlib.Core.Path.{_≡_, refl, sym, ap, ap₂, _∙_}
 use mathlib.Core.List.{List, [], _∷_, _++_, map, map-append}
 use native.Mathlib.Omega.{arith}
 use lib.ListN.{length, getD, take, drop, replicate, length-replicate, length-map, getD-replicate, List·getD-append}
 use lib.Seq.{ext-getD, getD-take, length-take-le, take-take, take-at, drop-at}
 use Rattle.meaning.specs.Syntax.{Occurrence, Module}
 use Rattle.meaning.specs.Limits.{driven, netCount, mostSize}
-use Rattle.meaning.specs.Figures.{largest, largestReferred, room, netLoad, inputLoads, largestLoad}
+use Rattle.meaning.specs.Figures.{largest, largestReferred, room}
+use Rattle.meaning.specs.Loads.{Loads, netLoad, loadsInside, largestLoad}
 use Rattle.image.specs.Resolved.{netsOf}
 use Rattle.image.specs.Shapes.{length-of-nets}
-use Rattle.image.specs.Searching.{room-search, inputLoads-search, largestLoad-search}
+use Rattle.image.specs.Searching.{room-search, loadsInside-search, largestLoad-search}
 use Rattle.image.specs.Entries.{mapped, same-further}
+use Rattle.image.specs.Frames.{readSlots, Filled}
+use Rattle.image.specs.Reading.{read-front}
 use Rattle.image.specs.Places.{HeaderOf}
 use Rattle.image.specs.Scenes.{Scene, frame-is, frame-ok, says-here}
 use Rattle.image.specs.Walking.{needed, Ahead, all-ahead}
@@ -28,7 +31,7 @@ within-largest (x ∷ l) (suc i) = omega (arith, within-largest l i)
 
 -- The load of a net by the occurrences of a list.
 abbrev pub loadBy : List Module → List Occurrence → (net : ℕ) → ℕ
-loadBy later os net = netLoad (inputLoads later) os net
+loadBy later os net = netLoad (loadsInside later) os net
 
 pub record Loading
     {image starts nets : List ℕ} {k entries : ℕ} (s : Loadable image starts nets k entries)
@@ -51,7 +54,7 @@ pub record Loading
 pub record FrameLoaded
     (rs : List Module) (m : Module) (later : List Module) (k most : ℕ) (scratch scratch′ : List ℕ) : Type 0 where
   pub largest : most ≡ largestLoad rs (16 + k)
-  pub loads : take (netCount m) scratch′ ≡ map (netLoad (inputLoads later) (m .occurrences)) (netsOf m)
+  pub loads : take (netCount m) scratch′ ≡ map (netLoad (loadsInside later) (m .occurrences)) (netsOf m)
   pub behind : drop (room rs (16 + k)) scratch′ ≡ drop (room rs (16 + k)) scratch
 
 -- The same module in other entries that are enough.
@@ -60,6 +63,16 @@ abbrev pub moved :
     → room (s .rs) (16 + k) ≤ entries′
     → Loadable image starts nets k entries′
 moved s enough = record { rs = s .rs; scene = s .scene; ordered = s .ordered; room = enough; loads = s .loads }
+
+-- The loads of a module's nets, by slot.
+load-at :
+    {image starts nets : List ℕ} {rs : List Module} {k : ℕ} (s : Scene image starts nets rs k) (net : ℕ)
+    → net < netCount (s .m)
+    → getD (map (loadBy (s .later) (s .m .occurrences)) (netsOf (s .m))) net 0 ≡ loadBy (s .later) (s .m .occurrences) net
+load-at s net less =
+    let load = loadBy (s .later) (s .m .occurrences) in
+    let same : 0 + net ≡ net = omega arith in
+    ap (λ (l : List ℕ). getD (map load l) net 0) (frame-ok s .slots) ∙ mapped load 0 (netCount (s .m)) net less ∙ ap load same
 
 module _ {image starts nets : List ℕ} {k entries : ℕ} (s : Loadable image starts nets k entries) where
   -- The module's room: its frame, and behind it that of the modules referred to.
@@ -102,23 +115,12 @@ module _ {image starts nets : List ℕ} {k entries : ℕ} (s : Loadable image st
           behind = refl;
         }
 
-  -- The loads of the module's nets, by slot.
-  load-at :
-      (net : ℕ)
-      → net < netCount (s .scene .m)
-      → getD (map (loadBy (s .scene .later) (s .scene .m .occurrences)) (netsOf (s .scene .m))) net 0
-      ≡ loadBy (s .scene .later) (s .scene .m .occurrences) net
-  load-at net less =
-      let load = loadBy (s .scene .later) (s .scene .m .occurrences) in
-      let same : 0 + net ≡ net = omega arith in
-      ap (λ (l : List ℕ). getD (map load l) net 0) (frame-ok (s .scene) .slots) ∙ mapped load 0 (netCount (s .scene .m)) net less ∙ ap load same
-
   -- None is above the largest.
   pub net-within : (net : ℕ) → net < netCount (s .scene .m) → loadBy (s .scene .later) (s .scene .m .occurrences) net ≤ 4 * mostSize
   net-within net less =
       omega (
         arith,
-        load-at net less,
+        load-at (s .scene) net less,
         within-largest (map (loadBy (s .scene .later) (s .scene .m .occurrences)) (netsOf (s .scene .m))) net,
         says-here (s .scene) largestLoad-search,
         s .loads,
@@ -165,18 +167,36 @@ module _ {image starts nets : List ℕ} {k entries : ℕ} (s : Loadable image st
           (long ∙ sym (length-of-nets (s .scene .m)) ∙ sym (length-map (netsOf (s .scene .m)) _))
           (λ net less.
           let inFrame : net < netCount (s .scene .m) = omega (arith, long) in
-          getD-take (netCount (s .scene .m)) scratch net 0 inFrame ∙ at-net net inFrame ∙ sym (load-at net inFrame))
+          getD-take (netCount (s .scene .m)) scratch net 0 inFrame ∙ at-net net inFrame ∙ sym (load-at (s .scene) net inFrame))
 
--- The loads of a module's inputs are the first of those that its turn leaves.
-pub inputs-loaded :
+-- The loads of a module's inputs are the first of those that its turn leaves, and those of its outputs stand at their slots.
+module _
     {image starts nets : List ℕ} {rs : List Module} {j most : ℕ} {part part′ : List ℕ} (s : Scene image starts nets rs j)
-    → FrameLoaded rs (s .m) (s .later) j most part part′
-    → take (length (s .m .inputs)) part′ ≡ inputLoads rs (16 + j)
-unfolding netsOf netCount
-inputs-loaded {part′ = part′} s done =
-    let n = s .m in
-    let load = netLoad (inputLoads (s .later)) (n .occurrences) in
-    sym (take-take (length (n .inputs)) (netCount n) part′ (omega arith))
-    ∙ ap (take (length (n .inputs))) (done .loads ∙ map-append load (n .inputs) (driven (n .occurrences)))
-    ∙ take-at (map load (n .inputs)) (map load (driven (n .occurrences))) (length (n .inputs)) (length-map (n .inputs) load)
-    ∙ sym (says-here s inputLoads-search)
+    (done : FrameLoaded rs (s .m) (s .later) j most part part′)
+  where
+    abbrev load : ℕ → ℕ
+    load = netLoad (loadsInside (s .later)) (s .m .occurrences)
+
+    pub inputs-loaded : take (length (s .m .inputs)) part′ ≡ loadsInside rs (16 + j) .inputs
+    unfolding netsOf netCount
+    inputs-loaded =
+        let n = s .m in
+        sym (take-take (length (n .inputs)) (netCount n) part′ (omega arith))
+        ∙ ap (take (length (n .inputs))) (done .loads ∙ map-append load (n .inputs) (driven (n .occurrences)))
+        ∙ take-at (map load (n .inputs)) (map load (driven (n .occurrences))) (length (n .inputs)) (length-map (n .inputs) load)
+        ∙ sym (ap (λ (l : Loads). l .inputs) (says-here s loadsInside-search))
+
+    -- By slot, for a list of slots of the frame.
+    slots-loaded : (slots : List ℕ) → Filled (netCount (s .m)) slots → readSlots 0 (take (netCount (s .m)) part′) slots ≡ map load slots
+    unfolding readSlots
+    slots-loaded [] filled = refl
+    slots-loaded (x ∷ slots) filled =
+        ap₂ {C = List ℕ} _∷_ (ap (λ (l : List ℕ). getD l x 0) (done .loads) ∙ load-at s x (filled .slot 0 (omega arith)))
+        (slots-loaded slots (record { slot = λ i less. filled .slot (suc i) (omega arith) }))
+
+    pub outputs-loaded : readSlots 0 part′ (s .m .outputs) ≡ loadsInside rs (16 + j) .outputs
+    outputs-loaded =
+        let filled = frame-ok s .answered in
+        sym (read-front 0 part′ (s .m .outputs) filled)
+        ∙ slots-loaded (s .m .outputs) filled
+        ∙ sym (ap (λ (l : Loads). l .outputs) (says-here s loadsInside-search))

@@ -6,9 +6,10 @@ use mathlib.Core.List.{List}
 use native.Mathlib.Omega.{arith}
 use Rattle.meaning.specs.Syntax.{Module}
 use Rattle.meaning.specs.Boxlist.{box, assoc}
-use Rattle.meaning.specs.Figures.{room, largestLoad}
+use Rattle.meaning.specs.Figures.{room}
+use Rattle.meaning.specs.Loads.{largestLoad}
 use Rattle.laws.specs.WellFormed.{Accepted}
-use Rattle.laws.specs.Figures.Bounds.{largestLoad-within}
+use Rattle.laws.specs.Loads.Bounds.{largestLoad-within}
 use Rattle.image.specs.Resolved.{positionOf, resolve}
 use Rattle.image.specs.Fitting.{accepted-fits}
 use Rattle.image.specs.ResolvedFigures.{room-resolved}

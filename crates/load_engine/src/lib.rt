@@ -2,6 +2,7 @@
 use gates::Kind;
 use image::buffers::clear;
 use image::buffers::larger;
+use load_steps::add_inside;
 use load_steps::add_loads;
 use load_steps::keep;
 use load_steps::kept_at;
@@ -11,7 +12,8 @@ ghost use mathlib.Core.Path.{_≡_};
 ghost use mathlib.Core.List.{_++_};
 ghost use Prim.Native.Nat.{_+_, _≤_};
 ghost use lib.ListN.{length, drop, replicate};
-ghost use Rattle.meaning.specs.Figures.{tally, largestLoad};
+ghost use Rattle.meaning.specs.Figures.{tally};
+ghost use Rattle.meaning.specs.Loads.{largestLoad};
 ghost use Rattle.tally_engine.specs.Tallies.{Countable};
 ghost use Rattle.tally_engine.specs.Rows.{marks, Tallying, Tallied};
 ghost use Rattle.load_engine.specs.Loads.{Loadable, Workable, Loaded};
@@ -22,7 +24,7 @@ pub struct Weighed {
     pub load: u32,
 }
 
-// Tally and largest load of the module at position k; the loads of its inputs are left in `loads`. An entry of `known` above 0 says that
+// Tally and largest load of the module at position k; the loads of its inputs and outputs are left in `loads`. An entry of `known` above 0 says that
 // both are kept: the tally in its row, and the entry is the largest load plus 1. What is kept is looked up, so the work is bounded by the
 // length of the file.
 fn weigh_once(
@@ -81,12 +83,12 @@ fn weigh_once(
                 most = larger(most, inner.load);
                 let reached = inner.tally;
                 tally = tally.with_tally(reached);
-                add_loads(image, o.from, o.to, true, starts[j] + 2, loads, scratch);
+                add_inside(image, o, starts[j], loads, scratch);
             }
         }
     }
     let load = larger(largest(scratch, frame), most);
-    keep(start, header.inputs, k, load, scratch, loads, known);
+    keep(image, start, header, k, load, scratch, loads, known);
     tally_engine::rows::write_row(tally, k, known.len(), rows);
     Weighed { tally, load }
 }

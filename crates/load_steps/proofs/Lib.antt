@@ -1,2 +1,4 @@
--- Facts that the proof of `add_loads` cites.
+-- Facts that the proofs cite.
 pub mod Placing
+pub mod Insides
+pub mod Keeping

@@ -9,7 +9,7 @@ use native.Mathlib.Numerals.{add-one}
 use borrow.Author.Tests.{eq-eqb}
 use lib.ListN.{length, getD, drop, set, length-set, length-drop, length-replicate, getD-replicate}
 use lib.Seq.{slice, slice-empty, slice-cons, drop-cons, drop-set-lt, getD-take, getD-drop, length-take-le}
-use Rattle.meaning.specs.Figures.{placesLoad}
+use Rattle.meaning.specs.Loads.{placesLoad}
 use Rattle.load_steps.specs.Steps.{placeLoads, Placed, LoadsAdded}
 use Rattle.image.specs.Entries.{entry-more}
 

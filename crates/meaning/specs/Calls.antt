@@ -14,7 +14,8 @@ use Rattle.meaning.specs.Reading.{File, holds, fails, read}
 use Rattle.meaning.specs.Limits.{expandedSize}
 use Rattle.meaning.specs.Verdict.{Verdict, good, refused, fileVerdict}
 use Rattle.meaning.specs.Evaluation.{evaluate}
-use Rattle.meaning.specs.Figures.{gateCount, tally, room, delay, largestLoad}
+use Rattle.meaning.specs.Figures.{gateCount, tally, room, delay}
+use Rattle.meaning.specs.Loads.{largestLoad}
 use Rattle.meaning.specs.Flattening.{flatModule}
 
 -- What a call comes to: a refusal with its number and place, or what was asked for. Success has number 0 and place 0.

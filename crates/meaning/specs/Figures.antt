@@ -1,15 +1,15 @@
--- The figures of a module (document 01, 'What a module means'): gates, tally, room, arrival and delay, load. Each is a function of
+-- The figures of a module (document 01, 'What a module means'): gates, tally, room, arrival and delay. Each is a function of
 -- the list of modules and the module's number: of the first module that has it, its references among the modules after it.
--- Expanded size stands among the limits.
+-- Expanded size stands among the limits, load in a file of its own.
 use Prim.Native.Nat.{ℕ, _+_, max}
 use mathlib.Core.Bool.{cond}
-use mathlib.Core.List.{List, [], _∷_, _++_, map}
+use mathlib.Core.List.{List, [], _∷_, map}
 use lib.Dec.{eqb}
 use lib.ListN.{length, replicate}
 use Rattle.meaning.specs.Syntax.{Occurrence, Module}
 use Rattle.meaning.specs.Gates.{isGate}
 use Rattle.meaning.specs.Boxlist.{Found, box, F, assoc}
-use Rattle.meaning.specs.Limits.{driven, netCount}
+use Rattle.meaning.specs.Limits.{netCount}
 use Rattle.meaning.specs.Evaluation.{Meaning, run}
 
 -- The largest of a list, 0 where it is empty.
@@ -75,31 +75,3 @@ delayBy delay ms number = largest (arrivals delay ms number (replicate (inputCou
 -- Unit delay: a gate's net arrives one after its latest argument.
 unfoldable pub delay : List Module → ℕ → ℕ
 delay = delayBy (λ kind. 1)
-
--- Load of a net in a module: each place where it stands as an argument adds 1 at a gate, and at a module adds the load of that
--- input inside it. `loads` are those of an occurrence's argument places, in order.
-unfoldable pub placesLoad : (net : ℕ) → (takes loads : List ℕ) → ℕ
-placesLoad net [] loads = 0
-placesLoad net (x ∷ xs) [] = 0
-placesLoad net (x ∷ xs) (l ∷ ls) = cond (eqb net x) l 0 + placesLoad net xs ls
-
-unfoldable pub netLoad : (later : ℕ → List ℕ) → List Occurrence → (net : ℕ) → ℕ
-netLoad later [] net = 0
-netLoad later (o ∷ os) net =
-    placesLoad net (o .takes) (cond (isGate (o .refers)) (replicate (length (o .takes)) 1) (later (o .refers)))
-    + netLoad later os net
-
--- The loads of a module's inputs inside it, in order.
-unfoldable pub inputLoads : List Module → ℕ → List ℕ
-inputLoads [] number = []
-inputLoads (m ∷ ms) number =
-    cond (eqb number (m .number)) (map (netLoad (inputLoads ms) (m .occurrences)) (m .inputs)) (inputLoads ms number)
-
--- Largest load: over the module's own nets and those of the modules reached, 0 if there are none.
-unfoldable pub largestLoad : List Module → ℕ → ℕ
-largestLoad [] number = 0
-largestLoad (m ∷ ms) number =
-    cond (eqb number (m .number))
-    (max (largest (map (netLoad (inputLoads ms) (m .occurrences)) (m .inputs ++ driven (m .occurrences))))
-    (largestReferred (largestLoad ms) (m .occurrences)))
-    (largestLoad ms number)

@@ -20,6 +20,8 @@ pub mod Heval
 pub mod Adder
 pub mod Counter
 pub mod Figures
+pub mod Loads
+pub mod Leval
 pub mod Flattening
 pub mod Calls
 pub mod CallRules

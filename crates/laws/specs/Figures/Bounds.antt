@@ -1,26 +1,22 @@
 -- Bounds on the figures of an accepted list of modules that number types need. Those of gates, one kind of gate and room stand in
--- Bounds.antt.
+-- Bounds.antt, that of load in Loads/Bounds.antt.
 use Prim.Native.Nat.{ℕ, _*_, _≤_}
-use mathlib.Core.Path.{_≡_, refl}
+use mathlib.Core.Path.{_≡_}
 use mathlib.Core.List.{List, [], _∷_, map}
 use native.Mathlib.Nat.{le-trans, mul-le-mul-left}
 use native.Mathlib.Omega.{arith}
-use borrow.Author.Tests.{eq-eqb}
 use Rattle.meaning.specs.Lists.{All, none, more}
 use Rattle.meaning.specs.Syntax.{Module}
 use Rattle.meaning.specs.Boxlist.{box, assoc}
 use Rattle.meaning.specs.Limits.{mostModuleNets, mostSize}
 use Rattle.meaning.specs.Reading.{mostModules}
 use Rattle.meaning.specs.Ceilings.{ModuleWithin, Within}
-use Rattle.meaning.specs.Figures.{gateWeight, tally, kindCount, room, delayBy, delay, netLoad, inputLoads, largestLoad}
+use Rattle.meaning.specs.Figures.{tally, kindCount, room, delayBy, delay}
 use Rattle.meaning.specs.Adder.{upFrom}
-use Rattle.laws.specs.WellFormed.{ModuleOk, Accepted, some}
+use Rattle.laws.specs.WellFormed.{Accepted}
 use Rattle.laws.specs.Bounds.{gates-within, kinds-within, room-within}
 use Rattle.laws.specs.Standing.{stands, holds-standing}
-use Rattle.laws.specs.Figures.Tally.{total}
 use Rattle.laws.specs.Figures.Delay.{delay-below-gates, delayBy-below-gates}
-use Rattle.laws.specs.Figures.Load.{places-below-gates}
-use Rattle.laws.specs.Figures.Load.{inputLoads-below-places, netLoad-below-places, largestLoad-below-places}
 
 pub tally-within : {ms : List Module} → Accepted ms → (number : ℕ) → All (λ n. n ≤ mostSize) (tally ms number)
 unfolding tally upFrom
@@ -42,25 +38,6 @@ pub delayBy-within :
     → delayBy delays ms number ≤ most * mostSize
 delayBy-within {ms} delays most fast a number =
     le-trans (delayBy-below-gates delays most fast ms number) (mul-le-mul-left most (gates-within a number))
-
-pub inputLoads-within : {ms : List Module} → Accepted ms → (number : ℕ) → total (inputLoads ms number) ≤ 4 * mostSize
-inputLoads-within {ms} a number =
-    omega (arith, inputLoads-below-places a number, places-below-gates ms number, gates-within a number)
-
-pub netLoad-within :
-    {m : Module} {later : List Module}
-    → ModuleOk m later
-    → Accepted later
-    → (net : ℕ)
-    → netLoad (inputLoads later) (m .occurrences) net ≤ 4 * mostSize
-unfolding gateWeight
-netLoad-within {m} {later} ok rest net =
-    let own = rw (eq-eqb (m .number) (m .number) refl) at (places-below-gates (m ∷ later) (m .number)) in
-    omega (arith, netLoad-below-places ok rest net, own, gates-within (some ok rest) (m .number))
-
-pub largestLoad-within : {ms : List Module} → Accepted ms → (number : ℕ) → largestLoad ms number ≤ 4 * mostSize
-largestLoad-within {ms} a number =
-    omega (arith, largestLoad-below-places a number, places-below-gates ms number, gates-within a number)
 
 -- A file within the ceilings has few modules, and a module of it few inputs and outputs.
 pub room-of-file : {ms : List Module} → Within ms → Accepted ms → (number : ℕ) → room ms number ≤ mostModuleNets * mostModules

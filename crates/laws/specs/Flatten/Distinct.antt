@@ -11,7 +11,7 @@ use Rattle.meaning.specs.Syntax.{Occurrence, Module}
 use Rattle.meaning.specs.Members.{_∈_, Twice, again, further}
 use Rattle.meaning.specs.Limits.{driven}
 use Rattle.meaning.specs.Evaluation.{Env, look, lookAll, pairs}
-use Rattle.meaning.specs.Flattening.{Board, Placed, placeReferred, Walked, placeBody, placeModule, place}
+use Rattle.meaning.specs.Flattening.{Board, Placed, placeGate, placeReferred, Walked, placeBody, placeModule, place}
 use Rattle.laws.specs.WellFormed.{Reference, toGate, toModule, Body, done, step, ModuleOk, Accepted, none, some}
 use Rattle.laws.specs.Tests.{Tells, tells-true, tells-false, if-false}
 use Rattle.laws.specs.Members.{here, there, in-none, same-in, in-left, in-either, subset-in}
@@ -37,17 +37,20 @@ pub record NewModules (ms : List Module) : Type 0 where
       → (nets : List ℕ) (b : Board)
       → New b (place ms number nets b) (length (m .outputs))
 
+-- A gate drives the next net.
+pub gate-new : (kind : ℕ) (nets : List ℕ) (b : Board) → New b (placeGate kind nets b) 1
+gate-new kind nets b = record { grown = omega arith; between = one; once = twice-one; counted = refl }
+  where
+    one : (x : ℕ) → x ∈ (b .next ∷ []) → Between (b .next) (suc (b .next)) x
+    one x (here e) = omega arith
+    one x (there i) = absurd (in-none i)
+
 reference-new :
     {ms : List Module} {o : Occurrence} (nets : List ℕ) (b : Board)
     → NewModules ms
     → Reference ms o
     → New b (placeReferred (place ms) (o .refers) nets b) (length (o .drives))
-reference-new nets b later (toGate g takes drives) =
-    rw g (record { grown = omega arith; between = one; once = twice-one; counted = drives })
-  where
-    one : (x : ℕ) → x ∈ (b .next ∷ []) → Between (b .next) (suc (b .next)) x
-    one x (here e) = omega arith
-    one x (there i) = absurd (in-none i)
+reference-new {o = o} nets b later (toGate g takes drives) = rw (g, ← drives) (gate-new (o .refers) nets b)
 reference-new {ms} {o} nets b later (toModule m g found takes drives) =
     rw (g, drives) (later .new (o .refers) (stands (o .refers) ms found) nets b)
 
@@ -121,7 +124,7 @@ body-drives {ds = ds} {w = w} later (step {o = o} {os} ok rest) h =
     }
 
 -- What holds of each net's reading holds of every reading.
-lookAll-each :
+pub lookAll-each :
     (P : ℕ → Type 0) (env : Env ℕ) (xs : List ℕ)
     → ((x : ℕ) → x ∈ xs → P (look 0 x env))
     → (y : ℕ)

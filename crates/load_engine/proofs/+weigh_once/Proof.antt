@@ -13,7 +13,8 @@ use Rattle.image.specs.Scenes.{in-starts, in-nets, module-stands, module-there}
 use Rattle.image.specs.Walking.{occurrence-there}
 use Rattle.tally_engine.proofs.Counting.{none-counted, all-counted}
 use Rattle.load_engine.proofs.Loading.{frame-fits, none-loaded}
-use Rattle.load_engine.proofs.KeptLoads.{work-moved, looked-up, keepable, now-kept}
+use Rattle.load_engine.proofs.KeptLoads.{work-moved, looked-up}
+use Rattle.load_engine.proofs.MoreLoads.{keepable, now-kept}
 use Rattle.load_engine.proofs.KnownRows.{known-row, rows-fit, row-known}
 use Rattle.load_engine.proofs.weigh_once.Reads as reads
 use Rattle.load_engine.proofs.+weigh_once.Lts-weigh_once as lts
@@ -22,7 +23,7 @@ use Rattle.load_engine.proofs.+weigh_once.Tie.{close}
 use Rattle.load_engine.proofs.+weigh_once.Proof.Setting.{μ, Given, claims, Inv-loop, μ-loop, asked, began, clearing, start}
 use Rattle.load_engine.proofs.+weigh_once.Proof.Setting.{gate-read, module-read, told, weighed, working, frame-inside, ended, all-framed}
 use Rattle.load_engine.proofs.+weigh_once.Proof.Turns.{with-gate-requires, gate-places, again-at-gate, lent-offset, weigh-once-requires}
-use Rattle.load_engine.proofs.+weigh_once.Proof.Turns.{with-tally-requires, listed, offset, inputs-inside, module-places, again-at-module}
+use Rattle.load_engine.proofs.+weigh_once.Proof.Turns.{with-tally-requires, listed, offset, module-places, again-at-module}
 
 module _ (t : ℕ) where
   -- What is kept is the answer.
@@ -64,7 +65,7 @@ module _ (t : ℕ) where
   occurrence-at-requires : lts.Need-occurrence-at-requires (claims t) (Given t) reads.Post Inv-loop μ-loop
   occurrence-at-requires c κs = occurrence-there (c .loop-test .taken) (c .before .loop .inv .3 (working t (c .before)) .0 .ahead)
 
-  -- With no occurrence left the loads of the inputs and the tally are kept.
+  -- With no occurrence left the loads of the inputs and outputs and the tally are kept.
   keep-requires : lts.Need-keep-requires (claims t) (Given t) reads.Post Inv-loop μ-loop
   keep-requires c κs =
       let last = c .before .before .before in
@@ -72,14 +73,14 @@ module _ (t : ℕ) where
       let w = working t loop in
       let sofar = loop .loop .inv .3 w in
       keepable (w .loadable) (sofar .1) (all-framed t last w) (sofar .0 .long)
-      (loop .before .before .before .module-at .ensures _ (module-stands (w .loadable .scene)) .inputs)
+      (loop .before .before .before .module-at .ensures _ (module-stands (w .loadable .scene)))
 
   write-row-requires : lts.Need-write-row-requires (claims t) (Given t) reads.Post Inv-loop μ-loop
   write-row-requires c κs =
       let lists = c .before .before in
       let kept = lists .before .before .before in
       let loop = ended t (kept .before .before .before .before) in
-      omega (arith, rows-fit (loop .loop .known) (loop .loop .inv .4 (start t loop .pre .1 .1) .1) (kept .keep .kept .1 .1 .1 .1 .1 .1 .0))
+      omega (arith, rows-fit (loop .loop .known) (loop .loop .inv .4 (start t loop .pre .1 .1) .1) (kept .keep .kept .1 .1 .1 .1 .1 .1 .1 .0))
 
   -- The end of the function: where the row is written, where the loads are kept, and the loop's last test.
   abbrev keeping : lts.After-write-row (claims t) (Given t) reads.Post Inv-loop μ-loop → lts.After-keep (claims t) (Given t) reads.Post Inv-loop μ-loop
@@ -96,8 +97,8 @@ module _ (t : ℕ) where
             let clear = clearing t loop .clear in
             let w = work-moved {entries′ = length (clear .last .1 .0)} w₀ (omega (arith, w₀ .loadable .room, clear .kept .1 .0)) in
             let sofar = loop .loop .inv .3 w in
-            now-kept (w .loadable) (sofar .1) (all-framed t last w) (sofar .0 .long) (header .ensures _ (module-stands (w .loadable .scene)) .inputs)
-            (kept .keep .ensures) (kept .keep .kept .1 .1 .1 .1 .1 .0),
+            now-kept (w .loadable) (sofar .1) (all-framed t last w) (sofar .0 .long) (header .ensures _ (module-stands (w .loadable .scene)))
+            (kept .keep .ensures) (kept .keep .kept .1 .1 .1 .1 .1 .1 .0),
         λ s.
             let sofar = loop .loop .inv .4 s in
             let all = all-counted (s .countable) (omega (arith, last .before .before .before .loop-test .left)) (sofar .0) in
@@ -148,7 +149,6 @@ pub +weigh-once-spec : {M : Type 1} → statement M
     (with-tally-requires t)
     (offset t)
     (listed t)
-    (inputs-inside t)
     (module-places t)
     (λ c.
     let counted = c .before .before .before .before in
@@ -161,7 +161,7 @@ pub +weigh-once-spec : {M : Type 1} → statement M
     (λ c.
     let loop = ended t (keeping t (c .before .before) .before .before .before .before) in
     loop .loop .inv .3 (working t loop) .0 .long ∙ clearing t loop .clear .kept .1 .0)
-    (λ c. let kept = keeping t (c .before .before) in kept .keep .kept .1 .1 .1 .1 .1 .0 ∙ ended t (kept .before .before .before .before) .loop .inv .0)
+    (λ c. let kept = keeping t (c .before .before) in kept .keep .kept .1 .1 .1 .1 .1 .1 .0 ∙ ended t (kept .before .before .before .before) .loop .inv .0)
     (λ c. c .before .before .write-row .kept .1 .1 .1 .0 ∙ ended t (keeping t (c .before .before) .before .before .before .before) .loop .inv .1)
-    (λ c. let kept = keeping t (c .before .before) in kept .keep .kept .1 .1 .1 .1 .1 .1 .0 ∙ ended t (kept .before .before .before .before) .loop .inv .2)
+    (λ c. let kept = keeping t (c .before .before) in kept .keep .kept .1 .1 .1 .1 .1 .1 .1 .0 ∙ ended t (kept .before .before .before .before) .loop .inv .2)
     (returns t))

@@ -1,4 +1,4 @@
--- `load_engine::load::add_loads` meets its contract. The loop's invariant: what is added and what the places ahead add are what all of them
+-- `load_steps::add_loads` meets its contract. The loop's invariant: what is added and what the places ahead add are what all of them
 -- add. Assumes nothing.
 use Prim.Native.Nat.{ℕ, _+_, _-_, _≤_, _<_}
 use mathlib.Core.Path.{_≡_}

@@ -1,4 +1,4 @@
--- `load_engine::load::kept_at` meets its contract: behind the list nothing is kept. Assumes nothing.
+-- `load_steps::kept_at` meets its contract: behind the list nothing is kept. Assumes nothing.
 use mathlib.Core.Path.{sym}
 use borrow.Author.Needs.{needs}
 use lib.ListN.{List·getD-eq-default}

@@ -1,4 +1,4 @@
--- `load_engine::load::largest` meets its contract. The loop's invariant: the larger of what was met and of what is ahead is the largest of
+-- `load_steps::largest` meets its contract. The loop's invariant: the larger of what was met and of what is ahead is the largest of
 -- all. Assumes nothing.
 use Prim.Native.Nat.{ℕ, _+_, _-_, _≤_, _<_, max}
 use mathlib.Core.Path.{_≡_, sym, ap, _∙_}

@@ -5,7 +5,7 @@ use native.Mathlib.Omega.{arith}
 use mathlib.Core.Path.{_≡_, refl, sym, _∙_}
 use Rattle.meaning.specs.Adder.{upFrom}
 use Rattle.laws.specs.Adder.Nets.{length-upFrom}
-use Rattle.flat_engine.specs.Runs.{run-at}
+use Rattle.image.specs.Entries.{run-at}
 use Rattle.flat_engine.proofs.Filling.{Filling, filling-none, filling-length, filling-more, filling-all}
 use Rattle.flat_engine.proofs.slots.number_inputs.Statement.{statement}
 use Rattle.flat_engine.proofs.slots.number_inputs.Tie as tie

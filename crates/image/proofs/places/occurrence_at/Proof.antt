@@ -1,6 +1,6 @@
 -- `image::places::occurrence_at` meets its contract: each number that it reads is what stands there. Assumes nothing.
 use Prim.Native.Nat.{ℕ, _+_, _≤_}
-use mathlib.Core.Path.{_≡_, _∙_}
+use mathlib.Core.Path.{_≡_, refl, _∙_}
 use mathlib.Core.List.{List}
 use native.Mathlib.Omega.{arith}
 use borrow.Author.Needs.{needs}
@@ -64,7 +64,9 @@ returns c o s =
     let taken = second o s (c .before .before .entry .ensures) (c .before .entry2 .ensures) in
     record {
       drives = driven;
+      driven = there .drives (c .before .before .before .before .args .at + 1) refl;
       refers = there .refers refers (omega arith);
+      from = omega arith;
       takes = there .takes (refers + 2) (omega arith);
       to = omega arith;
       next = omega (arith, there .long);

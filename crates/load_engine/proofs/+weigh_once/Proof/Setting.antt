@@ -32,6 +32,7 @@ use Rattle.tally_engine.proofs.Tally.with_tally.Reads as with-tally
 use Rattle.load_steps.proofs.kept_at.Reads as kept-at
 use Rattle.load_steps.proofs.largest.Reads as largest
 use Rattle.load_steps.proofs.add_loads.Reads as add-loads
+use Rattle.load_steps.proofs.add_inside.Reads as add-inside
 use Rattle.load_steps.proofs.keep.Reads as keep
 
 abbrev pub μ : Measures 7 kinds.ps ℕ
@@ -69,6 +70,8 @@ claims t = (
   larger.Learnt,
   with-tally.Asked,
   with-tally.Learnt,
+  add-inside.Asked,
+  add-inside.Learnt,
   largest.Asked,
   largest.Learnt,
   keep.Asked,

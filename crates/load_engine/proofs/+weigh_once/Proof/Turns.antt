@@ -5,7 +5,8 @@ use native.Mathlib.Omega.{arith}
 use Rattle.image.specs.Walking.{turn}
 use Rattle.tally_engine.proofs.Counting as counting
 use Rattle.load_engine.proofs.Loading.{frame-fits}
-use Rattle.load_engine.proofs.LoadTurns as loading
+use Rattle.load_engine.proofs.GateLoads.{at-gate}
+use Rattle.load_engine.proofs.ModuleLoads as loading
 use Rattle.load_engine.proofs.weigh_once.Reads as reads
 use Rattle.load_engine.proofs.+weigh_once.Lts-weigh_once as lts
 use Rattle.load_engine.proofs.+weigh_once.Proof.Setting.{Given, claims, Inv-loop, μ-loop, start, gate-read, module-read, told, weighed}
@@ -31,7 +32,7 @@ module _ (t : ℕ) where
       let w = working t loop in
       let sofar = loop .loop .inv .3 w .0 in
       let now = turn (read .before .loop-test .taken) (sofar .ahead) (read .occurrence-at .ensures) in
-      loading.at-gate (w .loadable) sofar now (is-gate t gate) _ .placed
+      at-gate (w .loadable) sofar now (is-gate t gate) _ .placed
 
   pub again-at-gate : lts.Need-loop-again (claims t) (Given t) reads.Post Inv-loop μ-loop
   again-at-gate c =
@@ -46,7 +47,7 @@ module _ (t : ℕ) where
         λ w.
             let sofar = loop .loop .inv .3 w in
             let now = turn (read .before .loop-test .taken) (sofar .0 .ahead) (read .occurrence-at .ensures) in (
-              loading.at-gate (w .loadable) (sofar .0) now (is-gate t gate) _ .next (added .add-loads .kept .1 .1 .1 .1 .1 .1 .0) (added .add-loads .ensures),
+              at-gate (w .loadable) (sofar .0) now (is-gate t gate) _ .next (added .add-loads .kept .1 .1 .1 .1 .1 .1 .0) (added .add-loads .ensures),
               sofar .1,
             ),
         λ s.
@@ -55,7 +56,8 @@ module _ (t : ℕ) where
             (counting.at-gate (s .countable) (sofar .0) now (is-gate t gate) .step .next (counted .with-gate .ensures), sofar .1),
       )
 
-  -- At a module the part behind the frame is lent on; its tally is added, and each argument place adds the load of its input.
+  -- At a module the part behind the frame is lent on; its tally is added, and each argument place adds the load of its input, and
+  -- each driven net the load of its output.
   pub lent-offset : lts.Need-mul-weigh-once (claims t) (Given t) reads.Post Inv-loop μ-loop
   lent-offset c =
       let from = start t (module-read t (c .before) .before .before) in
@@ -97,8 +99,8 @@ module _ (t : ℕ) where
       let done = called .weigh-once .ensures .1 (counting.tallying (s .countable) (sofar .0) now (is-module t at) (sofar .1)) in
       counting.at-module (s .countable) (sofar .0) now (is-module t at) .step (done .is) .addable
 
-  -- The loads of the module's inputs stand where its numbers do.
-  pub listed : lts.Need-shared-slice-read-add-loads (claims t) (Given t) reads.Post Inv-loop μ-loop
+  -- Its loads stand where its numbers do.
+  pub listed : lts.Need-shared-slice-read-add-inside (claims t) (Given t) reads.Post Inv-loop μ-loop
   listed c =
       let at = told t (weighed t (c .before .before .before)) in
       let read = module-read t at in
@@ -107,7 +109,7 @@ module _ (t : ℕ) where
       let sofar = loop .loop .inv .3 w .0 in
       loading.listed (w .loadable) sofar (turn (read .before .loop-test .taken) (sofar .ahead) (read .occurrence-at .ensures)) (is-module t at)
 
-  pub offset : lts.Need-mul-add-loads (claims t) (Given t) reads.Post Inv-loop μ-loop
+  pub offset : lts.Need-mul-add-inside (claims t) (Given t) reads.Post Inv-loop μ-loop
   offset c =
       let at = told t (weighed t (c .before .before)) in
       let read = module-read t at in
@@ -117,17 +119,7 @@ module _ (t : ℕ) where
       let now = turn (read .before .loop-test .taken) (sofar .ahead) (read .occurrence-at .ensures) in
       omega (arith, loading.listed (w .loadable) sofar now (is-module t at), start t loop .good .1 .0 .1)
 
-  pub inputs-inside : lts.Need-add-add-loads (claims t) (Given t) reads.Post Inv-loop μ-loop
-  inputs-inside c =
-      let at = told t (weighed t (c .before .before .before)) in
-      let read = module-read t at in
-      let loop = read .before .before in
-      let w = working t loop in
-      let sofar = loop .loop .inv .3 w .0 in
-      let now = turn (read .before .loop-test .taken) (sofar .ahead) (read .occurrence-at .ensures) in
-      omega (arith, loading.ends (w .loadable) sofar now (is-module t at), start t loop .good .0 .1)
-
-  pub module-places : lts.Need-add-loads-requires-2 (claims t) (Given t) reads.Post Inv-loop μ-loop
+  pub module-places : lts.Need-add-inside-requires (claims t) (Given t) reads.Post Inv-loop μ-loop
   module-places c κs =
       let counted = c .before .before .before in
       let raised = counted .before .before in
@@ -159,7 +151,7 @@ module _ (t : ℕ) where
             let now = turn (read .before .loop-test .taken) (sofar .0 .ahead) (read .occurrence-at .ensures) in
             let done = called .weigh-once .ensures .0 (loading.workable (w .loadable) (sofar .0) now (is-module t at) (sofar .1)) in (
               loading.at-module (w .loadable) (sofar .0) now (is-module t at) _ done (called .weigh-once .kept .1 .1 .1 .1 .0) (raised .larger .ensures)
-                  .next (added .add-loads2 .kept .1 .1 .1 .1 .1 .1 .0) (added .add-loads2 .ensures),
+                  .next (added .add-inside .kept .1 .1 .1 .1 .0) (added .add-inside .ensures),
               done .kept,
             ),
         λ s.

@@ -1,17 +1,19 @@
--- The largest load of the written adder is 2: each of its nets stands at most once as an argument, and each input of the full adder
--- has load 2 inside it.
-use mathlib.Core.Path.{_≡_, refl, ap, _∙_}
+-- The largest load of the written adder is 2: each of its nets stands at most once as an argument, each input of the full adder has
+-- load 2 inside it, and its outputs have none.
+use mathlib.Core.Path.{_≡_, refl, _∙_}
 use mathlib.Core.Bool.{cond}
-use mathlib.Core.List.{List, [], _∷_, _++_, map}
+use mathlib.Core.List.{[], _∷_, _++_}
 use Prim.Native.Nat.{ℕ, zero, suc, _+_, _*_, _<_, _≤_}
 use native.Mathlib.Decide.{ℕ-discrete}
 use native.Mathlib.Omega.{arith}
 use lib.Dec.{eqb}
 use borrow.Author.Tests.{eq-eqb, ne-eqb}
 use Rattle.meaning.specs.Limits.{driven}
-use Rattle.meaning.specs.Figures.{largest, largestReferred, placesLoad, netLoad, inputLoads, largestLoad}
+use Rattle.meaning.specs.Figures.{largest, largestReferred}
+use Rattle.meaning.specs.Loads.{placesLoad, Loads, netLoad, loadsInside, largestLoad}
 use Rattle.meaning.specs.Adder.{upFrom, adderCells, rippleAdder, fullAdder, halfAdder, adder}
 use Rattle.laws.specs.Adder.Figures.{referred-by-cells}
+use Rattle.laws.specs.Loads.Places.{largest-least, none-either-way}
 
 -- What one place adds to the load of a net.
 abbrev place : (net argument : ℕ) → ℕ
@@ -23,7 +25,11 @@ here net argument e = rw (eq-eqb net argument e)
 away : (net argument : ℕ) → (net ≡ argument → ⊥) → place net argument ≡ 0
 away net argument h = rw (ne-eqb net argument h)
 
-module _ (later : ℕ → List ℕ) (full : later 17 ≡ 2 ∷ 2 ∷ 2 ∷ []) (net : ℕ) where
+-- The loads inside the full adder.
+abbrev fullLoads : Loads
+fullLoads = record { inputs = 2 ∷ 2 ∷ 2 ∷ []; outputs = 0 ∷ 0 ∷ [] }
+
+module _ (later : ℕ → Loads) (full : later 17 ≡ fullLoads) (net : ℕ) where
   load-of-cell :
       (a b s k before n : ℕ)
       → netLoad later (adderCells a b s k before (suc n)) net
@@ -31,9 +37,7 @@ module _ (later : ℕ → List ℕ) (full : later 17 ≡ 2 ∷ 2 ∷ 2 ∷ []) (
       + (place net b + (place net before + 0))
       + netLoad later (adderCells (suc a) (suc b) (suc s) (suc k) k n) net
   unfolding netLoad placesLoad adderCells
-  load-of-cell a b s k before n =
-      let rest = netLoad later (adderCells (suc a) (suc b) (suc s) (suc k) k n) net in
-      ap (λ (loads : List ℕ). placesLoad net (a ∷ b ∷ before ∷ []) loads + rest) full
+  load-of-cell a b s k before n = rw full (omega (arith, none-either-way (eqb net s), none-either-way (eqb net k)))
 
   -- A net that is no argument of the cells has load 0.
   unloaded :
@@ -110,33 +114,27 @@ module _ (later : ℕ → List ℕ) (full : later 17 ≡ 2 ∷ 2 ∷ 2 ∷ []) (
       go (no no-a) (no no-b) (no no-before) most =
           omega (arith, load-of-cell a b s k before n, away net a no-a, away net b no-b, away net before no-before)
 
-largest-of-map : (f : ℕ → ℕ) (most : ℕ) → ((x : ℕ) → f x ≤ most) → (xs : List ℕ) → largest (map f xs) ≤ most
-unfolding largest
-largest-of-map f most bound [] = omega arith
-largest-of-map f most bound (x ∷ xs) = omega (arith, bound x, largest-of-map f most bound xs)
-
--- The loads of the full adder's inputs.
-full-loads : inputLoads (fullAdder ∷ halfAdder ∷ []) 17 ≡ 2 ∷ 2 ∷ 2 ∷ []
-unfolding inputLoads netLoad placesLoad
+full-loads : loadsInside (fullAdder ∷ halfAdder ∷ []) 17 ≡ fullLoads
+unfolding loadsInside netLoad placesLoad
 full-loads = refl
 
 full-largest : largestLoad (fullAdder ∷ halfAdder ∷ []) 17 ≡ 2
-unfolding largestLoad largestReferred largest inputLoads netLoad placesLoad driven
+unfolding largestLoad largestReferred largest loadsInside netLoad placesLoad driven
 full-largest = refl
 
 pub adder-load : (n : ℕ) → 1 ≤ n → largestLoad (adder n) 18 ≡ 2
 unfolding largestLoad adder rippleAdder
 adder-load n some =
-    let loads = netLoad (inputLoads (fullAdder ∷ halfAdder ∷ [])) (adderCells 1 (n + 1) (2 * n + 1) (3 * n + 1) 0 n) in
+    let later = loadsInside (fullAdder ∷ halfAdder ∷ []) in
+    let cells = adderCells 1 (n + 1) (2 * n + 1) (3 * n + 1) 0 n in
     let own =
-    largest-of-map loads 2
-    (λ net.
-    load-of-cells (inputLoads (fullAdder ∷ halfAdder ∷ [])) full-loads net 1 (n + 1) (2 * n + 1) (3 * n + 1) 0 n
+    largest-least (netLoad later cells) (upFrom 0 (2 * n + 1) ++ driven cells) 2
+    (λ net i.
+    load-of-cells later full-loads net 1 (n + 1) (2 * n + 1) (3 * n + 1) 0 n
     (omega arith)
     (omega arith)
     (λ y low high. omega arith)
     (omega arith))
-    (upFrom 0 (2 * n + 1) ++ driven (adderCells 1 (n + 1) (2 * n + 1) (3 * n + 1) 0 n))
     in
     omega (
       arith,
