@@ -23,13 +23,14 @@ struct side {
     uint16_t (*count)(const uint8_t *, size_t, uint16_t, uint32_t *, size_t, uint32_t *, uint32_t *, size_t *);
     uint16_t (*flatten)(const uint8_t *, size_t, uint16_t, uint32_t *, size_t, uint8_t *, size_t, size_t *, size_t *);
     uint16_t (*adder)(size_t, uint8_t *, size_t, size_t *, size_t *);
+    uint16_t (*fast_adder)(size_t, uint8_t *, size_t, size_t *, size_t *);
     uint16_t (*counter)(size_t, uint8_t *, size_t, size_t *, size_t *);
 };
 
 static const struct side ours = {shelf_check,   shelf_evaluate, shelf_count,
-                                 shelf_flatten, shelf_adder,    shelf_counter};
+                                 shelf_flatten, shelf_adder,    shelf_fast_adder, shelf_counter};
 static const struct side theirs = {tuned_check,   tuned_evaluate, tuned_count,
-                                   tuned_flatten, tuned_adder,    tuned_counter};
+                                   tuned_flatten, tuned_adder,    tuned_fast_adder, tuned_counter};
 
 /* What a row works on, and what it leaves for comparison. */
 static struct bench_file file;
@@ -77,6 +78,11 @@ static uint16_t flatten(const struct side *side)
 static uint16_t write_adder(const struct side *side)
 {
     return side->adder(width, out, MOST, &written, &place);
+}
+
+static uint16_t write_fast_adder(const struct side *side)
+{
+    return side->fast_adder(width, out, MOST, &written, &place);
 }
 
 static uint16_t write_counter(const struct side *side)
@@ -227,9 +233,11 @@ static void writer_rows(void)
     file = (struct bench_file){0};
     width = 1;
     row("adder", "width 1", write_adder, 0, "");
+    row("fast adder", "width 1", write_fast_adder, 0, "");
     row("counter", "width 1", write_counter, 0, "");
     width = 64;
     row("adder", "width 64", write_adder, 0, "");
+    row("fast adder", "width 64", write_fast_adder, 0, "");
     row("counter", "width 64", write_counter, 0, "");
 }
 

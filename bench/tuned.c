@@ -754,6 +754,166 @@ uint16_t TUNED(adder)(size_t width, uint8_t *out, size_t out_len, size_t *writte
     return give(to + sizeof cells, out, out_len, written, place);
 }
 
+/* The wiring of fast adders is that of docs/ADDER.md. A tree is named by what it grows from: late and height of a grown
+ * one, step and height of a spine. What is laid of it says where its bits end and which net is its P. */
+struct shape {
+    uint8_t is_spine, late, height;
+};
+struct laid {
+    uint32_t end, p;
+};
+static uint32_t wide; /* the width at hand */
+
+static int parts_of(struct shape t, struct shape part[3])
+{
+    uint8_t below = (uint8_t)(t.height - 1);
+
+    if (t.height == 0 || (!t.is_spine && t.late < 3))
+        return 0;
+    if (t.is_spine) {
+        part[0] = (struct shape){0, (uint8_t)(2 * t.late + 1), t.height};
+        part[1] = (struct shape){0, (uint8_t)(2 * t.late + 2), below};
+        part[2] = (struct shape){1, (uint8_t)(t.late + 1), below};
+    } else {
+        part[0] = (struct shape){0, (uint8_t)(t.late - 2), t.height};
+        part[1] = (struct shape){0, (uint8_t)(t.late - 2), below};
+        part[2] = (struct shape){0, (uint8_t)(t.late - 1), below};
+    }
+    return 1;
+}
+
+static uint32_t leaves_of(struct shape t)
+{
+    struct shape part[3];
+
+    return parts_of(t, part) ? leaves_of(part[0]) + leaves_of(part[1]) + leaves_of(part[2]) : 1;
+}
+
+static uint8_t *put_over_one(uint8_t *to, uint32_t net, uint32_t carry, uint32_t p)
+{
+    *to++ = 1;
+    to = put(to, net);
+    *to++ = 42;
+    *to++ = 3;
+    return put(put(put(to, carry), p), p + wide);
+}
+
+static uint8_t *put_over_two(uint8_t *to, uint32_t net, uint32_t carry, uint32_t low, uint32_t high)
+{
+    *to++ = 1;
+    to = put(to, net);
+    *to++ = 43;
+    *to++ = 5;
+    return put(put(put(put(put(to, carry), low), low + wide), high), high + wide);
+}
+
+static uint8_t *put_ahead(uint8_t *to, struct shape t, uint32_t s, struct laid *laid)
+{
+    struct shape part[3];
+    struct laid x, y, z;
+
+    if (!parts_of(t, part)) {
+        *laid = (struct laid){s + 1, wide + 1 + s};
+        return to;
+    }
+    to = put_over_one(put_ahead(to, part[0], s, &x), x.end, s, x.p);
+    to = put_ahead(to, part[1], x.end, &y);
+    to = put_over_two(to, y.end, s, x.p, y.p);
+    to = put_ahead(to, part[2], y.end, &z);
+    *laid = (struct laid){z.end, 3 * wide + 1 + y.end};
+    *to++ = 1;
+    to = put(to, laid->p);
+    *to++ = 11;
+    *to++ = 3;
+    to = put(put(put(to, x.p), y.p), z.p);
+    return put_over_two(to, laid->p + wide, x.p + wide, y.p, z.p);
+}
+
+static uint8_t *put_chain(uint8_t *to, struct shape t, uint32_t left, uint32_t s, uint32_t *trees)
+{
+    struct shape part[3];
+    struct laid x, y;
+
+    while (parts_of(t, part)) {
+        uint32_t low = leaves_of(part[0]);
+
+        if (left < low) {
+            t = part[0];
+            continue;
+        }
+        to = put_ahead(to, part[0], s, &x);
+        to = put_over_one(to, x.end, s, x.p);
+        ++*trees;
+        left -= low;
+        low = leaves_of(part[1]);
+        if (left < low) {
+            t = part[1];
+            s = x.end;
+            continue;
+        }
+        to = put_ahead(to, part[1], x.end, &y);
+        to = put_over_two(to, y.end, s, x.p, y.p);
+        ++*trees;
+        left -= low;
+        t = part[2];
+        s = y.end;
+    }
+    return to;
+}
+
+static uint8_t *put_carry_and_bits(uint8_t *to, uint32_t first)
+{
+    to = put(to, 2 * wide + 1);
+    *to++ = 0;
+    for (uint32_t i = 0; i < 2 * wide; i++)
+        to = put(to, first + i);
+    return to;
+}
+
+static uint8_t *put_gate_row(uint8_t *to, uint8_t kind, uint32_t net, uint32_t a, uint32_t b)
+{
+    for (uint32_t i = 0; i < wide; i++)
+        to = put_gate(to, net + i, kind, a + i, b + i);
+    return to;
+}
+
+uint16_t TUNED(fast_adder)(size_t width, uint8_t *out, size_t out_len, size_t *written, size_t *place)
+{
+    static const uint8_t carriers[] = {0x2B, 5, 0, 1, 2, 3, 4, 1, 7, 3, 1,    5, 0x0A, 2, 3, 2, 1, 6, 0x0B, 3,
+                                       3,    1, 0, 1, 7, 6, 3, 4, 5, 6, 0x2A, 3, 0,    1, 2, 1, 4, 2, 1,    3,
+                                       0x0A, 2, 1, 0, 1, 4, 5, 2, 2, 3};
+    struct shape spine = {1, 0, 0};
+    uint8_t *to = made, *count;
+    uint32_t trees = 0, n;
+
+    if (width - 1 > 63)
+        return end(place, 23, 0);
+    wide = n = (uint32_t)width;
+    *to++ = 4;
+    *to++ = 40;
+    to = put_carry_and_bits(to, n + 1);
+    *to++ = (uint8_t)(n + 1);
+    for (uint32_t i = 0; i < n; i++)
+        to = put(to, 5 * n + 1 + i);
+    to = put(put(to, n), 3 * n + 1);
+    to = put_gate_row(to, 9, 3 * n + 1, n + 1, 2 * n + 1);
+    to = put_gate_row(to, 10, 4 * n + 1, n + 1, 2 * n + 1);
+    to = put_range(to, 1, n);
+    *to++ = 41;
+    to = put_carry_and_bits(to, 3 * n + 1);
+    to = put_gate_row(to, 9, 5 * n + 1, 3 * n + 1, 0);
+    *to++ = 41;
+    to = put_carry_and_bits(to, n + 1);
+    to = put_range(to, 1, n);
+    count = to++;
+    while (leaves_of(spine) <= n)
+        spine.height++;
+    to = put_chain(to, spine, n, 0, &trees);
+    *count = (uint8_t)(2 * n - trees);
+    memcpy(to, carriers, sizeof carriers);
+    return give(to + sizeof carriers, out, out_len, written, place);
+}
+
 /* The wiring of counters is that of docs/COUNTER.md. */
 enum { NOT = 1, OR = 5, XOR = 9, AND = 10, NOR = 13, COUNTER = 32 };
 

@@ -24,6 +24,7 @@ uint16_t TUNED(count)(const uint8_t *file, size_t file_len, uint16_t number, uin
 uint16_t TUNED(flatten)(const uint8_t *file, size_t file_len, uint16_t number, uint32_t *scratch,
                         size_t scratch_len, uint8_t *out, size_t out_len, size_t *written, size_t *place);
 uint16_t TUNED(adder)(size_t width, uint8_t *out, size_t out_len, size_t *written, size_t *place);
+uint16_t TUNED(fast_adder)(size_t width, uint8_t *out, size_t out_len, size_t *written, size_t *place);
 uint16_t TUNED(counter)(size_t width, uint8_t *out, size_t out_len, size_t *written, size_t *place);
 
 #endif

@@ -81,6 +81,11 @@ uint16_t shelf_flatten(const uint8_t *file, size_t file_len, uint16_t number, ui
  * first. The file comes in the first *written bytes of out, at most 1,019. Refusals 23, 22. */
 uint16_t shelf_adder(size_t width, uint8_t *out, size_t out_len, size_t *written, size_t *place);
 
+/* Writes the file of the propagate-generate adder of that width: module 40, which gives on all values what module 18
+ * of the ripple adder gives, with a delay of at most 12 instead of 129 at 64. The file comes in the first *written
+ * bytes of out, at most 86 * width + 132 (3,746 at 64). Refusals 23, 22. */
+uint16_t shelf_fast_adder(size_t width, uint8_t *out, size_t out_len, size_t *written, size_t *place);
+
 /* Writes the file of the leading-zero counter of that width: module 32, low bits first. The file comes in the first
  * *written bytes of out. Refusals 23, 22. */
 uint16_t shelf_counter(size_t width, uint8_t *out, size_t out_len, size_t *written, size_t *place);

@@ -17,7 +17,7 @@
 enum { REFUSALS = 25, SCRATCH_MOST = 70000, OUT_MOST = 70000, VALUES_MOST = 1000 };
 
 static const char *const call_names[CALLS] = {"check", "modules", "number_at", "evaluate",
-                                              "count", "flatten", "adder",     "counter"};
+                                              "count", "flatten", "adder",     "fast_adder", "counter"};
 static long met[CALLS][REFUSALS];
 
 /* Flattened files that were counted, and counts of such of several levels, one by each reading. */
@@ -414,6 +414,20 @@ static void compare_adder(void)
     end_call_with_buffers();
 }
 
+static void compare_fast_adder(void)
+{
+    static uint8_t out[OUT_MOST];
+    size_t width = any_width(), right = 0, place;
+
+    plain_fast_adder(width, out, OUT_MOST, &right, &place);
+    begin_writer(FAST_ADDER, width, right);
+    ours.number =
+        shelf_fast_adder(width, lend(&our_out, given.out_len, NULL), given.out_len, &ours.result, &ours.place);
+    plain.number = plain_fast_adder(width, lend(&plain_out, given.out_len, NULL), given.out_len, &plain.result,
+                                    &plain.place);
+    end_call_with_buffers();
+}
+
 /* The bytes of a counter are the library's own; they have been judged once, and must come again. */
 static void compare_counter(void)
 {
@@ -430,6 +444,7 @@ static void compare_counter(void)
 void compare_writers(void)
 {
     compare_adder();
+    compare_fast_adder();
     compare_counter();
 }
 
@@ -439,7 +454,7 @@ static int can_give(enum call call, int number)
 {
     if (number == 0)
         return 1;
-    if (call == ADDER || call == COUNTER)
+    if (call == ADDER || call == FAST_ADDER || call == COUNTER)
         return number == 22 || number == 23;
     if (number <= 17)
         return 1;

@@ -5,7 +5,7 @@
 #include <stddef.h>
 #include <stdint.h>
 
-enum call { CHECK, MODULES, NUMBER_AT, EVALUATE, COUNT, FLATTEN, ADDER, COUNTER, CALLS };
+enum call { CHECK, MODULES, NUMBER_AT, EVALUATE, COUNT, FLATTEN, ADDER, FAST_ADDER, COUNTER, CALLS };
 
 void compare_start(uint64_t seed);
 void compare_case(long number); /* named in the report of a difference */
@@ -13,7 +13,7 @@ void compare_case(long number); /* named in the report of a difference */
 /* All calls on a file, with random module numbers, values and lengths near the right ones. */
 void compare_file(const uint8_t *bytes, size_t length);
 
-/* Both writers, with a random width and length. */
+/* All writers, with a random width and length. */
 void compare_writers(void);
 
 /* Prints how often each call gave each number; says whether every number that a call can give was met. */

@@ -6,6 +6,7 @@
  * always the same, so `--seed S --first i --cases 1` repeats it. Without a seed the clock gives one. */
 #include "compare.h"
 #include "counters.h"
+#include "fast_adders.h"
 #include "damage.h"
 #include "make.h"
 #include "random.h"
@@ -131,6 +132,7 @@ int main(int argc, char **argv)
     random_start(seed);
     check_rows();
     judge_counters();
+    judge_fast_adders();
     for (long i = 0; i < cases; i++)
         run_case(seed, first + i);
     if (!compare_summary() && cases >= ENOUGH) {

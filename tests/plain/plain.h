@@ -98,5 +98,6 @@ uint16_t plain_count(const uint8_t *file, size_t file_len, uint16_t number, uint
 uint16_t plain_flatten(const uint8_t *file, size_t file_len, uint16_t number, uint32_t *scratch, size_t scratch_len,
                        uint8_t *out, size_t out_len, size_t *written, size_t *place);
 uint16_t plain_adder(size_t width, uint8_t *out, size_t out_len, size_t *written, size_t *place);
+uint16_t plain_fast_adder(size_t width, uint8_t *out, size_t out_len, size_t *written, size_t *place);
 
 #endif

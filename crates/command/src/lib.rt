@@ -3,7 +3,7 @@
 mod asking; // asking.rt: check, list, count and run
 mod counted; // counted.rt: the figures of a module
 mod files; // files.rt: bytes in, bytes out
-mod making; // making.rt: flatten, adder and counter
+mod making; // making.rt: flatten, the adders and counter
 mod refusing; // refusing.rt: refusals in words
 mod saying; // saying.rt: lines, what could not be carried out, and the help
 mod words; // words.rt: the words of a command line
@@ -57,6 +57,8 @@ fn with_two(name: &[u8], first: &[u8], second: &[u8]) {
         asking::count(first, second);
     } else if is(name, b"adder") {
         making::adder(first, second);
+    } else if is(name, b"fast-adder") {
+        making::fast_adder(first, second);
     } else if is(name, b"counter") {
         making::counter(first, second);
     } else {

@@ -33,6 +33,17 @@ pub(crate) fn adder(width: &[u8], path: &[u8]) {
     }
 }
 
+pub(crate) fn fast_adder(width: &[u8], path: &[u8]) {
+    match crate::words::parse(width) {
+        Parsed::Other => crate::saying::not_a_number(width),
+        Parsed::Number(n) => {
+            let mut bytes = io::large_buffer();
+            let made = shelf::fast_adder(n as usize, &mut bytes);
+            keep(made, &bytes, path);
+        }
+    }
+}
+
 pub(crate) fn counter(width: &[u8], path: &[u8]) {
     match crate::words::parse(width) {
         Parsed::Other => crate::saying::not_a_number(width),

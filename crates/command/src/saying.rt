@@ -55,6 +55,8 @@ gimlet run FILE MODULE VALUES    the outputs of a module; values and outputs are
                                  be 3, which floats; x and z stand for 2 and 3
 gimlet flatten FILE MODULE OUT   writes the module as plain gates to the file OUT
 gimlet adder WIDTH OUT           writes an adder, width 1 to 64; its module is 18
+gimlet fast-adder WIDTH OUT      writes a propagate-generate adder, width 1 to 64; its
+                                 module is 40
 gimlet counter WIDTH OUT         writes a leading-zero counter, width 1 to 64; its
                                  module is 32
 gimlet help                      this text

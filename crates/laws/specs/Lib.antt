@@ -40,6 +40,8 @@ pub mod CallOutcomes
 pub mod Runs
 pub mod SameTail
 pub mod Adder
+pub mod WithinTests
+pub mod FastAdder
 pub mod Flatten
 pub mod NoneMissing
 pub mod Figures

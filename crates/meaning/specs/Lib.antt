@@ -19,6 +19,7 @@ pub mod Evaluation
 pub mod Heval
 pub mod Adder
 pub mod Counter
+pub mod FastAdder
 pub mod Figures
 pub mod Loads
 pub mod Leval

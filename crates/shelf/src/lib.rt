@@ -15,3 +15,4 @@ pub use call_door::number_at;
 pub use judged::check;
 pub use write_order::adder;
 pub use write_order::counter;
+pub use write_order::fast_adder;

@@ -1,7 +1,8 @@
-// Writers: adders and leading-zero counters to order. Nothing lent is touched before the call is sure to be answered: where the buffer may
+// Writers: adders, fast ones too, and leading-zero counters to order. Nothing lent is touched before the call is sure to be answered: where the buffer may
 // be too short for the file, its bytes are written into a list of the writer's own first.
 mod answer;
 mod order;
 
 pub use order::adder;
 pub use order::counter;
+pub use order::fast_adder;

@@ -1,0 +1,3 @@
+-- What the contracts of the look-ahead's writer cite, beside `meaning`.
+pub mod Carries
+pub mod Laid

@@ -1,0 +1,2 @@
+-- What the contracts on trees cite, beside `meaning`.
+pub mod Trees
