@@ -13,13 +13,15 @@
 #include <string.h>
 #include <time.h>
 
-enum { ROUNDS = 25, ROUND_NS = 2000000, MOST = 65536 };
+enum { ROUNDS = 25, ROUND_NS = 2000000, MOST = 65536, BLOCK = 1024, MOST_OUT = 192 * BLOCK };
 
 /* The calls of one side. */
 struct side {
     uint16_t (*check)(const uint8_t *, size_t, size_t *);
     uint16_t (*evaluate)(const uint8_t *, size_t, uint16_t, const uint8_t *, size_t, uint32_t *, size_t, uint8_t *,
                          size_t, size_t *, size_t *);
+    uint16_t (*evaluate_rows)(const uint8_t *, size_t, uint16_t, size_t, const uint8_t *, size_t, uint32_t *, size_t,
+                              uint8_t *, size_t, size_t *, size_t *);
     uint16_t (*count)(const uint8_t *, size_t, uint16_t, uint32_t *, size_t, uint32_t *, uint32_t *, size_t *);
     uint16_t (*flatten)(const uint8_t *, size_t, uint16_t, uint32_t *, size_t, uint8_t *, size_t, size_t *, size_t *);
     uint16_t (*adder)(size_t, uint8_t *, size_t, size_t *, size_t *);
@@ -27,15 +29,15 @@ struct side {
     uint16_t (*counter)(size_t, uint8_t *, size_t, size_t *, size_t *);
 };
 
-static const struct side ours = {shelf_check,   shelf_evaluate, shelf_count,
+static const struct side ours = {shelf_check,   shelf_evaluate, shelf_evaluate_rows, shelf_count,
                                  shelf_flatten, shelf_adder,    shelf_fast_adder, shelf_counter};
-static const struct side theirs = {tuned_check,   tuned_evaluate, tuned_count,
+static const struct side theirs = {tuned_check,   tuned_evaluate, tuned_evaluate_rows, tuned_count,
                                    tuned_flatten, tuned_adder,    tuned_fast_adder, tuned_counter};
 
 /* What a row works on, and what it leaves for comparison. */
 static struct bench_file file;
-static size_t width, inputs;
-static uint8_t values[256], out[MOST];
+static size_t width, inputs, rows;
+static uint8_t values[192 * BLOCK], out[MOST_OUT];
 static uint32_t scratch[MOST], figures[7], tally[16];
 static size_t written, place;
 
@@ -50,6 +52,28 @@ static uint16_t evaluate(const struct side *side)
 {
     return side->evaluate(file.bytes, file.length, file.module, values, inputs, scratch, MOST, out, MOST, &written,
                           &place);
+}
+
+static uint16_t evaluate_block(const struct side *side)
+{
+    return side->evaluate_rows(file.bytes, file.length, file.module, rows, values, rows * inputs, scratch, MOST, out,
+                               MOST_OUT, &written, &place);
+}
+
+/* Each row of the block by a call of its own. */
+static uint16_t evaluate_each(const struct side *side)
+{
+    size_t at = 0;
+
+    for (size_t i = 0; i < rows; i++, at += written) {
+        uint16_t refused = side->evaluate(file.bytes, file.length, file.module, values + i * inputs, inputs, scratch,
+                                          MOST, out + at, MOST_OUT - at, &written, &place);
+
+        if (refused != 0)
+            return refused;
+    }
+    written = at;
+    return 0;
 }
 
 static uint16_t count(const struct side *side)
@@ -142,7 +166,7 @@ static struct pair measure(task *run)
 /* Both sides must answer, and alike. */
 static void agree(task *run, const char *name)
 {
-    static uint8_t our_out[MOST];
+    static uint8_t our_out[MOST_OUT];
     uint32_t our_figures[7];
     size_t our_written;
     uint16_t refused;
@@ -206,10 +230,17 @@ static void evaluate_rows(void)
     row_on("evaluate", written_adder(1), evaluate, 0, "");
     inputs = 129;
     row_on("evaluate", written_adder(64), evaluate, 512, "n occurrence");
+    rows = 1;
+    row_on("1 row", written_adder(64), evaluate_block, 512, "n occurrence");
+    rows = BLOCK;
+    row_on("1,024 rows", written_adder(64), evaluate_block, BLOCK, " row");
+    row_on("row by row", written_adder(64), evaluate_each, BLOCK, " row");
     inputs = 2;
     row_on("evaluate", full_size(), evaluate, 65535, "n occurrence");
     inputs = 16;
     row_on("evaluate", one_module(), evaluate, 4080, "n occurrence");
+    row_on("1,024 rows", one_module(), evaluate_block, BLOCK, " row");
+    row_on("row by row", one_module(), evaluate_each, BLOCK, " row");
 }
 
 static void count_rows(void)

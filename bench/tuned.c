@@ -13,6 +13,8 @@ enum {
     NETS = 4096,
     OCCURRENCES = 4096,
     SIZE = 65535,
+    ROWS = 1024,
+    BLOCK = 256, /* rows in one walk */
     GATES = 16,
     ROOM = 40959 /* at most so in a good file, which lists every net of every frame */
 };
@@ -469,6 +471,208 @@ uint16_t TUNED(evaluate)(const uint8_t *file, size_t file_len, uint16_t number, 
         out[i] = frame_values[output_slots[k][i]];
     memset(scratch, 0, m->room * sizeof *scratch);
     *written = m->outs;
+    return 0;
+}
+
+/* ---- rows, a block of 256 in one walk: a bit for each row says whether a net is surely 1, another whether it may be */
+
+struct rails {
+    uint64_t sure[4], may[4];
+};
+
+static struct rails frame_rails[ROOM];
+
+static inline struct rails rails_and(struct rails a, struct rails b)
+{
+    for (int i = 0; i < 4; i++) {
+        a.sure[i] &= b.sure[i];
+        a.may[i] &= b.may[i];
+    }
+    return a;
+}
+
+static inline struct rails rails_or(struct rails a, struct rails b)
+{
+    for (int i = 0; i < 4; i++) {
+        a.sure[i] |= b.sure[i];
+        a.may[i] |= b.may[i];
+    }
+    return a;
+}
+
+static inline struct rails rails_not(struct rails a)
+{
+    struct rails r;
+
+    for (int i = 0; i < 4; i++) {
+        r.sure[i] = ~a.may[i];
+        r.may[i] = ~a.sure[i];
+    }
+    return r;
+}
+
+static inline struct rails rails_xor(struct rails a, struct rails b)
+{
+    return rails_or(rails_and(a, rails_not(b)), rails_and(rails_not(a), b));
+}
+
+static struct rails rails_at_gate(uint32_t kind, const struct rails *frame, const uint16_t *at)
+{
+    struct rails r = frame[at[0]];
+
+    switch (kind) {
+    case 0:
+        return r;
+    case 1:
+        return rails_not(r);
+    case 4:
+    case 12:
+        r = rails_and(r, frame[at[3]]); /* fall through */
+    case 3:
+    case 11:
+        r = rails_and(r, frame[at[2]]); /* fall through */
+    case 2:
+    case 10:
+        r = rails_and(r, frame[at[1]]);
+        return kind < 5 ? rails_not(r) : r;
+    case 7:
+    case 15:
+        r = rails_or(r, frame[at[3]]); /* fall through */
+    case 6:
+    case 14:
+        r = rails_or(r, frame[at[2]]); /* fall through */
+    case 5:
+    case 13:
+        r = rails_or(r, frame[at[1]]);
+        return kind > 12 ? rails_not(r) : r;
+    case 8:
+        return rails_not(rails_xor(r, frame[at[1]]));
+    default:
+        return rails_xor(r, frame[at[1]]);
+    }
+}
+
+static void run_rails(uint32_t k, struct rails *frame)
+{
+    const struct module *m = &modules[k];
+    const uint16_t *at = image + m->image;
+    struct rails *next = frame + m->ins, *inner_frame = frame + m->nets;
+
+    for (uint32_t i = 0; i < m->runs; i++) {
+        uint32_t refers = *at++;
+
+        if (refers < GATES) {
+            *next++ = rails_at_gate(refers, frame, at);
+            at += arity[refers];
+        } else {
+            uint32_t inner = refers - GATES, ins = modules[inner].ins, outs = modules[inner].outs;
+
+            for (uint32_t j = 0; j < ins; j++)
+                inner_frame[j] = frame[*at++];
+            run_rails(inner, inner_frame);
+            for (uint32_t j = 0; j < outs; j++)
+                *next++ = inner_frame[output_slots[inner][j]];
+        }
+    }
+}
+
+/* Up to 64 rows into a word of each rail of each input: eight rows into a byte, from the last to the first. */
+static void pack_word(const uint8_t *values, uint32_t ins, size_t rows, int word)
+{
+    for (uint32_t j = 0; j < ins; j++)
+        frame_rails[j].sure[word] = frame_rails[j].may[word] = 0;
+    for (size_t left = rows; left > 0;) {
+        size_t some = (left - 1) % 8 + 1;
+        uint8_t sure[LIST] = {0}, may[LIST] = {0};
+
+        left -= some;
+        for (size_t r = some; r-- > 0;) {
+            const uint8_t *row = values + (left + r) * ins;
+
+            for (uint32_t j = 0; j < ins; j++) {
+                sure[j] = (uint8_t)(sure[j] << 1 | (row[j] == 1));
+                may[j] = (uint8_t)(may[j] << 1 | (row[j] != 0));
+            }
+        }
+        for (uint32_t j = 0; j < ins; j++) {
+            frame_rails[j].sure[word] = frame_rails[j].sure[word] << 8 | sure[j];
+            frame_rails[j].may[word] = frame_rails[j].may[word] << 8 | may[j];
+        }
+    }
+}
+
+static void unpack(const uint16_t *slots, uint32_t outs, size_t rows, uint8_t *out)
+{
+    for (size_t from = 0; from < rows; from += 8) {
+        size_t some = rows - from < 8 ? rows - from : 8;
+        uint8_t sure[LIST], may[LIST];
+
+        for (uint32_t j = 0; j < outs; j++) {
+            sure[j] = (uint8_t)(frame_rails[slots[j]].sure[from / 64] >> from % 64);
+            may[j] = (uint8_t)(frame_rails[slots[j]].may[from / 64] >> from % 64);
+        }
+        for (size_t r = 0; r < some; r++, out += outs)
+            for (uint32_t j = 0; j < outs; j++)
+                out[j] = (uint8_t)((may[j] >> r & 1) * 2 - (sure[j] >> r & 1));
+    }
+}
+
+static size_t at_most(size_t a, size_t b)
+{
+    return a < b ? a : b;
+}
+
+static size_t first_above(const uint8_t *values, size_t count)
+{
+    uint8_t most = 0;
+    size_t i = 0;
+
+    for (size_t j = 0; j < count; j++)
+        most = values[j] > most ? values[j] : most;
+    if (most <= 3)
+        return count;
+    while (values[i] <= 3)
+        i++;
+    return i;
+}
+
+uint16_t TUNED(evaluate_rows)(const uint8_t *file, size_t file_len, uint16_t number, size_t rows,
+                              const uint8_t *values, size_t values_len, uint32_t *scratch, size_t scratch_len,
+                              uint8_t *out, size_t out_len, size_t *written, size_t *place)
+{
+    uint16_t no = open_file(file, file_len, place);
+    const struct module *m;
+    size_t above;
+    int k;
+
+    if (no != 0)
+        return no;
+    if ((k = find(number)) < 0)
+        return end(place, 18, 0);
+    m = &modules[k];
+    if (rows > ROWS)
+        return end(place, 27, 0);
+    if (values_len != rows * m->ins)
+        return end(place, 19, 0);
+    if ((above = first_above(values, values_len)) < values_len)
+        return end(place, 20, above);
+    if (scratch_len < m->room)
+        return end(place, 21, 0);
+    if (out_len < rows * m->outs)
+        return end(place, 22, 0);
+    for (size_t done = 0; done < rows; done += BLOCK) {
+        size_t some = at_most(rows - done, BLOCK);
+
+        for (size_t word = 0; word < 4; word++) {
+            size_t from = at_most(64 * word, some);
+
+            pack_word(values + (done + from) * m->ins, m->ins, at_most(some - from, 64), (int)word);
+        }
+        run_rails((uint32_t)k, frame_rails);
+        unpack(output_slots[k], m->outs, some, out + done * m->outs);
+    }
+    memset(scratch, 0, m->room * sizeof *scratch);
+    *written = rows * m->outs;
     return 0;
 }
 

@@ -7,8 +7,8 @@
  * entries. A pointer must be good for that many entries, also where the length is 0 it must not be a null pointer,
  * and no two buffers of one call may overlap. `file` and `values` are only read.
  *
- * What comes back. Every function returns 0 for an answer, or the number of a refusal, 1 to 24. `*place` gets 0 with
- * an answer and the refusal's place with a refusal:
+ * What comes back. Every function returns 0 for an answer, or the number of a refusal, 1 to 24 or 27. `*place` gets
+ * 0 with an answer and the refusal's place with a refusal:
  *
  *    1  the file is over 65,535 bytes                        0
  *    2  the file ends where a byte is due                    the file's length
@@ -34,6 +34,7 @@
  *   22  the output buffer is shorter than the answer         0
  *   23  the width is outside 1 to 64                         0
  *   24  flattening needs more than 4,096 nets                0
+ *   27  more than 1,024 rows                                 0
  *
  * What a call leaves. A refusal writes `*place` and nothing else that was lent: no buffer, and none of `*written`,
  * `*modules`, `*number`, `figures`, `tally`. An answer writes `*place` and what was asked for; it fills the first bytes
@@ -66,6 +67,17 @@ uint16_t shelf_number_at(const uint8_t *file, size_t file_len, size_t position, 
 uint16_t shelf_evaluate(const uint8_t *file, size_t file_len, uint16_t number, const uint8_t *values,
                         size_t values_len, uint32_t *scratch, size_t scratch_len, uint8_t *out, size_t out_len,
                         size_t *written, size_t *place);
+
+/* Runs the module of that number on a block of rows at once, as many as `rows` says, at most 1,024. The rows of values
+ * lie end to end in values, so that values_len is rows times the inputs, and the rows of outputs come end to end in
+ * the first bytes of out, each as shelf_evaluate gives it for its row alone; *written is how many outputs there are
+ * in all. With no rows nothing is written to out, and scratch is asked for and left as for one row. It takes 64 bytes
+ * of stack for each of 256, 2,048, 8,192 or 65,536 entries, the fewest that the module's room fits in.
+ * Refusals 1 to 17, then 18, 27, 19 where values_len is not rows times the inputs, 20 with the index in all of values,
+ * 21, 22 where out is shorter than all rows of outputs. */
+uint16_t shelf_evaluate_rows(const uint8_t *file, size_t file_len, uint16_t number, size_t rows,
+                             const uint8_t *values, size_t values_len, uint32_t *scratch, size_t scratch_len,
+                             uint8_t *out, size_t out_len, size_t *written, size_t *place);
 
 /* Counts the module of that number. figures: inputs, outputs, gates, expanded size, room, delay, largest load.
  * tally: how many gates of each kind, in gate order; their sum is the gates. Refusals 1 to 17, then 18, 21. */

@@ -14,9 +14,10 @@
 #include <stdlib.h>
 #include <string.h>
 
-enum { REFUSALS = 25, SCRATCH_MOST = 70000, OUT_MOST = 70000, VALUES_MOST = 1000 };
+/* A block of 1,024 rows of 192 values or outputs each is the largest, with some to spare. */
+enum { REFUSALS = 28, SCRATCH_MOST = 70000, OUT_MOST = 200000, VALUES_MOST = 200000 };
 
-static const char *const call_names[CALLS] = {"check", "modules", "number_at", "evaluate",
+static const char *const call_names[CALLS] = {"check", "modules", "number_at", "evaluate", "rows",
                                               "count", "flatten", "adder",     "fast_adder", "counter"};
 static long met[CALLS][REFUSALS];
 
@@ -30,7 +31,7 @@ static struct lender file_lender, values_lender, our_scratch, plain_scratch, our
 struct given {
     enum call call;
     uint16_t number;
-    size_t position, width, values_len, scratch_len, out_len;
+    size_t position, width, rows, values_len, scratch_len, out_len;
 };
 
 struct outcome {
@@ -70,8 +71,8 @@ void report(const char *what)
 {
     printf("DIFFERENCE: %s\nseed %llu case %ld call %s\n", what, (unsigned long long)seed, case_number,
            call_names[given.call]);
-    printf("module %u position %zu width %zu values %zu scratch %zu out %zu\n", given.number, given.position,
-           given.width, given.values_len, given.scratch_len, given.out_len);
+    printf("module %u position %zu width %zu rows %zu values %zu scratch %zu out %zu\n", given.number, given.position,
+           given.width, given.rows, given.values_len, given.scratch_len, given.out_len);
     print_outcome("library", &ours);
     print_outcome("plain  ", &plain);
     dump("values", values, given.values_len);
@@ -208,6 +209,27 @@ static void compare_evaluate(uint16_t number, size_t values_len, size_t scratch_
     if (memcmp(lent_values, values, values_len) != 0 || !guard_kept(&values_lender, values_len))
         report("the values were changed");
     note_highest(values_len);
+    end_call_with_buffers();
+}
+
+static void compare_rows(uint16_t number, size_t rows, size_t values_len, size_t scratch_len, size_t out_len)
+{
+    const uint8_t *lent_values = lend(&values_lender, values_len, values);
+
+    begin(EVALUATE_ROWS);
+    given.number = number;
+    given.rows = rows;
+    given.values_len = values_len;
+    given.scratch_len = scratch_len;
+    given.out_len = out_len;
+    ours.number = shelf_evaluate_rows(lent_file, file_len, number, rows, lent_values, values_len,
+                                      lend_scratch(&our_scratch), scratch_len, lend(&our_out, out_len, NULL),
+                                      out_len, &ours.result, &ours.place);
+    plain.number = plain_evaluate_rows(file, file_len, number, rows, values, values_len,
+                                       lend_scratch(&plain_scratch), scratch_len, lend(&plain_out, out_len, NULL),
+                                       out_len, &plain.result, &plain.place);
+    if (memcmp(lent_values, values, values_len) != 0 || !guard_kept(&values_lender, values_len))
+        report("the values were changed");
     end_call_with_buffers();
 }
 
@@ -349,6 +371,34 @@ static struct right right_lengths(uint16_t number)
     return (struct right){figures[0], figures[1], figures[4], flat};
 }
 
+/* None, one, a few, the most, one more, or any number at all. Many rows are for modules that run fast. */
+static size_t choose_rows(int fast)
+{
+    int roll = below(100);
+
+    if (roll < 10)
+        return 0;
+    if (roll < 25)
+        return 1;
+    if (roll < 80)
+        return (size_t)between(2, 9);
+    if (roll < 92)
+        return (size_t)(fast ? between(10, 600) : 10);
+    if (roll < 95)
+        return fast ? 1024 : 10;
+    return roll < 98 ? 1025 : (size_t)random_word();
+}
+
+/* A block whose buffers are those of its rows, or of the most rows where it has too many, now and then off by some. */
+static void compare_block(uint16_t number, struct right right)
+{
+    size_t rows = choose_rows(right.flat < 2000), laid = rows <= 1025 ? rows : 2;
+    size_t values_len = percent(90) ? laid * right.inputs : near(laid * right.inputs);
+
+    choose_values(values_len);
+    compare_rows(number, rows, values_len, near(right.room), near(laid * right.outputs));
+}
+
 static void compare_module_calls(size_t modules)
 {
     uint16_t number = choose_number(modules);
@@ -357,6 +407,7 @@ static void compare_module_calls(size_t modules)
 
     choose_values(values_len);
     compare_evaluate(number, values_len, near(right.room), near(right.outputs));
+    compare_block(number, right);
     compare_count(number, near(right.room));
     compare_flatten(number, near(right.room), near(right.flat));
     compare_flattened(number);
@@ -463,6 +514,8 @@ static int can_give(enum call call, int number)
         return number == 18;
     case EVALUATE:
         return number <= 22;
+    case EVALUATE_ROWS:
+        return number <= 22 || number == 27;
     case COUNT:
         return number == 18 || number == 21;
     case FLATTEN:
@@ -470,6 +523,14 @@ static int can_give(enum call call, int number)
     default:
         return 0;
     }
+}
+
+static int any_can_give(int number)
+{
+    for (int call = 0; call < CALLS; call++)
+        if (can_give((enum call)call, number))
+            return 1;
+    return 0;
 }
 
 int compare_summary(void)
@@ -481,6 +542,8 @@ int compare_summary(void)
         printf(" %10s", call_names[call]);
     printf("\n");
     for (int number = 0; number < REFUSALS; number++) {
+        if (!any_can_give(number))
+            continue;
         printf("%-8d", number);
         for (int call = 0; call < CALLS; call++) {
             if (!can_give((enum call)call, number)) {

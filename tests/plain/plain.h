@@ -15,6 +15,7 @@ enum {
     MOST_OCCURRENCES = 4096,
     MOST_NETS = 4096,
     MOST_SIZE = 65535,
+    MOST_ROWS = 1024,
     NET_NUMBERS = 16384, /* numbers are 0 to 16,383 */
     KINDS = 16           /* gates are 0 to 15, modules from 16 up */
 };
@@ -65,6 +66,9 @@ typedef uint32_t gate_rule(void *state, int kind, const uint32_t *arguments);
 void plain_run(const struct file *file, int position, const uint32_t *inputs, uint32_t *outputs, gate_rule *gate,
                void *state);
 
+/* evaluate.c: a module's outputs for one value for each input */
+void plain_outputs(const struct file *file, int position, const uint8_t *values, uint8_t *outputs);
+
 /* figures.c: figures of an accepted file's module */
 struct figures {
     uint32_t gates, room, load;
@@ -93,6 +97,9 @@ uint16_t plain_number_at(const uint8_t *file, size_t file_len, size_t position, 
 uint16_t plain_evaluate(const uint8_t *file, size_t file_len, uint16_t number, const uint8_t *values,
                         size_t values_len, uint32_t *scratch, size_t scratch_len, uint8_t *out, size_t out_len,
                         size_t *written, size_t *place);
+uint16_t plain_evaluate_rows(const uint8_t *file, size_t file_len, uint16_t number, size_t rows,
+                             const uint8_t *values, size_t values_len, uint32_t *scratch, size_t scratch_len,
+                             uint8_t *out, size_t out_len, size_t *written, size_t *place);
 uint16_t plain_count(const uint8_t *file, size_t file_len, uint16_t number, uint32_t *scratch, size_t scratch_len,
                      uint32_t figures[7], uint32_t tally[16], size_t *place);
 uint16_t plain_flatten(const uint8_t *file, size_t file_len, uint16_t number, uint32_t *scratch, size_t scratch_len,

@@ -12,7 +12,7 @@ use Rattle.answers.specs.Contents.{listedOf, namedOf}
 use Rattle.call_door.specs.declared.asks.Ask.{Ask}
 use Rattle.call_door.specs.declared.asks.Ask.the-variants.{Modules, NumberAt, Of}
 use Rattle.call_door.specs.declared.asks.Task.{Task}
-use Rattle.call_door.specs.declared.asks.Task.the-variants.{Evaluate, Own}
+use Rattle.call_door.specs.declared.asks.Task.the-variants.{Evaluate, Rows, Own}
 use Rattle.call_door.specs.declared.asks.Own.the-variants.{Count, Flatten}
 use Rattle.call_door.specs.declared.asks.Sheet.{Sheet}
 use Rattle.call_door.specs.Asks.{refusedSheet, Result, decides, Gives, Meets}
@@ -20,6 +20,7 @@ use Rattle.call_door.specs.Asks.{refusedSheet, Result, decides, Gives, M
 module _ (n p : ℕ) (scratch out : List ℕ) where
   plainly : (task : Task) → Gives task (refusal n p) scratch out scratch out (refusedSheet n p)
   plainly Evaluate = record { answered = record { is = refl; out = refl }; scratched = refl }
+  plainly (Rows rows) = record { answered = record { is = refl; out = refl }; scratched = refl }
   plainly (Own Count) = record { is = refl; scratch = refl }
   plainly (Own Flatten) = record { answered = record { is = refl; out = refl }; scratched = refl }
 

@@ -4,6 +4,7 @@ use mathlib.Core.Path.{_≡_, sym, subst}
 use mathlib.Core.List.{List}
 use lib.ListN.{length}
 use Rattle.meaning.specs.Calls.{evaluationOn, countingOn, flatteningOn}
+use Rattle.meaning.specs.Rows.{rowsEvaluationOn}
 use Rattle.answers.specs.Settled.{Settles}
 use Rattle.answers.specs.declared.Writing.{Writing}
 use Rattle.call_count.specs.Answers.{Counts}
@@ -11,7 +12,7 @@ use Rattle.call_count.specs.declared.answers.Counted.{Counted}
 use Rattle.open_finding.specs.Standing.{Standing}
 use Rattle.open_finding.specs.declared.Site.{Site}
 use Rattle.call_door.specs.declared.asks.Task.{Task}
-use Rattle.call_door.specs.declared.asks.Task.the-variants.{Evaluate, Own}
+use Rattle.call_door.specs.declared.asks.Task.the-variants.{Evaluate, Rows, Own}
 use Rattle.call_door.specs.declared.asks.Own.{Own as Kind}
 use Rattle.call_door.specs.declared.asks.Own.the-variants.{Count, Flatten}
 use Rattle.call_door.specs.declared.asks.Sheet.{Sheet}
@@ -33,6 +34,11 @@ module _ {image starts nets : List ℕ} {site : Site} (s : Standing image starts
         → Settles (evaluationOn (site .number) values (length scratch) (length out) (s .ms) (s .found .m)) scratch out scratch′ out′ w
         → Done task (site .number) values scratch out (s .ms) (s .found .m) scratch′ out′ r
     evaluates is written settles = told Evaluate is (record { done = rw written settles })
+
+    pub evaluates-rows : {w : Writing} (rows : ℕ) → task ≡ Rows rows → r .writing ≡ w
+        → Settles (rowsEvaluationOn (site .number) rows values (length scratch) (length out) (s .ms) (s .found .m)) scratch out scratch′ out′ w
+        → Done task (site .number) values scratch out (s .ms) (s .found .m) scratch′ out′ r
+    evaluates-rows rows is written settles = told (Rows rows) is (record { done = rw written settles })
 
     pub counts : {c : Counted} → task ≡ Own Count → r .counted ≡ c
         → Counts (countingOn (site .number) (length scratch) (s .ms) (s .found .m)) scratch scratch′ c

@@ -6,6 +6,7 @@ use lib.ListN.{length}
 use Rattle.meaning.specs.Syntax.{Module}
 use Rattle.meaning.specs.Boxlist.{assoc}
 use Rattle.meaning.specs.Calls.{Decision, onFile, onModule, Written, Figures, evaluationOn, countingOn, flatteningOn, moduleCount, numberAt}
+use Rattle.meaning.specs.Rows.{rowsEvaluationOn}
 use Rattle.answers.specs.Settled.{Settles}
 use Rattle.answers.specs.declared.Writing.the-variants as writing
 use Rattle.call_count.specs.Answers.{Counts, refusedWith}
@@ -16,7 +17,7 @@ use Rattle.open_finding.specs.declared.Site.{Site}
 use Rattle.call_door.specs.declared.asks.Ask.{Ask}
 use Rattle.call_door.specs.declared.asks.Ask.the-variants.{Modules, NumberAt, Of}
 use Rattle.call_door.specs.declared.asks.Task.{Task}
-use Rattle.call_door.specs.declared.asks.Task.the-variants.{Evaluate, Own}
+use Rattle.call_door.specs.declared.asks.Task.the-variants.{Evaluate, Rows, Own}
 use Rattle.call_door.specs.declared.asks.Own.{Own as Kind}
 use Rattle.call_door.specs.declared.asks.Own.the-variants.{Count, Flatten}
 use Rattle.call_door.specs.declared.asks.Sheet.{Sheet}
@@ -39,18 +40,21 @@ InShort Flatten site = (site .size ≤ 832) × (site .room ≤ 1024)
 -- What is asked of a module comes to one of these,
 abbrev pub Result : Task → Type 0
 Result Evaluate = Written
+Result (Rows rows) = Written
 Result (Own Count) = Figures
 Result (Own Flatten) = Written
 
 -- decided so once the module is found,
 abbrev pub decides : (task : Task) (number : ℕ) (values : List ℕ) (scratch out : ℕ) (ms : List Module) → Module → Decision (Result task)
 decides Evaluate number values scratch out ms m = evaluationOn number values scratch out ms m
+decides (Rows rows) number values scratch out ms m = rowsEvaluationOn number rows values scratch out ms m
 decides (Own Count) number values scratch out ms m = countingOn number scratch ms m
 decides (Own Flatten) number values scratch out ms m = flatteningOn number scratch out ms m
 
 -- and given so.
 abbrev pub Gives : (task : Task) → Decision (Result task) → (scratch out scratch′ out′ : List ℕ) → Sheet → Type 0
 Gives Evaluate d scratch out scratch′ out′ r = Settles d scratch out scratch′ out′ (r .writing)
+Gives (Rows rows) d scratch out scratch′ out′ r = Settles d scratch out scratch′ out′ (r .writing)
 Gives (Own Count) d scratch out scratch′ out′ r = Counts d scratch scratch′ (r .counted)
 Gives (Own Flatten) d scratch out scratch′ out′ r = Settles d scratch out scratch′ out′ (r .writing)
 

@@ -15,6 +15,7 @@ pub enum Own {
 // What is asked of a module.
 pub enum Task {
     Evaluate,
+    Rows(usize),
     Own(Own),
 }
 

@@ -15,6 +15,7 @@ ghost use lib.ListN.{length};
 ghost use Rattle.meaning.specs.Calls.{counting, flattening, moduleCount, numberAt};
 ghost use Rattle.answers.specs.Settled.{Settles};
 ghost use Rattle.call_evaluate.specs.Evaluates.{Evaluates};
+ghost use Rattle.call_rows.specs.Blocks.{EvaluatesRows};
 ghost use Rattle.call_count.specs.Answers.{Counts};
 ghost use Rattle.answers.specs.Contents.{listedOf, namedOf};
 
@@ -49,6 +50,27 @@ pub fn evaluate(
     ensures { λ r. ⌜ Evaluates (now (file .entry)) number (now (values .entry)) (now (scratch .entry)) (now (out .entry)) (now (scratch .exit)) (now (out .exit)) r ⌝ }
 {
     let sheet = crate::opening::answer(Ask::Of(Task::Evaluate, number), file, values, scratch, out);
+    sheet.writing
+}
+
+// The outputs of the module of a number for rows of values, row by row.
+pub fn evaluate_rows(
+    file: &[u8],
+    number: u16,
+    rows: usize,
+    values: &[u8],
+    scratch: &mut [u32],
+    out: &mut [u8],
+) -> Writing
+    ensures { λ r. ⌜ EvaluatesRows (now (file .entry)) number rows (now (values .entry)) (now (scratch .entry)) (now (out .entry)) (now (scratch .exit)) (now (out .exit)) r ⌝ }
+{
+    let sheet = crate::opening::answer(
+        Ask::Of(Task::Rows(rows), number),
+        file,
+        values,
+        scratch,
+        out,
+    );
     sheet.writing
 }
 

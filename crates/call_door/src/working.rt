@@ -119,6 +119,16 @@ pub(crate) fn work_at(
             scratch,
             out,
         )),
+        Task::Rows(rows) => crate::asks::wrote(call_rows::rows_at(
+            image,
+            starts,
+            nets,
+            site,
+            rows,
+            values,
+            scratch,
+            out,
+        )),
         Task::Own(own) => {
             if 1024 < image.len() {
                 return own_long(own, image, starts, nets, site, scratch, out);

@@ -6,7 +6,7 @@ ghost use Rattle.answers.specs.Settled.{Settles};
 ghost use Rattle.meaning.specs.Calls.{evaluationOn};
 ghost use Rattle.open_finding.specs.Standing.{Standing};
 
-mod values;
+pub mod values;
 
 // Refusals 19 to 22 in their order, then the run, of a module that stands in the image.
 pub fn evaluate_at(

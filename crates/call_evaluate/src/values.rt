@@ -6,7 +6,7 @@ ghost use Rattle.meaning.specs.Calls.{firstAbove};
 const FLOATING: u8 = 3;
 
 // The index of the first value above it, or the count of values where there is none.
-pub(crate) fn first_above(values: &[u8]) -> usize
+pub fn first_above(values: &[u8]) -> usize
     ensures { λ r. ⌜ r ≡ firstAbove (now (values .entry)) ⌝ }
 {
     let mut i = 0;

@@ -21,6 +21,7 @@ use Rattle.gates.specs.declared.Kind.the-variants.{Gate, Module}
 pub record GateIs (number : ℕ) (rule : Rule) (arity : ℕ) : Type 0 where
   pub below : number < 16
   pub arity-is : arity ≡ gate number .arity
+  pub on-values : (vs : List Val) → resultOf rule (firsts (known false) arity vs) ≡ gateValue number vs
   pub value-is : (xs : List ℕ) → length xs ≡ arity → code (resultOf rule (map value xs)) ≡ gateCode number xs
 
 gate-is : (number : ℕ) → number < 16 → GateIs number (getD rules number And) (gate number .arity)
@@ -29,6 +30,7 @@ gate-is number below =
     record {
       below = below;
       arity-is = refl;
+      on-values = by-rule;
       value-is = λ xs count.
           ap code
           (ap (resultOf (getD rules number And))

@@ -1,6 +1,6 @@
--- What comes of a call's own rules, 18 to 24, in their order, on the modules of a file: the decision of the call is refused by the
+-- What comes of a call's own rules, 18 to 27, in their order, on the modules of a file: the decision of the call is refused by the
 -- first that is broken, and answered where none is.
-use Prim.Native.Nat.{ℕ, suc, _+_, _≤_, _<_}
+use Prim.Native.Nat.{ℕ, suc, _+_, _*_, _≤_, _<_}
 use native.Mathlib.Omega.{arith}
 use mathlib.Core.Logic.{_⊎_, inl, inr, _≢_}
 use mathlib.Core.Path.{_≡_, refl, ap}
@@ -18,7 +18,8 @@ use Rattle.meaning.specs.Limits.{mostModuleNets}
 use Rattle.meaning.specs.Rules.{Rule, rule, numbers, Outcome, allKept, broken, kept}
 use Rattle.meaning.specs.Figures.{gateCount, room}
 use Rattle.meaning.specs.Calls.{Decision, demand, onModule, firstAbove, evaluationOn, flatFile, flatteningOn, figuresOn, answer, Written, writing}
-use Rattle.meaning.specs.CallRules.{came, toEvaluate, toCount, toFlatten, Lent, valueRules, callRules, writerRules}
+use Rattle.meaning.specs.Rows.{mostRows, rowsEvaluationOn}
+use Rattle.meaning.specs.CallRules.{came, toEvaluate, toCount, toFlatten, toRows, Lent, valueRules, callRules, writerRules}
 use Rattle.laws.specs.Tests.{Tells, tells-true, tells-false, tells, if-true, if-false, eqb-tells, leb-tells}
 use Rattle.laws.specs.Finding.{found-tells}
 use Rattle.laws.specs.Refusals.{within-tells}
@@ -117,6 +118,21 @@ module _ (ms : List Module) (lent : Lent) where
       (demand-outcome _ (within-tells (room ms number) (length (lent .scratch)))
       (demand-outcome _ (within-tells (length (flatFile ms number m)) (length (lent .out)))
       allKept)))
+
+  pub rows-outcome :
+      (number rows : ℕ) (values : List ℕ)
+      → Outcome (callRules (toRows number rows values) lent ms)
+      (came (onModule (assoc number ms) (rowsEvaluationOn number rows values (length (lent .scratch)) (length (lent .out)) ms)))
+  unfolding callRules
+  rows-outcome number rows values =
+      module-outcome number ms _ λ m found.
+      rw found
+      (demand-outcome _ (within-tells rows mostRows)
+      (demand-outcome _ (count-tells (length values) (rows * length (m .inputs)))
+      (values-outcome 0 _ values _ (omega arith)
+      (demand-outcome _ (within-tells (room ms number) (length (lent .scratch)))
+      (demand-outcome _ (within-tells (rows * length (m .outputs)) (length (lent .out)))
+      allKept)))))
 
 -- The writers' own: 23, made of two tests, and 22.
 pub writing-outcome :

@@ -1,6 +1,6 @@
 -- What it tells that a call is answered: every condition on the way was met. And what a call on a module comes to.
 use Prim.Native.Nat.{ℕ}
-use mathlib.Core.Path.{_≡_, refl}
+use mathlib.Core.Path.{_≡_, refl, ap}
 use mathlib.Core.Bool.{Bool, true, false}
 use mathlib.Core.List.{List}
 use native.Mathlib.Omega.{arith}
@@ -32,6 +32,13 @@ module _ {R : Type 0} where
       (number place : ℕ) (b : Bool) {next : Decision R} {r : R} → demand number place b next ≡ answer r → Met b next r
   demand-met number place true h = record { met = refl; answered = h }
   demand-met number place false h = absurd (refusal-no-answer h)
+
+  -- A demand leads to the same where what follows is the same once it is met.
+  pub demand-alike :
+      (number place : ℕ) (b : Bool) {next next′ : Decision R} → (b ≡ true → next ≡ next′)
+      → demand number place b next ≡ demand number place b next′
+  demand-alike number place true alike = alike refl
+  demand-alike number place false alike = refl
 
   -- What is asked of a number's module, through the file and its modules.
   abbrev pub onNumber : (file : List ℕ) (number : ℕ) → (List Module → Module → Decision R) → Decision R
@@ -84,3 +91,21 @@ module _ {R : Type 0} where
       → onNumber file number ask ≡ ask ms m
   unfolding onFile
   asked-here ask here = rw (here .reads, here .accepted, here .found)
+
+  -- Calls that ask the same of every module come to the same.
+  pub asked-alike :
+      (file : List ℕ) (number : ℕ) {ask ask′ : List Module → Module → Decision R}
+      → ((ms : List Module) (m : Module) → ask ms m ≡ ask′ ms m)
+      → onNumber file number ask ≡ onNumber file number ask′
+  unfolding onFile
+  asked-alike file number {ask} {ask′} alike = reading (read file)
+    where
+      finding : (ms : List Module) (found : Found) → onModule found (ask ms) ≡ onModule found (ask′ ms)
+      finding ms (box m) = alike ms m
+      finding ms F = refl
+
+      reading :
+          (f : File)
+          → onRead f (λ ms. onModule (assoc number ms) (ask ms)) ≡ onRead f (λ ms. onModule (assoc number ms) (ask′ ms))
+      reading (holds ms) = ap (ifGood (fileVerdict ms)) (finding ms (assoc number ms))
+      reading (fails n place) = refl

@@ -37,6 +37,9 @@ pub mod WrongEvaluators
 pub mod Rows
 pub mod Calls
 pub mod CallOutcomes
+pub mod FirstAbove
+pub mod RowParts
+pub mod RowBlocks
 pub mod Runs
 pub mod SameTail
 pub mod Adder

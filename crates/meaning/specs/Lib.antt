@@ -25,5 +25,6 @@ pub mod Loads
 pub mod Leval
 pub mod Flattening
 pub mod Calls
+pub mod Rows
 pub mod CallRules
 pub mod Listing

@@ -11,20 +11,21 @@ use Rattle.meaning.specs.Lists.{none, more}
 use Rattle.meaning.specs.Ceilings.{Bytes}
 use Rattle.meaning.specs.Gates.{gateCode}
 use Rattle.laws.specs.Gates.{gate-code-small}
-use Rattle.image.specs.Frames.{readSlots, walkFrame, runFrame, runFrames}
+use Rattle.image.specs.Frames.{readSlots}
 use Rattle.image.specs.FrameValues.{Gives, all-runFrames}
-use Rattle.image.specs.Searching.{room-search, runFrames-search}
+use Rattle.image.specs.Searching.{room-search}
 use Rattle.image.specs.Entries.{same-further}
 use Rattle.image.specs.Places.{HeaderOf}
 use Rattle.image.specs.Scenes.{frame-ok, says-here}
 use Rattle.image.specs.Slots.{Readable, valuesAt}
-use Rattle.image.specs.Reading.{values-stand, readable-stands, read-front}
+use Rattle.image.specs.Reading.{values-stand, readable-stands}
 use Rattle.image.specs.Walking.{needed}
 use Rattle.image.specs.Calling.{inputs-within}
 use Rattle.image.specs.declared.places.Header.{Header}
 use Rattle.run_walk.specs.Job.{atGate, jobMeaning, workOf}
 use Rattle.run_walk.specs.Running.{Runnable, Ran}
 use Rattle.run_engine.specs.Slots.{entered}
+use Rattle.run_walk.specs.Outputs.{outputs-are as ran-outputs}
 use Rattle.run_engine.specs.Calls.{Callable, answers, cleared}
 use Rattle.run_walk.specs.declared.gate.Job.{Job}
 use Rattle.run_walk.specs.declared.gate.Job.the-variants.{Value}
@@ -87,12 +88,7 @@ module _ {image starts nets : List ℕ} {k given : ℕ} {scratch : List ℕ} (e 
 
       -- and then gives what the file says.
       outputs-are : readSlots 0 scratch₂ (e .scene .m .outputs) ≡ answers job (e .rs) k vs
-      unfolding runFrame
-      outputs-are =
-          sym (read-front 0 scratch₂ (e .scene .m .outputs) (frame-ok (e .scene) .answered))
-          ∙ ap (λ (l : List ℕ). readSlots 0 l (e .scene .m .outputs))
-          (ran .frame ∙ ap (walkFrame 0 (jobMeaning job) (runFrames 0 (jobMeaning job) (e .scene .later)) (e .scene .m .occurrences)) inputs-loaded)
-          ∙ sym (ap (λ (run : List ℕ → List ℕ). run vs) (says-here (e .scene) (runFrames-search 0 (jobMeaning job))))
+      outputs-are = ran-outputs (e .scene) ran ∙ ap (answers job (e .rs) k) inputs-loaded
 
       -- Cleared, scratch holds nothing of the run.
       pub leaves-clean : {scratch₃ : List ℕ} → scratch₃ ≡ cleared given scratch₂ → scratch₃ ≡ cleared given scratch

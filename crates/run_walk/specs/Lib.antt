@@ -2,3 +2,4 @@
 pub mod Work
 pub mod Job
 pub mod Running
+pub mod Outputs

@@ -9,6 +9,7 @@ pub use call_count::answers::Counted;
 pub use call_count::answers::Figures;
 pub use call_door::count;
 pub use call_door::evaluate;
+pub use call_door::evaluate_rows;
 pub use call_door::flatten;
 pub use call_door::modules;
 pub use call_door::number_at;

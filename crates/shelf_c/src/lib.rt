@@ -3,5 +3,5 @@
 // in C's words.
 mod counted; // counted.rt: figures and contents
 mod judged; // judged.rt: the check
-mod run; // run.rt: evaluation and flattening
+mod run; // run.rt: evaluation, of one row and of many, and flattening
 mod written; // written.rt: modules to order

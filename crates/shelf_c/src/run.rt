@@ -2,6 +2,7 @@
 ghost use mathlib.Core.Path.{_≡_};
 ghost use lib.ListN.{length};
 ghost use Rattle.meaning.specs.Calls.{evaluation, flattening, outAfter, scratchAfter};
+ghost use Rattle.meaning.specs.Rows.{rowsEvaluation};
 ghost use Rattle.shelf_c.specs.Results.{Reports};
 use crate::written::report;
 
@@ -21,6 +22,28 @@ pub extern "C" fn shelf_evaluate(
 {
     report(
         shelf::evaluate(file, number, values, scratch, out),
+        written,
+        place,
+    )
+}
+
+#[no_mangle]
+pub extern "C" fn shelf_evaluate_rows(
+    file: &[u8],
+    number: u16,
+    rows: usize,
+    values: &[u8],
+    scratch: &mut [u32],
+    out: &mut [u8],
+    written: &mut usize,
+    place: &mut usize,
+) -> u16
+    ensures { λ r. ⌜ Reports (rowsEvaluation (now (file .entry)) number rows (now (values .entry)) (length (now (scratch .entry))) (length (now (out .entry)))) r (now (written .entry)) (now (written .exit)) (now (place .exit)) ⌝ }
+    ensures { λ _. ⌜ now (out .exit) ≡ outAfter (rowsEvaluation (now (file .entry)) number rows (now (values .entry)) (length (now (scratch .entry))) (length (now (out .entry)))) (now (out .entry)) ⌝ }
+    ensures { λ _. ⌜ now (scratch .exit) ≡ scratchAfter (λ w. w .cleared) (rowsEvaluation (now (file .entry)) number rows (now (values .entry)) (length (now (scratch .entry))) (length (now (out .entry)))) (now (scratch .entry)) ⌝ }
+{
+    report(
+        shelf::evaluate_rows(file, number, rows, values, scratch, out),
         written,
         place,
     )

@@ -10,7 +10,8 @@ use Rattle.meaning.specs.Ceilings.{Bytes}
 use Rattle.meaning.specs.Verdict.{Verdict, refused, verdict}
 use Rattle.meaning.specs.Rules.{Outcome}
 use Rattle.meaning.specs.Calls.{outAfter, evaluation, counting, flattening, writing}
-use Rattle.meaning.specs.CallRules.{Call, toCheck, toEvaluate, toCount, toFlatten, Lent, came, comesTo, leaves, RulesName, writerRules}
+use Rattle.meaning.specs.Rows.{rowsEvaluation}
+use Rattle.meaning.specs.CallRules.{Call, toCheck, toEvaluate, toCount, toFlatten, toRows, Lent, came, comesTo, leaves, RulesName, writerRules}
 use Rattle.laws.specs.Outcomes.{outcome-unique}
 use Rattle.laws.specs.CallOutcomes.{writing-outcome}
 use Rattle.laws.specs.Demands.Naming.{comes-to-named, named-once, refused-came, refused-first}
@@ -47,6 +48,8 @@ refusal-changes-nothing file (toEvaluate number values) lent n p h =
 refusal-changes-nothing file (toCount number) lent n p h = rw (refused-came (counting file number (length (lent .scratch))) h)
 refusal-changes-nothing file (toFlatten number) lent n p h =
     rw (refused-came (flattening file number (length (lent .scratch)) (length (lent .out))) h)
+refusal-changes-nothing file (toRows number rows values) lent n p h =
+    rw (refused-came (rowsEvaluation file number rows values (length (lent .scratch)) (length (lent .out))) h)
 
 pub writers-refusal-changes-nothing :
     (modules : ℕ → List Module) (width : ℕ) (out : List ℕ) (number place : ℕ)
@@ -60,8 +63,9 @@ pub no-check-first :
     → verdict file ≡ refused number place
     → (c : Call) (lent : Lent)
     → comesTo file c lent ≡ refused number place
-unfolding comesTo evaluation counting flattening
+unfolding comesTo evaluation counting flattening rowsEvaluation
 no-check-first file number place h toCheck lent = h
 no-check-first file number place h (toEvaluate n values) lent = refused-first file h _
 no-check-first file number place h (toCount n) lent = refused-first file h _
 no-check-first file number place h (toFlatten n) lent = refused-first file h _
+no-check-first file number place h (toRows n rows values) lent = refused-first file h _

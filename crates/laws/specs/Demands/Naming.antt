@@ -9,13 +9,14 @@ use Rattle.meaning.specs.Ceilings.{Bytes, Encodes}
 use Rattle.meaning.specs.Verdict.{Verdict, good, refused, fileVerdict, verdictOf, verdict}
 use Rattle.meaning.specs.Rules.{Outcome, allKept}
 use Rattle.meaning.specs.Calls.{Decision, refusal, answer, ifGood, onRead, onFile, evaluation, counting, flattening}
-use Rattle.meaning.specs.CallRules.{Call, toCheck, toEvaluate, toCount, toFlatten, Lent, came, comesTo, callRules, RulesName, badFile, fromCall}
+use Rattle.meaning.specs.Rows.{rowsEvaluation}
+use Rattle.meaning.specs.CallRules.{Call, toCheck, toEvaluate, toCount, toFlatten, toRows, Lent, came, comesTo, callRules, RulesName, badFile, fromCall}
 use Rattle.laws.specs.Exactness.{exactness}
 use Rattle.laws.specs.RoundTrip.{encodes-reads, equal-files}
 use Rattle.laws.specs.Outcomes.{outcome-unique}
 use Rattle.laws.specs.Refusals.{verdict-outcome}
 use Rattle.laws.specs.RefusedExactly.{refused-exactly}
-use Rattle.laws.specs.CallOutcomes.{evaluation-outcome, counting-outcome, flattening-outcome}
+use Rattle.laws.specs.CallOutcomes.{evaluation-outcome, counting-outcome, flattening-outcome, rows-outcome}
 
 -- A file that breaks no rule is good.
 encodes-good : {file : List ℕ} {ms : List Module} → Encodes file ms → fileVerdict ms ≡ good → verdict file ≡ good
@@ -52,7 +53,7 @@ verdict-came (holds ms) = go (fileVerdict ms)
 verdict-came (fails n p) = refl
 
 pub comes-to-named : (file : List ℕ) → Bytes file → (c : Call) (lent : Lent) → RulesName file c lent (comesTo file c lent)
-unfolding comesTo evaluation counting flattening callRules verdict onFile
+unfolding comesTo evaluation counting flattening rowsEvaluation callRules verdict onFile
 comes-to-named file bytes toCheck lent =
     rw (verdict-came (read file)) (named-on-file bytes toCheck lent nothingMore (λ ms. allKept))
 comes-to-named file bytes (toEvaluate number values) lent =
@@ -60,6 +61,8 @@ comes-to-named file bytes (toEvaluate number values) lent =
 comes-to-named file bytes (toCount number) lent = named-on-file bytes (toCount number) lent _ (λ ms. counting-outcome ms lent number)
 comes-to-named file bytes (toFlatten number) lent =
     named-on-file bytes (toFlatten number) lent _ (λ ms. flattening-outcome ms lent number)
+comes-to-named file bytes (toRows number rows values) lent =
+    named-on-file bytes (toRows number rows values) lent _ (λ ms. rows-outcome ms lent number rows values)
 
 never : {v : Verdict} {n p : ℕ} → v ≡ refused n p → v ≡ good → ⊥
 never h k = let z : _≡_ {A = ℕ} 0 1 = cc in omega arith

@@ -1,7 +1,7 @@
 -- Each kind of task is done.
 use borrow.Author.Needs.{needs}
 use Rattle.call_door.specs.declared.asks.Task.the-variants.{Own}
-use Rattle.call_door.proofs.Works.{told, evaluates}
+use Rattle.call_door.proofs.Works.{told, evaluates, evaluates-rows}
 use Rattle.call_door.proofs.working.work_at.Statement.{statement}
 use Rattle.call_door.proofs.working.work_at.Tie as tie
 
@@ -9,7 +9,7 @@ returns : tie.Need-returns
 returns c s =
     let done = c .before .before .before .before in
     let known = done .before .before .before .before in
-    told s (Own _) (known .before .task .given .1) (done .own-long .ensures s _)
+    told s (Own _) (known .before .task2 .given .1) (done .own-long .ensures s _)
 
 own-short-requires : tie.Need-own-short-requires
 own-short-requires c κs =
@@ -21,7 +21,7 @@ returns-2 : tie.Need-returns-2
 returns-2 c s =
     let done = c .before .before .before .before in
     let asked = done .before .before .before .before in
-    told s (Own _) (asked .before .before .before .task .given .1) (done .own-short .ensures s _)
+    told s (Own _) (asked .before .before .before .task2 .given .1) (done .own-short .ensures s _)
 
 returns-3 : tie.Need-returns-3
 returns-3 c s =
@@ -31,14 +31,23 @@ returns-3 c s =
 
 returns-4 : tie.Need-returns-4
 returns-4 c s =
+    let written = c .before in
+    let done = written .before .before .before .before in
+    evaluates-rows s _ (done .before .before .before .before .task .given .1) (c .wrote2 .ensures) (done .rows-at .ensures s)
+
+returns-5 : tie.Need-returns-5
+returns-5 c s =
     let done = c .before .before .before .before in
     let asked = done .before .before .before .before in
-    told s (Own _) (asked .before .before .before .task .given .1) (done .own-long2 .ensures s _)
+    told s (Own _) (asked .before .before .before .task2 .given .1) (done .own-long2 .ensures s _)
 
 pub work-at-spec : {M : Type 1} → statement M
 work-at-spec =
     tie.close
     (tie.spec
+    (λ c. search needs)
+    (λ c κs. search needs)
+    (λ c κs. search needs)
     (λ c. search needs)
     (λ c κs. search needs)
     (λ c κs. search needs)
@@ -58,4 +67,7 @@ work-at-spec =
     returns-3
     (λ c. search needs)
     (λ c. search needs)
-    returns-4)
+    returns-4
+    (λ c. search needs)
+    (λ c. search needs)
+    returns-5)

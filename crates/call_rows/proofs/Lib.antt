@@ -1,0 +1,5 @@
+-- Facts that the proofs cite.
+pub mod LargestDecides
+pub mod RefusingRows
+pub mod AnsweringRows
+pub mod Resizing

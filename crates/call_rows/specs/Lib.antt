@@ -1,0 +1,2 @@
+-- What a block of rows promises.
+pub mod Blocks
