@@ -27,12 +27,13 @@ struct side {
     uint16_t (*adder)(size_t, uint8_t *, size_t, size_t *, size_t *);
     uint16_t (*fast_adder)(size_t, uint8_t *, size_t, size_t *, size_t *);
     uint16_t (*counter)(size_t, uint8_t *, size_t, size_t *, size_t *);
+    uint16_t (*join)(const uint8_t *, size_t, const uint8_t *, size_t, uint8_t *, size_t, uint16_t *, size_t *, size_t *);
 };
 
 static const struct side ours = {shelf_check,   shelf_evaluate, shelf_evaluate_rows, shelf_count,
-                                 shelf_flatten, shelf_adder,    shelf_fast_adder, shelf_counter};
+                                 shelf_flatten, shelf_adder,    shelf_fast_adder, shelf_counter, shelf_join};
 static const struct side theirs = {tuned_check,   tuned_evaluate, tuned_evaluate_rows, tuned_count,
-                                   tuned_flatten, tuned_adder,    tuned_fast_adder, tuned_counter};
+                                   tuned_flatten, tuned_adder,    tuned_fast_adder, tuned_counter, tuned_join};
 
 /* What a row works on, and what it leaves for comparison. */
 static struct bench_file file;
@@ -52,6 +53,14 @@ static uint16_t evaluate(const struct side *side)
 {
     return side->evaluate(file.bytes, file.length, file.module, values, inputs, scratch, MOST, out, MOST, &written,
                           &place);
+}
+
+/* A file before itself: all of it is read twice, and written once. */
+static uint16_t join(const struct side *side)
+{
+    uint16_t which;
+
+    return side->join(file.bytes, file.length, file.bytes, file.length, out, MOST, &which, &written, &place);
 }
 
 static uint16_t evaluate_block(const struct side *side)
@@ -279,5 +288,7 @@ int main(void)
     count_rows();
     flatten_rows();
     writer_rows();
+    row_on("join", many_modules(), join, 128, " module");
+    row_on("join", written_adder(1), join, 0, "");
     return 0;
 }

@@ -20,6 +20,7 @@ enum {
 };
 
 struct module {
+    uint32_t byte;    /* of its number in the file */
     uint32_t start;   /* of its number in `numbers` */
     uint32_t outputs; /* of its output list */
     uint32_t body;    /* of its count of occurrences */
@@ -162,8 +163,10 @@ static uint16_t read_file(const uint8_t *file, size_t length, size_t *place)
     if (length > BYTES)
         return end(place, 1, 0);
     last = count = take_count(&c, MODULES);
-    for (int i = 0; i < count && last >= 0; i++)
+    for (int i = 0; i < count && last >= 0; i++) {
+        modules[i].byte = (uint32_t)(c.at - file);
         last = take_module(&c, &modules[i]);
+    }
     if (last < 0)
         return end(place, (uint16_t)-last, last == -2 ? length : (size_t)(c.at - file));
     if (c.at < c.end)
@@ -1201,5 +1204,111 @@ uint16_t TUNED(counter)(size_t width, uint8_t *out, size_t out_len, size_t *writ
     to += body_end - body;
     for (uint32_t level = top; level >= 1; level--)
         to = put_block(to, level);
+    return give(to, out, out_len, written, place);
+}
+
+/* ---- two files */
+
+struct shelved {
+    uint32_t count, bytes[MODULES + 1];
+    uint16_t number[MODULES];
+};
+
+static struct shelved own, others;
+
+static uint16_t shelve(const uint8_t *file, size_t length, struct shelved *shelved, size_t *place)
+{
+    uint16_t no = read_file(file, length, place);
+
+    if (no != 0)
+        return no;
+    shelved->count = module_count;
+    for (uint32_t k = 0; k < module_count; k++) {
+        shelved->bytes[k] = modules[k].byte;
+        shelved->number[k] = modules[k].number;
+    }
+    shelved->bytes[module_count] = (uint32_t)length;
+    return 0;
+}
+
+static uint16_t shelve_both(const uint8_t *group, size_t group_len, const uint8_t *house, size_t house_len,
+                            uint16_t *which, size_t *place)
+{
+    uint16_t no;
+
+    *which = 1;
+    if ((no = shelve(group, group_len, &own, place)) != 0)
+        return no;
+    *which = 2;
+    return shelve(house, house_len, &others, place);
+}
+
+static int look_in(const struct shelved *shelved, uint16_t number, size_t *start, size_t *length)
+{
+    for (uint32_t k = 0; k < shelved->count; k++)
+        if (shelved->number[k] == number) {
+            *start = shelved->bytes[k];
+            *length = shelved->bytes[k + 1] - shelved->bytes[k];
+            return 1;
+        }
+    return 0;
+}
+
+uint16_t TUNED(look_up)(const uint8_t *group, size_t group_len, const uint8_t *house, size_t house_len,
+                        uint16_t number, uint16_t *which, size_t *start, size_t *length, size_t *place)
+{
+    uint16_t no = shelve_both(group, group_len, house, house_len, which, place);
+
+    if (no != 0)
+        return no;
+    *which = look_in(&own, number, start, length) ? 1 : look_in(&others, number, start, length) ? 2 : 0;
+    return end(place, *which == 0 ? 18 : 0, 0);
+}
+
+/* Modules that are taken one behind the other are copied at once. */
+static uint8_t *put_lacking(uint8_t *to, const uint8_t *house, uint32_t mark)
+{
+    for (uint32_t k = 0; k < others.count;) {
+        uint32_t first = k;
+
+        while (k < others.count && listed[others.number[k]] != mark)
+            k++;
+        memcpy(to, house + others.bytes[first], others.bytes[k] - others.bytes[first]);
+        to += others.bytes[k] - others.bytes[first];
+        while (k < others.count && listed[others.number[k]] == mark)
+            k++;
+    }
+    return to;
+}
+
+uint16_t TUNED(join)(const uint8_t *group, size_t group_len, const uint8_t *house, size_t house_len, uint8_t *out,
+                     size_t out_len, uint16_t *which, size_t *written, size_t *place)
+{
+    uint16_t no = shelve_both(group, group_len, house, house_len, which, place);
+    uint32_t mark, count, length;
+    uint8_t *to;
+
+    if (no != 0)
+        return no;
+    *which = 0;
+    mark = next_stamp();
+    for (uint32_t k = 0; k < own.count; k++)
+        listed[own.number[k]] = mark;
+    count = own.count;
+    length = own.bytes[own.count] - own.bytes[0];
+    for (uint32_t k = 0; k < others.count; k++)
+        if (listed[others.number[k]] != mark) {
+            count++;
+            length += others.bytes[k + 1] - others.bytes[k];
+        }
+    if (count > MODULES)
+        return end(place, 4, 0);
+    if (length + (count < 128 ? 1 : 2) > BYTES)
+        return end(place, 1, 0);
+    to = put(made, count);
+    memcpy(to, group + own.bytes[0], own.bytes[own.count] - own.bytes[0]);
+    to = put_lacking(to + (own.bytes[own.count] - own.bytes[0]), house, mark);
+    if ((no = open_file(made, (size_t)(to - made), place)) != 0)
+        return no;
     return give(to, out, out_len, written, place);
 }

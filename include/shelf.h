@@ -36,7 +36,7 @@
  *   24  flattening needs more than 4,096 nets                0
  *   27  more than 1,024 rows                                 0
  *
- * What a call leaves. A refusal writes `*place` and nothing else that was lent: no buffer, and none of `*written`,
+ * What a call leaves. A refusal writes `*place` (and `*which`) and nothing else that was lent: no buffer, none of `*written`,
  * `*modules`, `*number`, `figures`, `tally`. An answer writes `*place` and what was asked for; it fills the first bytes
  * of `out` and leaves the rest, and it leaves 0 in the first `room` entries of `scratch` and the rest as it was.
  */
@@ -88,6 +88,24 @@ uint16_t shelf_count(const uint8_t *file, size_t file_len, uint16_t number, uint
  * in the first *written bytes of out, at most 53,641. Refusals 1 to 17, then 18, 24, 21, 22. */
 uint16_t shelf_flatten(const uint8_t *file, size_t file_len, uint16_t number, uint32_t *scratch, size_t scratch_len,
                        uint8_t *out, size_t out_len, size_t *written, size_t *place);
+
+/* A group's file before the house's. *which gets 1 where the answer or the refusal is about the group's file, 2 where it
+ * is about the house's, 0 where it is about neither; it is written with a refusal too. Both files may be the same
+ * memory, since they are only read.
+ *
+ * Looks a module up: in the group's file if that has the number, otherwise in the house's; where a file holds a number
+ * twice the first is meant. The module's bytes, from its number to its last occurrence, are the *length bytes from
+ * *start on of the file that *which names. Each file needs only to read, and numbers under 16 can be looked up too.
+ * Refusals 1 to 5 of the group's file, then of the house's, then 18 with *which 0. */
+uint16_t shelf_look_up(const uint8_t *group, size_t group_len, const uint8_t *house, size_t house_len,
+                       uint16_t number, uint16_t *which, size_t *start, size_t *length, size_t *place);
+
+/* Joins both into one file: the group's modules in order, then the house's whose numbers the group lacks, in order. A
+ * module of the house that refers to a number which the group's file has too finds it in front of itself: that is 13.
+ * Refusals 1 to 5 of the group's file, then of the house's; then, with *which 0 and of the joined file, 4 if it has over
+ * 128 modules and 1 if it has over 65,535 bytes, both at 0, 6 to 17, and 22. */
+uint16_t shelf_join(const uint8_t *group, size_t group_len, const uint8_t *house, size_t house_len, uint8_t *out,
+                    size_t out_len, uint16_t *which, size_t *written, size_t *place);
 
 /* Writes the file of the ripple adder of that width: module 18, inputs carry, a, b, outputs sum, carry, low bits
  * first. The file comes in the first *written bytes of out, at most 1,019. Refusals 23, 22. */

@@ -10,6 +10,7 @@
 #include "damage.h"
 #include "make.h"
 #include "random.h"
+#include "shelves.h"
 #include "rows.h"
 
 #include <stdio.h>
@@ -20,7 +21,7 @@
 enum { QUICK = 100000, ENOUGH = 50000 };
 
 static struct draft draft;
-static struct encoded file;
+static struct encoded file, house;
 
 static void too_long(void)
 {
@@ -101,6 +102,17 @@ static void make_case(void)
         make_noise(&file);
 }
 
+/* The file of the case and another, as a group's file and the house's, in either order. */
+static void compare_two_files(void)
+{
+    house = file;
+    make_case();
+    if (percent(50))
+        compare_shelves(file.byte, file.length, house.byte, house.length);
+    else
+        compare_shelves(house.byte, house.length, file.byte, file.length);
+}
+
 static void run_case(uint64_t seed, long number)
 {
     random_start(seed * 0x2545F4914F6CDD1Du + (uint64_t)number);
@@ -110,6 +122,8 @@ static void run_case(uint64_t seed, long number)
     compare_file(file.byte, file.length);
     if (percent(5))
         compare_writers();
+    if (percent(20))
+        compare_two_files();
 }
 
 static uint64_t number_after(int argc, char **argv, const char *name, uint64_t otherwise)
@@ -135,7 +149,7 @@ int main(int argc, char **argv)
     judge_fast_adders();
     for (long i = 0; i < cases; i++)
         run_case(seed, first + i);
-    if (!compare_summary() && cases >= ENOUGH) {
+    if ((!compare_summary() | !shelves_summary()) && cases >= ENOUGH) {
         printf("differential: FAILED: some number that a call can give was never met\n");
         return 1;
     }

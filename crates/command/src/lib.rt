@@ -6,8 +6,10 @@ mod files; // files.rt: bytes in, bytes out
 mod making; // making.rt: flatten, the adders and counter
 mod refusing; // refusing.rt: refusals in words
 mod saying; // saying.rt: lines, what could not be carried out, and the help
+mod shelves; // shelves.rt: find and join
 mod words; // words.rt: the words of a command line
 
+use making::Order;
 pub use words::front;
 use words::is;
 use words::word_at;
@@ -20,16 +22,18 @@ pub fn perform(line: &[u8]) {
         word_at(line, 1),
         word_at(line, 2),
         word_at(line, 3),
+        word_at(line, 4),
     );
 }
 
 // The command of a name, by how many words it is asked for in.
-fn carry_out(words: usize, name: &[u8], first: &[u8], second: &[u8], third: &[u8]) {
+fn carry_out(words: usize, name: &[u8], first: &[u8], second: &[u8], third: &[u8], fourth: &[u8]) {
     match words {
         1 => alone(name),
         2 => with_one(name, first),
         3 => with_two(name, first, second),
         4 => with_three(name, first, second, third),
+        5 => with_four(name, first, second, third, fourth),
         _ => saying::usage(),
     }
 }
@@ -71,6 +75,18 @@ fn with_three(name: &[u8], first: &[u8], second: &[u8], third: &[u8]) {
         asking::run(first, second, third);
     } else if is(name, b"flatten") {
         making::flatten(first, second, third);
+    } else if is(name, b"find") {
+        shelves::find(first, second, third, b"");
+    } else if is(name, b"join") {
+        shelves::join(first, second, third);
+    } else {
+        saying::usage();
+    }
+}
+
+fn with_four(name: &[u8], first: &[u8], second: &[u8], third: &[u8], fourth: &[u8]) {
+    if is(name, b"find") {
+        shelves::find(first, second, third, fourth);
     } else {
         saying::usage();
     }

@@ -12,7 +12,7 @@ fn keep(made: Writing, bytes: &[u8], path: &[u8]) {
     }
 }
 
-fn write(bytes: &[u8], path: &[u8]) {
+pub(crate) fn write(bytes: &[u8], path: &[u8]) {
     if !crate::files::save(path, bytes) {
         crate::saying::fail(b"cannot write ", path);
         return;

@@ -4,11 +4,17 @@ use crate::saying::say;
 use crate::saying::say_number;
 
 pub(crate) fn refuse(number: u16, place: usize) {
+    refuse_of(b"", number, place);
+}
+
+// With words in front that say whose file it is about.
+pub(crate) fn refuse_of(whose: &[u8], number: u16, place: usize) {
     say(b"refused ");
     say_number(number as u64);
     say(b" ");
     say_number(place as u64);
     end_line();
+    say(whose);
     say_place(number, place as u64);
     say_rule(number);
     end_line();

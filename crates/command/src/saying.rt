@@ -54,6 +54,11 @@ gimlet run FILE MODULE VALUES    the outputs of a module; values and outputs are
                                  of 0, 1 and 2, where 2 is unknown; a value may also
                                  be 3, which floats; x and z stand for 2 and 3
 gimlet flatten FILE MODULE OUT   writes the module as plain gates to the file OUT
+gimlet find GROUP HOUSE MODULE   which file has the module, the group's before the
+                                 house's; with a word OUT more, writes a file of it
+gimlet join GROUP HOUSE OUT      writes the group's modules and the house's that the
+                                 group lacks. A module of the house that refers to one
+                                 which the group has too is then refused with 13
 gimlet adder WIDTH OUT           writes an adder, width 1 to 64; its module is 18
 gimlet fast-adder WIDTH OUT      writes a propagate-generate adder, width 1 to 64; its
                                  module is 40

@@ -42,6 +42,13 @@ pub mod RowParts
 pub mod RowBlocks
 pub mod Runs
 pub mod SameTail
+pub mod Behind
+pub mod Referring
+pub mod BehindCalls
+pub mod Joining
+pub mod Overriding
+pub mod LookUp
+pub mod Shelves
 pub mod Adder
 pub mod WithinTests
 pub mod FastAdder

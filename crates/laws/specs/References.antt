@@ -34,8 +34,8 @@ data Resolves (ms : List Module) (number : ℕ) : Type 0 where
   aModule : (m : Module) → assoc number ms ≡ box m → Resolves ms number
 
 -- With these two meanings of modules, a gate or a module of this number does the same.
-record Agree {A : Type 0} (gateMeaning l l′ : Meaning A) (number : ℕ) : Type 0 where
-  agree : (vs : List A) → apply gateMeaning l number vs ≡ apply gateMeaning l′ number vs
+pub record Agree {A : Type 0} (gateMeaning l l′ : Meaning A) (number : ℕ) : Type 0 where
+  pub agree : (vs : List A) → apply gateMeaning l number vs ≡ apply gateMeaning l′ number vs
 
 module _ {A : Type 0} (unset : A) {gateMeaning l l′ : Meaning A} where
   walk-agree :
@@ -47,7 +47,7 @@ module _ {A : Type 0} (unset : A) {gateMeaning l l′ : Meaning A} where
   walk-agree nothing env = refl
   walk-agree (also {o} same rest) env = rw (same .agree (lookAll unset (o .takes) env)) (walk-agree rest _)
 
-  runModule-agree :
+  pub runModule-agree :
       (m : Module)
       → Refer (Agree gateMeaning l l′) (m .occurrences)
       → (vs : List A)

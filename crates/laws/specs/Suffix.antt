@@ -21,11 +21,11 @@ pub record Searches {C : Type 0} (f : List Module → ℕ → C) : Type 0 where
       (m : Module) (ms : List Module) (number : ℕ) → eqb number (m .number) ≡ false → f (m ∷ ms) number ≡ f ms number
 
 -- A number that no module of a list has is another than the first one's, and none of the rest has it.
-record Unmet (number : ℕ) (m : Module) (ms : List Module) : Type 0 where
-  another : eqb number (m .number) ≡ false
-  further : assoc number ms ≡ F
+pub record Unmet (number : ℕ) (m : Module) (ms : List Module) : Type 0 where
+  pub another : eqb number (m .number) ≡ false
+  pub further : assoc number ms ≡ F
 
-unmet : (number : ℕ) (m : Module) (ms : List Module) → assoc number (m ∷ ms) ≡ F → Unmet number m ms
+pub unmet : (number : ℕ) (m : Module) (ms : List Module) → assoc number (m ∷ ms) ≡ F → Unmet number m ms
 unfolding assoc
 unmet number m ms = go (eqb number (m .number)) refl
   where

@@ -28,3 +28,4 @@ pub mod Calls
 pub mod Rows
 pub mod CallRules
 pub mod Listing
+pub mod Shelves

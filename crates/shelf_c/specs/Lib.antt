@@ -1,2 +1,3 @@
 -- What the C face hands back.
 pub mod Results
+pub mod TwoFiles

@@ -1,6 +1,6 @@
 // Writers: adders, fast ones too, and leading-zero counters to order. Nothing lent is touched before the call is sure to be answered: where the buffer may
 // be too short for the file, its bytes are written into a list of the writer's own first.
-mod answer;
+pub mod answer;
 mod order;
 
 pub use order::adder;

@@ -1,0 +1,4 @@
+-- Facts that the proofs cite.
+pub mod Delivers
+pub mod Assembles
+pub mod Beginning

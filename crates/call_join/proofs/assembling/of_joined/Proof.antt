@@ -1,0 +1,15 @@
+-- Each case is the definition's.
+use mathlib.Core.Path.{sym, ap}
+use borrow.Author.Needs.{needs}
+use Rattle.call_join.specs.Joins.{ofWriting}
+use Rattle.call_join.proofs.assembling.of_joined.Statement.{statement}
+use Rattle.call_join.proofs.assembling.of_joined.Tie as tie
+
+pub of-joined-spec : {M : Type 1} → statement M
+of-joined-spec =
+    tie.close
+    (tie.spec
+    (λ c. search needs)
+    (λ c. search needs)
+    (λ c. sym (ap ofWriting (c .before .writing .given .1)))
+    (λ c. sym (ap ofWriting (c .before .writing2 .given .1))))

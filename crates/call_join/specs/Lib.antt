@@ -1,0 +1,4 @@
+-- What joining answers, and what it works on.
+pub mod Joins
+pub mod Assembling
+pub mod Begun

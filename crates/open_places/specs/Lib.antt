@@ -1,0 +1,3 @@
+-- Where the modules of a file stand in it, and their bytes there.
+pub mod Places
+pub mod Parts

@@ -1,0 +1,3 @@
+-- What is marked and gathered.
+pub mod Marks
+pub mod Gathering
