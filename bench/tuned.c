@@ -1084,14 +1084,32 @@ static uint8_t *put_gate_row(uint8_t *to, uint8_t kind, uint32_t net, uint32_t a
     return to;
 }
 
-uint16_t TUNED(fast_adder)(size_t width, uint8_t *out, size_t out_len, size_t *written, size_t *place)
+/* Modules 41, 43 and 42. */
+static uint8_t *put_carry_network(uint8_t *to)
 {
     static const uint8_t carriers[] = {0x2B, 5, 0, 1, 2, 3, 4, 1, 7, 3, 1,    5, 0x0A, 2, 3, 2, 1, 6, 0x0B, 3,
                                        3,    1, 0, 1, 7, 6, 3, 4, 5, 6, 0x2A, 3, 0,    1, 2, 1, 4, 2, 1,    3,
                                        0x0A, 2, 1, 0, 1, 4, 5, 2, 2, 3};
     struct shape spine = {1, 0, 0};
-    uint8_t *to = made, *count;
-    uint32_t trees = 0, n;
+    uint32_t trees = 0;
+    uint8_t *count;
+
+    *to++ = 41;
+    to = put_carry_and_bits(to, wide + 1);
+    to = put_range(to, 1, wide);
+    count = to++;
+    while (leaves_of(spine) <= wide)
+        spine.height++;
+    to = put_chain(to, spine, wide, 0, &trees);
+    *count = (uint8_t)(2 * wide - trees);
+    memcpy(to, carriers, sizeof carriers);
+    return to + sizeof carriers;
+}
+
+uint16_t TUNED(fast_adder)(size_t width, uint8_t *out, size_t out_len, size_t *written, size_t *place)
+{
+    uint8_t *to = made;
+    uint32_t n;
 
     if (width - 1 > 63)
         return end(place, 23, 0);
@@ -1109,16 +1127,87 @@ uint16_t TUNED(fast_adder)(size_t width, uint8_t *out, size_t out_len, size_t *w
     *to++ = 41;
     to = put_carry_and_bits(to, 3 * n + 1);
     to = put_gate_row(to, 9, 5 * n + 1, 3 * n + 1, 0);
+    return give(put_carry_network(to), out, out_len, written, place);
+}
+
+/* The wiring of arithmetic units is that of docs/ALU.md: module 48, then 49 and 50, which are the same at every width,
+ * then the look-ahead. */
+static uint8_t *put_nets(uint8_t *to, uint32_t first, uint32_t count)
+{
+    for (uint32_t i = 0; i < count; i++)
+        to = put(to, first + i);
+    return to;
+}
+
+static uint8_t *put_copies(uint8_t *to, uint32_t lines, uint32_t copies)
+{
+    for (uint32_t i = 0; i < 6 * copies; i++) {
+        *to++ = 1;
+        to = put(to, lines + 6 + i);
+        *to++ = 0;
+        *to++ = 1;
+        to = put(to, lines + i % 6);
+    }
+    return to;
+}
+
+static uint8_t *put_cells(uint8_t *to, uint32_t n, uint32_t lines, uint32_t copies)
+{
+    for (uint32_t i = 0; i < n; i++) {
+        uint32_t copy = i / 8 + 1 < copies ? i / 8 + 1 : copies;
+
+        *to++ = 3;
+        to = put(put(put(to, 3 * n + 7 + i), 4 * n + 7 + i), 5 * n + 7 + i);
+        *to++ = 50;
+        *to++ = 9;
+        to = put(put(put(to, 1 + i), 2 + i), n + 2 + i);
+        to = put_nets(to, lines + 6 * copy, 6);
+    }
+    return to;
+}
+
+uint16_t TUNED(alu)(size_t width, uint8_t *out, size_t out_len, size_t *written, size_t *place)
+{
+    static const uint8_t control_and_cell[] = {
+        49, 7, 0, 1, 2, 3, 4, 5, 6, 9, 22, 23, 24, 25, 26, 27, 28, 29, 30, 24,
+        1, 22, 8, 2, 4, 5, 1, 7, 10, 2, 5, 6, 1, 23, 8, 2, 4, 7, 1, 8,
+        10, 2, 3, 5, 1, 9, 13, 2, 4, 8, 1, 24, 13, 2, 6, 9, 1, 10, 2, 2,
+        3, 4, 1, 11, 13, 2, 3, 4, 1, 12, 2, 2, 5, 11, 1, 25, 3, 3, 6, 10,
+        12, 1, 26, 10, 2, 7, 10, 1, 13, 1, 1, 5, 1, 27, 11, 3, 6, 13, 10, 1,
+        14, 9, 2, 3, 4, 1, 15, 5, 2, 3, 0, 1, 16, 10, 2, 14, 15, 1, 17, 8,
+        2, 5, 16, 1, 28, 13, 2, 6, 17, 1, 18, 10, 2, 0, 11, 1, 19, 10, 2, 2,
+        3, 1, 29, 5, 2, 18, 19, 1, 20, 13, 2, 6, 13, 1, 21, 10, 2, 1, 27, 1,
+        30, 5, 2, 20, 21, 50, 9, 0, 1, 2, 3, 4, 5, 6, 7, 8, 3, 9, 10, 11,
+        8, 1, 12, 9, 2, 0, 3, 1, 13, 5, 2, 2, 4, 1, 9, 9, 2, 12, 13, 1,
+        10, 11, 3, 12, 13, 5, 1, 14, 2, 2, 9, 6, 1, 15, 3, 3, 12, 13, 7, 1,
+        16, 2, 2, 1, 8, 1, 11, 3, 3, 14, 15, 16};
+    uint32_t n = (uint32_t)width, carries = 2 * n + 6, outputs = 6 * n + 7, flip = 7 * n + 9, lines = 7 * n + 10;
+    uint32_t copies = n <= 8 ? 0 : (n + 7) / 8;
+    uint8_t *to = made;
+
+    if (width - 1 > 63)
+        return end(place, 23, 0);
+    wide = n;
+    *to++ = 6;
+    *to++ = 48;
+    to = put_nets(put_nets(put(to, 2 * n + 5), 0, n + 1), n + 2, n + 4);
+    to = put_range(to, outputs, n + 2);
+    to = put(to, 2 * n + 6 * copies + 4);
+    *to++ = 9;
+    to = put(put(put(put_nets(to, lines, 6), carries), n + 1), flip);
+    *to++ = 49;
+    *to++ = 7;
+    to = put_nets(put(put(put(to, 0), 1), n), 2 * n + 2, 4);
+    to = put_copies(to, lines, copies);
+    to = put_cells(to, n, lines, copies);
+    to = put_range(to, carries + 1, n);
     *to++ = 41;
-    to = put_carry_and_bits(to, n + 1);
-    to = put_range(to, 1, n);
-    count = to++;
-    while (leaves_of(spine) <= n)
-        spine.height++;
-    to = put_chain(to, spine, n, 0, &trees);
-    *count = (uint8_t)(2 * n - trees);
-    memcpy(to, carriers, sizeof carriers);
-    return give(to + sizeof carriers, out, out_len, written, place);
+    to = put_nets(put(put(to, 2 * n + 1), carries), 3 * n + 7, 2 * n);
+    to = put_gate(to, outputs, 9, carries + n, flip);
+    to = put_gate(to, outputs + 1, 9, carries + n, 3 * n + 5);
+    to = put_gate_row(to, 9, outputs + 2, 5 * n + 7, carries);
+    memcpy(to, control_and_cell, sizeof control_and_cell);
+    return give(put_carry_network(to + sizeof control_and_cell), out, out_len, written, place);
 }
 
 /* The wiring of counters is that of docs/COUNTER.md. */

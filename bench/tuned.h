@@ -32,6 +32,7 @@ uint16_t TUNED(join)(const uint8_t *group, size_t group_len, const uint8_t *hous
                      size_t out_len, uint16_t *which, size_t *written, size_t *place);
 uint16_t TUNED(adder)(size_t width, uint8_t *out, size_t out_len, size_t *written, size_t *place);
 uint16_t TUNED(fast_adder)(size_t width, uint8_t *out, size_t out_len, size_t *written, size_t *place);
+uint16_t TUNED(alu)(size_t width, uint8_t *out, size_t out_len, size_t *written, size_t *place);
 uint16_t TUNED(counter)(size_t width, uint8_t *out, size_t out_len, size_t *written, size_t *place);
 
 #endif

@@ -116,6 +116,11 @@ uint16_t shelf_adder(size_t width, uint8_t *out, size_t out_len, size_t *written
  * bytes of out, at most 86 * width + 132 (3,746 at 64). Refusals 23, 22. */
 uint16_t shelf_fast_adder(size_t width, uint8_t *out, size_t out_len, size_t *written, size_t *place);
 
+/* Writes the file of the arithmetic unit of that width: module 48. Inputs: the carry, the bits of a, those of b, four
+ * bits of the operation, all low first; outputs: carry, overflow, the bits of the result. docs/ALU.md has the sixteen
+ * operations. The file comes in the first *written bytes of out, at most 100 * width + 720. Refusals 23, 22. */
+uint16_t shelf_alu(size_t width, uint8_t *out, size_t out_len, size_t *written, size_t *place);
+
 /* Writes the file of the leading-zero counter of that width: module 32, low bits first. The file comes in the first
  * *written bytes of out. Refusals 23, 22. */
 uint16_t shelf_counter(size_t width, uint8_t *out, size_t out_len, size_t *written, size_t *place);

@@ -3,6 +3,7 @@
 #include "compare.h"
 
 #include "../plain/plain.h"
+#include "alus.h"
 #include "counters.h"
 #include "draft.h"
 #include "lend.h"
@@ -18,7 +19,7 @@
 enum { REFUSALS = 28, SCRATCH_MOST = 70000, OUT_MOST = 200000, VALUES_MOST = 200000 };
 
 static const char *const call_names[CALLS] = {"check", "modules", "number_at", "evaluate", "rows",
-                                              "count", "flatten", "adder",     "fast_adder", "counter"};
+                                              "count", "flatten", "adder",     "fast_adder", "alu",       "counter"};
 static long met[CALLS][REFUSALS];
 
 /* Flattened files that were counted, and counts of such of several levels, one by each reading. */
@@ -479,6 +480,18 @@ static void compare_fast_adder(void)
     end_call_with_buffers();
 }
 
+/* As with counters, the bytes have been judged once. */
+static void compare_alu(void)
+{
+    size_t width = any_width();
+
+    begin_writer(ALU, width, judged_alu_length(width));
+    ours.number = shelf_alu(width, lend(&our_out, given.out_len, NULL), given.out_len, &ours.result, &ours.place);
+    plain.number =
+        judged_alu(width, lend(&plain_out, given.out_len, NULL), given.out_len, &plain.result, &plain.place);
+    end_call_with_buffers();
+}
+
 /* The bytes of a counter are the library's own; they have been judged once, and must come again. */
 static void compare_counter(void)
 {
@@ -496,6 +509,7 @@ void compare_writers(void)
 {
     compare_adder();
     compare_fast_adder();
+    compare_alu();
     compare_counter();
 }
 
@@ -505,7 +519,7 @@ static int can_give(enum call call, int number)
 {
     if (number == 0)
         return 1;
-    if (call == ADDER || call == FAST_ADDER || call == COUNTER)
+    if (call == ADDER || call == FAST_ADDER || call == ALU || call == COUNTER)
         return number == 22 || number == 23;
     if (number <= 17)
         return 1;

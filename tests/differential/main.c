@@ -4,6 +4,7 @@
  *
  * A case is one file; all calls are made on it, each with random numbers, values and lengths. Case i of a seed is
  * always the same, so `--seed S --first i --cases 1` repeats it. Without a seed the clock gives one. */
+#include "alus.h"
 #include "compare.h"
 #include "counters.h"
 #include "fast_adders.h"
@@ -147,6 +148,7 @@ int main(int argc, char **argv)
     check_rows();
     judge_counters();
     judge_fast_adders();
+    judge_alus();
     for (long i = 0; i < cases; i++)
         run_case(seed, first + i);
     if ((!compare_summary() | !shelves_summary()) && cases >= ENOUGH) {

@@ -2,7 +2,7 @@
  *
  *     to_verilog SEED > judge.v
  *
- * Written adders, fast adders and counters of every width and random hierarchies become modules of primitive gates and instances,
+ * Written adders, fast adders, arithmetic units and counters of every width and random hierarchies become modules of primitive gates and instances,
  * each with a bench that sets rows of 0, 1, x and z and compares the outputs, by !==, with those that shelf_evaluate
  * gave. The turning into Verilog is the test's own; the library only answers.
  *
@@ -230,6 +230,7 @@ int main(int argc, char **argv)
     random_start(seed);
     judge_written(18, shelf_adder);
     judge_written(40, shelf_fast_adder);
+    judge_written(48, shelf_alu);
     judge_written(32, shelf_counter);
     judge_random();
     print_top(seed);

@@ -3,7 +3,7 @@
 mod asking; // asking.rt: check, list, count and run
 mod counted; // counted.rt: the figures of a module
 mod files; // files.rt: bytes in, bytes out
-mod making; // making.rt: flatten, the adders and counter
+mod making; // making.rt: flatten, the adders, the ALU and counter
 mod refusing; // refusing.rt: refusals in words
 mod saying; // saying.rt: lines, what could not be carried out, and the help
 mod shelves; // shelves.rt: find and join
@@ -60,11 +60,13 @@ fn with_two(name: &[u8], first: &[u8], second: &[u8]) {
     if is(name, b"count") {
         asking::count(first, second);
     } else if is(name, b"adder") {
-        making::adder(first, second);
+        making::to_order(Order::Adder, first, second);
     } else if is(name, b"fast-adder") {
-        making::fast_adder(first, second);
+        making::to_order(Order::FastAdder, first, second);
+    } else if is(name, b"alu") {
+        making::to_order(Order::Alu, first, second);
     } else if is(name, b"counter") {
-        making::counter(first, second);
+        making::to_order(Order::Counter, first, second);
     } else {
         saying::usage();
     }

@@ -22,36 +22,32 @@ pub(crate) fn write(bytes: &[u8], path: &[u8]) {
     crate::saying::end_line();
 }
 
-pub(crate) fn adder(width: &[u8], path: &[u8]) {
+// What is written to order.
+pub(crate) enum Order {
+    Adder,
+    FastAdder,
+    Alu,
+    Counter,
+}
+
+// Writes a file of a width.
+pub(crate) fn to_order(order: Order, width: &[u8], path: &[u8]) {
     match crate::words::parse(width) {
         Parsed::Other => crate::saying::not_a_number(width),
         Parsed::Number(n) => {
-            let mut bytes = io::buffer();
-            let made = shelf::adder(n as usize, &mut bytes);
+            let mut bytes = io::large_buffer();
+            let made = ordered(order, n as usize, &mut bytes);
             keep(made, &bytes, path);
         }
     }
 }
 
-pub(crate) fn fast_adder(width: &[u8], path: &[u8]) {
-    match crate::words::parse(width) {
-        Parsed::Other => crate::saying::not_a_number(width),
-        Parsed::Number(n) => {
-            let mut bytes = io::large_buffer();
-            let made = shelf::fast_adder(n as usize, &mut bytes);
-            keep(made, &bytes, path);
-        }
-    }
-}
-
-pub(crate) fn counter(width: &[u8], path: &[u8]) {
-    match crate::words::parse(width) {
-        Parsed::Other => crate::saying::not_a_number(width),
-        Parsed::Number(n) => {
-            let mut bytes = io::large_buffer();
-            let made = shelf::counter(n as usize, &mut bytes);
-            keep(made, &bytes, path);
-        }
+fn ordered(order: Order, width: usize, bytes: &mut [u8]) -> Writing {
+    match order {
+        Order::Adder => shelf::adder(width, bytes),
+        Order::FastAdder => shelf::fast_adder(width, bytes),
+        Order::Alu => shelf::alu(width, bytes),
+        Order::Counter => shelf::counter(width, bytes),
     }
 }
 

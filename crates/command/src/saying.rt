@@ -52,7 +52,8 @@ gimlet list FILE                 a line for each module: position, number, input
 gimlet count FILE MODULE         the figures of a module, and its gates of each kind
 gimlet run FILE MODULE VALUES    the outputs of a module; values and outputs are words
                                  of 0, 1 and 2, where 2 is unknown; a value may also
-                                 be 3, which floats; x and z stand for 2 and 3
+                                 be 3, which floats; x and z stand for 2 and 3, and _
+                                 may stand between groups of values
 gimlet flatten FILE MODULE OUT   writes the module as plain gates to the file OUT
 gimlet find GROUP HOUSE MODULE   which file has the module, the group's before the
                                  house's; with a word OUT more, writes a file of it
@@ -62,6 +63,8 @@ gimlet join GROUP HOUSE OUT      writes the group's modules and the house's that
 gimlet adder WIDTH OUT           writes an adder, width 1 to 64; its module is 18
 gimlet fast-adder WIDTH OUT      writes a propagate-generate adder, width 1 to 64; its
                                  module is 40
+gimlet alu WIDTH OUT             writes an arithmetic unit of sixteen operations, width
+                                 1 to 64; its module is 48
 gimlet counter WIDTH OUT         writes a leading-zero counter, width 1 to 64; its
                                  module is 32
 gimlet help                      this text

@@ -104,7 +104,7 @@ pub(crate) fn all_digits(word: &[u8]) -> bool {
     true
 }
 
-// Whether each byte of a word stands for a value.
+// Whether each byte of a word stands for a value, or is a line between groups of them.
 pub(crate) fn all_values(word: &[u8]) -> bool {
     for i in 0..word.len() {
         if !is_value(word[i]) {
@@ -121,19 +121,31 @@ fn is_value(byte: u8) -> bool {
         b'X' => true,
         b'z' => true,
         b'Z' => true,
+        b'_' => true,
         _ => false,
     }
 }
 
-// The values that a word's bytes stand for, at the front of a buffer. A word longer than the buffer is cut, and still longer than any list of
+// The values that a word's bytes stand for, without the lines between groups, at the front of a buffer. A word longer than the buffer is cut, and still longer than any list of
 // values that a module takes.
 pub(crate) fn to_values(word: &[u8], buffer: &mut [u8]) -> usize {
-    let mut i = 0;
-    while i < word.len() && i < buffer.len() {
-        buffer[i] = input_of(word[i]);
-        i += 1;
+    let mut given = 0;
+    for i in 0..word.len() {
+        given = take_value(word[i], buffer, given);
     }
-    i
+    given
+}
+
+// One more value behind those that are given, unless the byte is a line or the buffer is full.
+fn take_value(byte: u8, buffer: &mut [u8], given: usize) -> usize {
+    if byte == b'_' {
+        return given;
+    }
+    if given < buffer.len() {
+        buffer[given] = input_of(byte);
+        return given + 1;
+    }
+    given
 }
 
 // The value of a byte of such a word: x is unknown and z floats, as simulators write them.

@@ -10,8 +10,11 @@ pub mod Bodies
 -- What it computes: its nets satisfy equations, by which its carries are those of the ripple adder, on three values.
 pub mod Equations
 pub mod Looks
+pub mod RowEquations
+pub mod Ahead
 pub mod Lattice
 pub mod Carries
+pub mod BitCarries
 pub mod Adder
 pub mod Shape
 pub mod Outputs

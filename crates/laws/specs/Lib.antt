@@ -52,6 +52,7 @@ pub mod Shelves
 pub mod Adder
 pub mod WithinTests
 pub mod FastAdder
+pub mod Alu
 pub mod Flatten
 pub mod NoneMissing
 pub mod Figures

@@ -20,6 +20,8 @@ pub mod Heval
 pub mod Adder
 pub mod Counter
 pub mod FastAdder
+pub mod Alu
+pub mod Operations
 pub mod Figures
 pub mod Loads
 pub mod Leval

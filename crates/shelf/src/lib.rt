@@ -20,5 +20,6 @@ pub use call_look_up::look_up;
 pub use call_look_up::which_shelf;
 pub use judged::check;
 pub use write_order::adder;
+pub use write_order::alu;
 pub use write_order::counter;
 pub use write_order::fast_adder;

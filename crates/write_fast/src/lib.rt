@@ -1,6 +1,6 @@
 // The propagate-generate adder to order (docs/ADDER.md): module 40, and the file with the look-ahead. A place in the list of bytes is named
 // after what is to stand there.
-mod rows;
+pub mod rows;
 
 ghost use Prim.Native.Nat.{_+_, _*_, _≤_};
 ghost use lib.ListN.{length};

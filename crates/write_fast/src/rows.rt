@@ -9,7 +9,7 @@ use write_ahead::rows::carry_and_bits;
 use write_pieces::numbers::put_list;
 
 // The same gate at each bit, the three nets one further each time.
-pub(crate) fn gate_row(
+pub fn gate_row(
     kind: u16,
     net: u16,
     a: u16,

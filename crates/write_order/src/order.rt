@@ -1,4 +1,4 @@
-// Orders: an adder, a fast adder or a leading-zero counter of a width, written into a lent buffer.
+// Orders: an adder, a fast adder, a leading-zero counter or an ALU of a width, written into a lent buffer.
 ghost use Prim.Native.Nat.{_≤_};
 ghost use mathlib.Core.Path.{_≡_};
 ghost use lib.ListN.{length};
@@ -6,6 +6,7 @@ ghost use Rattle.meaning.specs.Layout.{encode};
 ghost use Rattle.meaning.specs.Adder.{adder as adderOf};
 ghost use Rattle.meaning.specs.FastAdder.{fastAdder as fastAdderOf};
 ghost use Rattle.meaning.specs.Counter.{counter as counterOf};
+ghost use Rattle.meaning.specs.Alu.{alu as aluOf};
 ghost use Rattle.meaning.specs.Calls.{writing, fitting};
 ghost use Rattle.bytes_out.specs.Filled.{Filled};
 ghost use Rattle.answers.specs.Answers.{Answers};
@@ -18,13 +19,14 @@ enum Order {
     Adder,
     FastAdder,
     Counter,
+    Alu,
 }
 
-// Room for every adder and counter, and for the fast adders that are narrow.
+// Room for every adder and counter, and for fast adders and ALUs that are narrow.
 const SHORT: usize = 1019;
 
 // Room for every file that is written to order.
-const LONG: usize = 5636;
+const LONG: usize = 7120;
 
 // So many bytes are enough for the file.
 fn enough(order: Order, width: usize) -> usize
@@ -35,6 +37,7 @@ fn enough(order: Order, width: usize) -> usize
         Order::Adder => SHORT,
         Order::FastAdder => 86 * width + 132,
         Order::Counter => SHORT,
+        Order::Alu => 100 * width + 720,
     }
 }
 
@@ -47,6 +50,7 @@ fn file(order: Order, width: usize, bytes: &mut [u8]) -> usize
         Order::Adder => write_ripple::file(width as u16, bytes),
         Order::FastAdder => write_fast::file(width as u16, bytes),
         Order::Counter => write_counter::file(width as u8, bytes),
+        Order::Alu => write_alu::file(width as u16, bytes),
     }
 }
 
@@ -109,4 +113,11 @@ pub fn counter(width: usize, out: &mut [u8]) -> Writing
     ensures { λ r. ⌜ Answers (writing counterOf width (length (now (out .entry)))) (now (out .entry)) (now (out .exit)) r ⌝ }
 {
     write(Order::Counter, width, out)
+}
+
+// Writes the ALU of a width into `out`.
+pub fn alu(width: usize, out: &mut [u8]) -> Writing
+    ensures { λ r. ⌜ Answers (writing aluOf width (length (now (out .entry)))) (now (out .entry)) (now (out .exit)) r ⌝ }
+{
+    write(Order::Alu, width, out)
 }

@@ -16,7 +16,7 @@ use Rattle.laws.specs.Adder.Ripple.{ripple, fullSum, fullCarry, length-o
 use Rattle.laws.specs.Adder.Outputs.{adder-outputs}
 
 -- A gate on bits.
-abbrev gateBit : ℕ → List Bool → Bool
+abbrev pub gateBit : ℕ → List Bool → Bool
 gateBit number bits = gate number .function bits
 
 -- The chain of full adders on bits.

@@ -20,7 +20,7 @@ use Rattle.laws.specs.FastAdder.Times.{unit, after-two}
 use Rattle.laws.specs.FastAdder.Grown.{spine-quick}
 
 -- The latest of a run of nets and some more.
-latest-run :
+pub latest-run :
     (env : Env ℕ) (first count bound : ℕ) (rest : List ℕ)
     → ((i : ℕ) → i < count → look 0 (first + i) env ≤ bound)
     → largest (lookAll 0 rest env) ≤ bound
@@ -79,7 +79,7 @@ module _ (n : ℕ) (ns : Nets 0 unit n (steps n) (0 ∷ replicate (2 * n) 0)) wh
   carry-at zero low = rw (← ns .innerCarry 0 (omega arith)) (omega (arith, carry-in))
   carry-at (suc i) low =
       rw (← ns .innerCarry (suc i) low)
-      (spine-quick n (ns .inner) bits 0 (height n) (2 * height n + 1) (omega arith) .lowest n 0 (height-tall n) (omega arith)
+      (spine-quick n (ns .inner) 0 bits 0 (height n) (2 * height n + 1) (omega arith) .lowest n 0 (height-tall n) (omega arith)
       (ns .chained) (omega (arith, carry-in)) .by (suc i) (omega arith) (omega arith))
 
   sum-at : (i : ℕ) → i < n → at (5 * n + 1 + i) ≤ 2 * height n + 2

@@ -23,7 +23,7 @@ use Rattle.laws.specs.FastAdder.Counting.{total, total-append, length-to
 
 module _ (n : ℕ) (steps : List Step) (whole : width steps ≡ n) where
   -- Module 41.
-  chain-gates :
+  pub chain-gates :
       2 * bodyWeight (λ kind. 1) (gateWeight (λ kind. 1) carriers) (chain n steps 0) + 5 * ones steps + 8 * twos steps ≡ 9 * n
   unfolding gateWeight bodyWeight gatesOf
   chain-gates =
@@ -35,7 +35,7 @@ module _ (n : ℕ) (steps : List Step) (whole : width steps ≡ n) where
         width-counted steps,
       )
 
-  chain-size : bodySize (expandedSize carriers) (chain n steps 0) + 3 * ones steps + 5 * twos steps ≡ 6 * n
+  pub chain-size : bodySize (expandedSize carriers) (chain n steps 0) + 3 * ones steps + 5 * twos steps ≡ 6 * n
   unfolding expandedSize bodySize visits
   chain-size =
       let later = expandedSize carriers in
@@ -137,7 +137,7 @@ unfolding room netCount driven largestReferred
 carriers-room x = either-most (eqb x 43) 8 _ 8 (lit≤ tt) (either-most (eqb x 42) 5 0 8 (lit≤ tt) (lit≤ tt))
 
 module _ (n : ℕ) (steps : List Step) (whole : width steps ≡ n) where
-  inner-room : (x : ℕ) → room (afterFirst n steps) x ≤ 4 * n + 9
+  pub inner-room : (x : ℕ) → room (afterFirst n steps) x ≤ 4 * n + 9
   unfolding room
   inner-room x =
       either-most (eqb x (lookahead n steps .number)) _ _ (4 * n + 9)

@@ -7,7 +7,7 @@ use lib.Dec.{lit≤}
 use lib.ListN.{length-append}
 use Rattle.meaning.specs.Lists.{All, none, more}
 use Rattle.meaning.specs.Layout.{each, numberBytes, occurrenceNumbers, moduleNumbers, fileNumbers, encode}
-use Rattle.meaning.specs.Reading.{holds, read}
+use Rattle.meaning.specs.Reading.{mostNets, holds, read}
 use Rattle.meaning.specs.Ceilings.{Small, mostNumber, NetsWithin, OccurrenceWithin, ModuleWithin, Within}
 use Rattle.meaning.specs.Verdict.{good, verdict, verdictOf}
 use Rattle.meaning.specs.Adder.{upFrom}
@@ -22,18 +22,18 @@ use Rattle.laws.specs.FastAdder.Shape.{steps-width}
 use Rattle.laws.specs.FastAdder.Figures.{chain-length, fast-length}
 use Rattle.laws.specs.FastAdder.Numbers.{fast-adder-bytes}
 
-all-both : {A : Type 0} {P : A → Type 0} {xs ys : List A} → All P xs → All P ys → All P (xs ++ ys)
+pub all-both : {A : Type 0} {P : A → Type 0} {xs ys : List A} → All P xs → All P ys → All P (xs ++ ys)
 all-both none rest = rest
 all-both (more p ps) rest = more p (all-both ps rest)
 
 -- An occurrence that drives one net.
-single :
+pub single :
     (net refers : ℕ) (takes : List ℕ) → Small net → Small refers → NetsWithin takes
     → OccurrenceWithin (record { drives = net ∷ []; refers = refers; takes = takes })
 single net refers takes low small nets =
     record { drives = record { count = lit≤ tt; numbers = more low none }; refers = small; takes = nets }
 
-small-run : (first n : ℕ) → first + n ≤ suc mostNumber → All Small (upFrom first n)
+pub small-run : (first n : ℕ) → first + n ≤ suc mostNumber → All Small (upFrom first n)
 unfolding upFrom
 small-run first zero low = none
 small-run first (suc n) low = more {x = first} (omega arith) (small-run (suc first) n (omega arith))
@@ -120,8 +120,8 @@ module _ (n : ℕ) (most : n ≤ 64) where
       (all-both (ahead-within y (s + leaves x) (omega arith))
       (more (two-within x y s (omega arith)) (chain-within steps (s + leaves x + leaves y) (omega arith)))))
 
-  row-within :
-      (kind net a b count : ℕ) → Small kind → net + count ≤ 385 → a + count ≤ 385 → b + count ≤ 385
+  pub row-within :
+      (kind net a b count : ℕ) → Small kind → net + count ≤ suc mostNumber → a + count ≤ suc mostNumber → b + count ≤ suc mostNumber
       → All OccurrenceWithin (gateRow kind net a b count)
   unfolding gateRow
   row-within kind net a b zero small on-net on-a on-b = none
@@ -131,22 +131,23 @@ module _ (n : ℕ) (most : n ≤ 64) where
       (record { count = lit≤ tt; numbers = more {x = a} (omega arith) (more {x = b} (omega arith) none) }))
       (row-within kind (suc net) (suc a) (suc b) count small (omega arith) (omega arith) (omega arith))
 
-  -- The carry in and two rows.
-  wide-within : (first : ℕ) → first + 2 * n ≤ 385 → NetsWithin (0 ∷ upFrom first (2 * n))
-  wide-within first low =
-      record { count = omega (arith, length-upFrom first (2 * n)); numbers = more (lit≤ tt) (small-run first (2 * n) (omega arith)) }
+  -- A row, and the carry in and two rows.
+  pub run-within : (first count : ℕ) → count ≤ mostNets → first + count ≤ suc mostNumber → NetsWithin (upFrom first count)
+  run-within first count few low =
+      record { count = omega (arith, length-upFrom first count); numbers = small-run first count low }
 
-  carries-within : NetsWithin (upFrom 1 n)
-  carries-within = record { count = omega (arith, length-upFrom 1 n); numbers = small-run 1 n (omega arith) }
+  pub wide-within : (carry first : ℕ) → Small carry → first + 2 * n ≤ suc mostNumber → NetsWithin (carry ∷ upFrom first (2 * n))
+  wide-within carry first small low =
+      record { count = omega (arith, length-upFrom first (2 * n)); numbers = more small (small-run first (2 * n) low) }
 
   module _ (steps : List Step) (whole : width steps ≡ n) where
-    lookahead-within : ModuleWithin (lookahead n steps)
+    pub lookahead-within : ModuleWithin (lookahead n steps)
     unfolding lookahead
     lookahead-within =
         record {
           number = lit≤ tt;
-          inputs = wide-within (n + 1) (omega arith);
-          outputs = carries-within;
+          inputs = wide-within 0 (n + 1) (lit≤ tt) (omega arith);
+          outputs = run-within 1 n (omega arith) (omega arith);
           count = omega (arith, chain-length n steps whole);
           occurrences = chain-within steps 0 (omega arith);
         }
@@ -156,7 +157,7 @@ module _ (n : ℕ) (most : n ≤ 64) where
     first-within =
         record {
           number = lit≤ tt;
-          inputs = wide-within (n + 1) (omega arith);
+          inputs = wide-within 0 (n + 1) (lit≤ tt) (omega arith);
           outputs =
               record {
                 count = omega (arith, length-append (upFrom (5 * n + 1) n) (n ∷ []), length-upFrom (5 * n + 1) n);
@@ -166,11 +167,11 @@ module _ (n : ℕ) (most : n ≤ 64) where
           occurrences =
               all-both (row-within 9 (3 * n + 1) (n + 1) (2 * n + 1) n (lit≤ tt) (omega arith) (omega arith) (omega arith))
               (all-both (row-within 10 (4 * n + 1) (n + 1) (2 * n + 1) n (lit≤ tt) (omega arith) (omega arith) (omega arith))
-              (more (record { drives = carries-within; refers = lit≤ tt; takes = wide-within (3 * n + 1) (omega arith) })
+              (more (record { drives = run-within 1 n (omega arith) (omega arith); refers = lit≤ tt; takes = wide-within 0 (3 * n + 1) (lit≤ tt) (omega arith) })
               (row-within 9 (5 * n + 1) (3 * n + 1) 0 n (lit≤ tt) (omega arith) (omega arith) (omega arith))));
         }
 
-carriers-within : All ModuleWithin carriers
+pub carriers-within : All ModuleWithin carriers
 unfolding
     smallFile smallModule smallOccurrence fewNets smallNumber encode fileNumbers moduleNumbers occurrenceNumbers each numberBytes
 carriers-within = file-within carriers refl .modules .modules

@@ -48,7 +48,7 @@ added-both {first} {middle} {a} {b} {old} {mid} {new} meet low-part high-part =
     go net low high (yes below) = high-part .kept net (low-part .added net low (omega arith))
     go net low high (no above) = high-part .added net (omega arith) (omega arith)
 
-added-first : {first count : ℕ} {old new : List ℕ} → Added (suc first) count (first ∷ old) new → Added first (suc count) old new
+pub added-first : {first count : ℕ} {old new : List ℕ} → Added (suc first) count (first ∷ old) new → Added first (suc count) old new
 added-first {first} {count} {old} {new} rest =
     record {
       kept = λ net held. rest .kept net (behind net first old held);
@@ -64,7 +64,7 @@ added-first {first} {count} {old} {new} rest =
 
 -- A row of the same gate of two arguments.
 module _ (later : List Module) (Final : List ℕ → Type 0) (kind : ℕ) (is-gate : isGate kind ≡ true) (two : gate kind .arity ≡ 2) where
-  gate-ok :
+  pub gate-ok :
       (net a b : ℕ) (signals : List ℕ)
       → member a signals ≡ true
       → member b signals ≡ true

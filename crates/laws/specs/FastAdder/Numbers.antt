@@ -17,23 +17,23 @@ use Rattle.laws.specs.FastAdder.Counting.{numbers-total, ones, twos, wid
 use Rattle.laws.specs.FastAdder.Figures.{rows-total}
 
 -- A number has at most two bytes.
-bytes-most : (xs : List ℕ) → length (each numberBytes xs) ≤ 2 * length xs
+pub bytes-most : (xs : List ℕ) → length (each numberBytes xs) ≤ 2 * length xs
 unfolding each
 bytes-most [] = omega arith
 bytes-most (x ∷ xs) = omega (arith, length-append (numberBytes x) (each numberBytes xs), most-count x, bytes-most xs)
 
-module-numbers :
+pub module-numbers :
     (m : Module)
     → length (moduleNumbers m) ≡ 4 + length (m .inputs) + length (m .outputs) + length (each occurrenceNumbers (m .occurrences))
 unfolding moduleNumbers
 module-numbers m = simp length-append (omega arith)
 
-carriers-numbers : length (each moduleNumbers carriers) ≡ 50
+pub carriers-numbers : length (each moduleNumbers carriers) ≡ 50
 unfolding each moduleNumbers occurrenceNumbers
 carriers-numbers = refl
 
 module _ (n : ℕ) (steps : List Step) (whole : width steps ≡ n) where
-  lookahead-numbers : length (moduleNumbers (lookahead n steps)) + 9 * ones steps + 16 * twos steps ≡ 19 * n + 5
+  pub lookahead-numbers : length (moduleNumbers (lookahead n steps)) + 9 * ones steps + 16 * twos steps ≡ 19 * n + 5
   unfolding lookahead occurrenceNumbers
   lookahead-numbers =
       omega (

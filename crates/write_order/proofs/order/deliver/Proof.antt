@@ -6,17 +6,18 @@ use borrow.Author.Needs.{needs}
 use Rattle.meaning.specs.Layout.{encode}
 use Rattle.write_order.specs.Orders.{modulesOf, enoughFor}
 use Rattle.write_order.specs.declared.order.Order.{Order}
-use Rattle.write_order.specs.declared.order.Order.the-variants.{Adder, FastAdder, Counter}
+use Rattle.write_order.specs.declared.order.Order.the-variants.{Adder, FastAdder, Counter, Alu}
 use Rattle.bytes_out.specs.Puts.{front-within}
 use Rattle.write_order.proofs.Answering.{answers-file}
 use Rattle.write_order.proofs.order.deliver.Statement.{statement}
 use Rattle.write_order.proofs.order.deliver.Tie as tie
 
 -- No order needs more than the long list has.
-long-enough : (order : Order) (width : ℕ) → width ≤ 64 → enoughFor order width ≤ 5636
+long-enough : (order : Order) (width : ℕ) → width ≤ 64 → enoughFor order width ≤ 7120
 long-enough Adder width most = omega arith
 long-enough FastAdder width most = omega arith
 long-enough Counter width most = omega arith
+long-enough Alu width most = omega arith
 
 abbrev start : tie.After-enough → tie.Start
 start c = c .before .before

@@ -17,6 +17,9 @@ returns-2 c = rw (c .before .before .before .before .enum-told2 .given .1) (c .b
 returns-3 : tie.Need-returns-3
 returns-3 c = rw (c .before .before .before .before .enum-told3 .given .1) (c .before .before .file3 .ensures)
 
+returns-4 : tie.Need-returns-4
+returns-4 c = rw (c .before .before .before .before .enum-told4 .given .1) (c .before .before .file4 .ensures)
+
 file-requires : tie.Need-file-requires
 file-requires c κs =
     let told = c .before in
@@ -38,6 +41,13 @@ file-requires-3 c κs =
     let room = subst (λ o. enoughFor o (start .args .width) ≤ length (start .args .bytes .now)) (told .enum-told3 .given .1) (start .pre .2) in
     (start .pre .0, start .pre .1, omega arith)
 
+file-requires-4 : tie.Need-file-requires-4
+file-requires-4 c κs =
+    let told = c .before in
+    let start = told .before .before .before in
+    let room = subst (λ o. enoughFor o (start .args .width) ≤ length (start .args .bytes .now)) (told .enum-told4 .given .1) (start .pre .2) in
+    (start .pre .0, start .pre .1, room)
+
 pub file-spec : {M : Type 1} → statement M
 file-spec =
     tie.close
@@ -52,8 +62,13 @@ file-spec =
     (λ c. search needs)
     file-requires-3
     (λ c. search needs)
+    (λ c. search needs)
+    file-requires-4
+    (λ c. search needs)
     returns
     (λ c. search needs)
     returns-2
     (λ c. search needs)
-    returns-3)
+    returns-3
+    (λ c. search needs)
+    returns-4)

@@ -1,0 +1,3 @@
+-- Facts that the functions' proofs share.
+pub mod Occurrences
+pub mod AluBytes

@@ -1,0 +1,3 @@
+-- What the contracts of the ALU's writer cite, beside `meaning`.
+pub mod Heads
+pub mod Lists
