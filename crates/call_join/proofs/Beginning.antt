@@ -26,11 +26,11 @@ use Rattle.open_places.specs.declared.Noted.the-variants as noted
 use Rattle.write_joined.specs.Marks.{Marks, Markable}
 use Rattle.write_joined.specs.Gathering.{Gathering, Gathers}
 use Rattle.write_joined.specs.declared.gathering.Gathered.{Gathered}
-use Rattle.call_join.specs.Joins.{Joins, neither}
-use Rattle.call_join.specs.Assembling.{Assembled}
+use Rattle.join_ending.specs.Joins.{Joins, neither}
+use Rattle.join_ending.specs.Assembling.{Assembled}
 use Rattle.call_join.specs.Begun.{joinHouse, Begun, Spaces}
-use Rattle.call_join.specs.declared.Joining.{Joining}
-use Rattle.call_join.specs.declared.Joining.the-variants.{Refused}
+use Rattle.join_ending.specs.declared.Joining.{Joining}
+use Rattle.join_ending.specs.declared.Joining.the-variants.{Refused}
 
 -- What noting a file's modules says of its answer.
 module _ (file names places : List ℕ) (r : Noted) (n : Notes r file names places) where

@@ -1,4 +1,2 @@
 -- Facts that the proofs cite.
-pub mod Delivers
-pub mod Assembles
 pub mod Beginning

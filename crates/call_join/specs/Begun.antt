@@ -12,7 +12,7 @@ use Rattle.meaning.specs.Shelves.{About, onBoth, bytesOf, joined, joinOn}
 use Rattle.bytes_out.specs.Filled.{Put}
 use Rattle.write_joined.specs.Marks.{Marks}
 use Rattle.write_joined.specs.declared.gathering.Gathered.{Gathered}
-use Rattle.call_join.specs.Joins.{neither}
+use Rattle.join_ending.specs.Joins.{neither}
 
 -- What joining comes to once the group's file has been read.
 abbrev pub joinHouse : (own : List Module) (house : List ℕ) (out : ℕ) → About Written

@@ -1,4 +1,2 @@
--- What joining answers, and what it works on.
-pub mod Joins
-pub mod Assembling
+-- What joining works on.
 pub mod Begun

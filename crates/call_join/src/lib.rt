@@ -1,27 +1,16 @@
 // One file joined of two: the group's modules in order, then the house's whose numbers the group lacks; and the check of it. All is put
 // together in a list of the call's own, so that a refusal changes nothing that was lent.
-mod assembling; // assembling.rt: the joined file, from its count to the answer
-
-use crate::assembling::assemble;
+pub use join_ending::Joining;
+use join_ending::assemble;
 use open_places::Noted;
 use write_joined::Gathered;
 use write_joined::gather;
 use write_joined::mark;
 use write_pieces::bytes::copy;
 ghost use Rattle.meaning.specs.Shelves.{joining};
-ghost use Rattle.call_join.specs.Joins.{Joins};
+ghost use Rattle.join_ending.specs.Joins.{Joins};
 ghost use Rattle.call_join.specs.Begun.{Begun, joinHouse, Spaces};
 ghost use lib.ListN.{length};
-
-// How many bytes were written, or the refusal and which file it is about: 1 the group's, 2 the house's, 0 neither.
-pub enum Joining {
-    Wrote(usize),
-    Refused {
-        which: u16,
-        number: u16,
-        place: usize,
-    },
-}
 
 // The house's modules behind the group's, of which so many are gathered and marked.
 fn join_house(

@@ -5,9 +5,9 @@ use mathlib.Core.Path.{_≡_, ap}
 use mathlib.Core.List.{List, [], _∷_, _++_}
 use native.Mathlib.Omega.{arith}
 use Rattle.meaning.specs.Syntax.{Occurrence, Module}
-use Rattle.meaning.specs.Boxlist.{isBox}
+use Rattle.meaning.specs.Boxlist.{F, assoc, isBox}
 use Rattle.meaning.specs.Limits.{driven, bodySize, expandedSize, mostSize}
-use Rattle.meaning.specs.Verdict.{good, fileVerdict}
+use Rattle.meaning.specs.Verdict.{Verdict, good, andThen, fileVerdict}
 use Rattle.meaning.specs.Rules.{occurrenceRules, moduleRules, modulesRules, sizeRules, fileRules, Outcome, allKept, kept}
 use Rattle.laws.specs.WellFormed.{Body, done, step, ModuleOk, Accepted, none, some}
 use Rattle.laws.specs.Tests.{if-true, if-false, is-true, is-false, otherwise, neither, not-below}
@@ -72,7 +72,7 @@ good-accepted ms e =
     modules-accepted 0 0 ms (both .0) (both .1)
 
 -- Where the list is accepted no rule is broken.
-body-kept :
+pub body-kept :
     (p : ℕ) {later : List Module} {signals : List ℕ} {os : List Occurrence}
     → Body later signals os
     → Outcome (occurrenceRules p os signals later) good
@@ -86,18 +86,28 @@ body-kept p {later} {signals} (step {o = o} ok rest) =
     (kept (reference-matches (ok .reference))
     (body-kept p rest))))
 
-module-kept : (p : ℕ) {m : Module} {later : List Module} → ModuleOk m later → Outcome (moduleRules p m later) good
+-- All but what its occurrences refer to, and who else has its number, is the module's own: it comes to what its occurrences come to in front
+-- of other modules too.
+pub module-comes :
+    (p : ℕ) {m : Module} {later : List Module} (others : List Module) {v : Verdict}
+    → ModuleOk m later
+    → assoc (m .number) others ≡ F
+    → Outcome (occurrenceRules p (m .occurrences) (m .inputs) others) v
+    → Outcome (moduleRules p m others) (andThen v good)
 unfolding moduleRules
-module-kept p {m} {later} ok =
+module-comes p {m} others ok unique body =
     kept (not-below (ok .above))
-    (kept (if-false (found-tells (m .number) later) (ap isBox (ok .unique)))
+    (kept (if-false (found-tells (m .number) others) (ap isBox unique))
     (kept (if-false (duplicates-tells (m .inputs)) (ok .inputsDistinct))
     (kept (if-false (duplicates-tells (m .outputs)) (ok .outputsDistinct))
     (kept (if-true (disjoint-tells (m .inputs) (m .outputs)) (ok .apart))
-    (andThen-outcome (body-kept p (ok .body))
+    (andThen-outcome body
     (kept (if-true (subset-tells (m .outputs) (driven (m .occurrences))) (ok .outputsDriven))
     (kept (not-below (ok .nets))
     allKept)))))))
+
+module-kept : (p : ℕ) {m : Module} {later : List Module} → ModuleOk m later → Outcome (moduleRules p m later) good
+module-kept p {later = later} ok = module-comes p later ok (ok .unique) (body-kept p (ok .body))
 
 modules-kept : (p : ℕ) {ms : List Module} → Accepted ms → Outcome (modulesRules p ms) good
 unfolding modulesRules

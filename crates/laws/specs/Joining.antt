@@ -19,7 +19,7 @@ abbrev pub orFound : Found → Found → Found
 orFound (box m) other = box m
 orFound F other = other
 
-found-append : (number : ℕ) (own others : List Module) → assoc number (own ++ others) ≡ orFound (assoc number own) (assoc number others)
+pub found-append : (number : ℕ) (own others : List Module) → assoc number (own ++ others) ≡ orFound (assoc number own) (assoc number others)
 unfolding assoc
 found-append number [] others = refl
 found-append number (m ∷ own) others = go (eqb number (m .number)) (found-append number own others)
@@ -32,7 +32,7 @@ found-append number (m ∷ own) others = go (eqb number (m .number)) (found-appe
     go false e = e
 
 -- Of a number that the group lacks the house's modules in the joined list say what the house's file says,
-found-lacking :
+pub found-lacking :
     (number : ℕ) (own others : List Module) → assoc number own ≡ F → assoc number (lacking own others) ≡ assoc number others
 unfolding lacking assoc
 found-lacking number own [] lacks = refl

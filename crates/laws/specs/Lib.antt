@@ -47,6 +47,7 @@ pub mod Referring
 pub mod BehindCalls
 pub mod Joining
 pub mod Overriding
+pub mod JoinedVerdict
 pub mod LookUp
 pub mod Shelves
 pub mod Adder

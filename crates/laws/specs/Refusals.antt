@@ -73,7 +73,7 @@ unfolding modulesRules modulesVerdict
 modules-outcome p [] = allKept
 modules-outcome p (m ∷ later) = andThen-outcome (module-outcome p m later) (modules-outcome (suc p) later)
 
-sizes-outcome : (p : ℕ) (ms : List Module) → Outcome (sizeRules p ms) (sizesVerdict p ms)
+pub sizes-outcome : (p : ℕ) (ms : List Module) → Outcome (sizeRules p ms) (sizesVerdict p ms)
 unfolding sizeRules sizesVerdict
 sizes-outcome p [] = allKept
 sizes-outcome p (m ∷ later) =

@@ -9,9 +9,9 @@ use Rattle.meaning.specs.Shelves.{About, Part, onBoth, orElse, lookUpOn, lookUp
 use Rattle.call_look_up.specs.Looking.{lookedOf}
 use Rattle.call_look_up.specs.declared.Looked.{Looked}
 use Rattle.call_look_up.specs.declared.Looked.the-variants as looked
-use Rattle.call_join.specs.Joins.{joiningAs}
-use Rattle.call_join.specs.declared.Joining.{Joining}
-use Rattle.call_join.specs.declared.Joining.the-variants as join
+use Rattle.join_ending.specs.Joins.{joiningAs}
+use Rattle.join_ending.specs.declared.Joining.{Joining}
+use Rattle.join_ending.specs.declared.Joining.the-variants as join
 use Rattle.shelf_c.specs.Results.{writtenAfter}
 use Rattle.shelf_c.specs.TwoFiles.{startAfter, lengthAfter}
 

@@ -7,8 +7,8 @@ use Rattle.meaning.specs.Calls.{Decision, refusal, answer, Written, outAfter}
 use Rattle.meaning.specs.Shelves.{About}
 use Rattle.answers.specs.declared.Writing.{Writing}
 use Rattle.answers.specs.declared.Writing.the-variants as writing
-use Rattle.call_join.specs.declared.Joining.{Joining}
-use Rattle.call_join.specs.declared.Joining.the-variants.{Wrote, Refused}
+use Rattle.join_ending.specs.declared.Joining.{Joining}
+use Rattle.join_ending.specs.declared.Joining.the-variants.{Wrote, Refused}
 
 -- The number of bytes written; or the refusal's number and place, and which file it is about.
 abbrev pub joiningAs : (which : ℕ) → Decision Written → Joining

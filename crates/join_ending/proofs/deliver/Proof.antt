@@ -2,9 +2,9 @@
 use mathlib.Core.Path.{sym, _∙_}
 use borrow.Author.Needs.{needs}
 use lib.ListN.{length}
-use Rattle.call_join.proofs.Delivers.{delivers-refused, delivers}
-use Rattle.call_join.proofs.assembling.deliver.Statement.{statement}
-use Rattle.call_join.proofs.assembling.deliver.Tie as tie
+use Rattle.join_ending.proofs.Delivers.{delivers-refused, delivers}
+use Rattle.join_ending.proofs.deliver.Statement.{statement}
+use Rattle.join_ending.proofs.deliver.Tie as tie
 
 abbrev entered : tie.After-modules → tie.Start
 entered m = m .before .before .before

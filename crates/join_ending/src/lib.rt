@@ -1,5 +1,5 @@
-// The joined file: its modules stand gathered from place 2 on, and the count is put in front of them, in one byte or two.
-use crate::Joining;
+// The end of joining: the modules of the joined file stand gathered from place 2 on, and the count is put in front of them, in one byte or two;
+// then the check, and the room in the buffer.
 use answers::Listed;
 use answers::Writing;
 use write_joined::Gathered;
@@ -9,8 +9,18 @@ ghost use Rattle.meaning.specs.Calls.{ifGood, fitting};
 ghost use Rattle.meaning.specs.Verdict.{fileVerdict};
 ghost use Rattle.meaning.specs.Layout.{encode};
 ghost use Rattle.meaning.specs.Shelves.{joinOn};
-ghost use Rattle.call_join.specs.Joins.{ofWriting, neither, Joins};
-ghost use Rattle.call_join.specs.Assembling.{Whole, Assembled};
+ghost use Rattle.join_ending.specs.Joins.{ofWriting, neither, Joins};
+ghost use Rattle.join_ending.specs.Assembling.{Whole, Assembled};
+
+// How many bytes were written, or the refusal and which file it is about: 1 the group's, 2 the house's, 0 neither.
+pub enum Joining {
+    Wrote(usize),
+    Refused {
+        which: u16,
+        number: u16,
+        place: usize,
+    },
+}
 
 // What is about neither file.
 fn of_joined(writing: Writing) -> Joining
@@ -44,7 +54,7 @@ fn deliver(file: &[u8], out: &mut [u8]) -> Joining
 }
 
 // 4 if over 128 modules, 1 if over 65,535 bytes; then the count, and the file goes on.
-pub(crate) fn assemble(all: Gathered, bytes: &mut [u8], out: &mut [u8]) -> Joining
+pub fn assemble(all: Gathered, bytes: &mut [u8], out: &mut [u8]) -> Joining
     requires { ⌜ Assembled all (now bytes) ⌝ }
     ensures { λ r.
         ⌜ ((a : Assembled all (now (bytes .entry)))

@@ -12,10 +12,10 @@ use Rattle.answers.specs.Answers.{writingOf, Answers}
 use Rattle.answers.specs.Contents.{listedOf}
 use Rattle.answers.specs.declared.Listed.the-variants as listed
 use Rattle.answers.specs.declared.Writing.{Writing}
-use Rattle.call_join.specs.Joins.{joiningAs, Joins, neither, ofWriting}
-use Rattle.call_join.specs.Assembling.{Whole}
-use Rattle.call_join.specs.declared.Joining.{Joining}
-use Rattle.call_join.specs.declared.Joining.the-variants.{Refused}
+use Rattle.join_ending.specs.Joins.{joiningAs, Joins, neither, ofWriting}
+use Rattle.join_ending.specs.Assembling.{Whole}
+use Rattle.join_ending.specs.declared.Joining.{Joining}
+use Rattle.join_ending.specs.declared.Joining.the-variants.{Refused}
 
 -- The count of a whole file's modules is its check.
 count-of : {file : List ℕ} (w : Whole file) → moduleCount file ≡ ifGood (fileVerdict (w .ms)) (answer (length (w .ms)))

@@ -3,9 +3,9 @@ use Prim.Native.Nat.{_-_, _/_, _≤_}
 use native.Mathlib.Omega.{arith}
 use borrow.Author.Needs.{needs}
 use lib.ListN.{length}
-use Rattle.call_join.proofs.Assembles.{end-after, assembled-length, too-many, room-for-count, too-long, whole, joins-whole}
-use Rattle.call_join.proofs.assembling.assemble.Statement.{statement}
-use Rattle.call_join.proofs.assembling.assemble.Tie as tie
+use Rattle.join_ending.proofs.Assembles.{end-after, assembled-length, too-many, room-for-count, too-long, whole, joins-whole}
+use Rattle.join_ending.proofs.assemble.Statement.{statement}
+use Rattle.join_ending.proofs.assemble.Tie as tie
 
 -- Where neither refusal applies, and the function's entry.
 abbrev entered : tie.Else2 → tie.Start

@@ -1,9 +1,9 @@
 -- Each case is the definition's.
 use mathlib.Core.Path.{sym, ap}
 use borrow.Author.Needs.{needs}
-use Rattle.call_join.specs.Joins.{ofWriting}
-use Rattle.call_join.proofs.assembling.of_joined.Statement.{statement}
-use Rattle.call_join.proofs.assembling.of_joined.Tie as tie
+use Rattle.join_ending.specs.Joins.{ofWriting}
+use Rattle.join_ending.proofs.of_joined.Statement.{statement}
+use Rattle.join_ending.proofs.of_joined.Tie as tie
 
 pub of-joined-spec : {M : Type 1} → statement M
 of-joined-spec =

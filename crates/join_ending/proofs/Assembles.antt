@@ -16,10 +16,10 @@ use Rattle.laws.specs.Written.{bytes-of-low, bytes-of-high, bytes-of-file}
 use Rattle.bytes_out.specs.Filled.{Put}
 use Rattle.bytes_out.specs.Puts.{length-put}
 use Rattle.write_joined.specs.declared.gathering.Gathered.{Gathered}
-use Rattle.call_join.specs.Joins.{Joins, neither}
-use Rattle.call_join.specs.Assembling.{Whole, Assembled}
-use Rattle.call_join.specs.declared.Joining.{Joining}
-use Rattle.call_join.specs.declared.Joining.the-variants.{Refused}
+use Rattle.join_ending.specs.Joins.{Joins, neither}
+use Rattle.join_ending.specs.Assembling.{Whole, Assembled}
+use Rattle.join_ending.specs.declared.Joining.{Joining}
+use Rattle.join_ending.specs.declared.Joining.the-variants.{Refused}
 
 -- The count takes the byte at place 1, or both in front of place 2.
 count-bytes : (n : ℕ) → n ≤ 128 → 1 - n / 128 + length (numberBytes n) ≡ 2

@@ -1,0 +1,3 @@
+-- What joining answers, and the joined file before and behind its count.
+pub mod Joins
+pub mod Assembling
