@@ -57,7 +57,7 @@ fn block_at(
             place: 0,
         };
     }
-    crate::space::run(image, starts, nets, site, rows, values, out);
+    crate::space::run(256, image, starts, nets, site, rows, values, out);
     image::buffers::clear(room, scratch);
     Writing::Wrote(outputs)
 }

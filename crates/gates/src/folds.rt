@@ -1,10 +1,11 @@
 // The value of a gate, argument by argument: an operation of two arguments that is repeated over them, and the negation. They work on the
-// values 0, 1 and 2, and an argument above 2 counts as unknown.
+// values 0, 1 and 2, and an argument above 2 counts as unknown. The results of an operation are looked up in a word: a branch on the values
+// is what a processor cannot foretell.
 ghost use mathlib.Core.Path.{_≡_};
 ghost use Prim.Native.Nat.{_≤_};
 ghost use Rattle.meaning.specs.Values.{known, value, code};
-ghost use Rattle.gates.specs.declared.folds.Fold.the-variants.{All, Any, Odd};
 ghost use Rattle.gates.specs.Folds.{neutral, step, negation};
+ghost use Rattle.gates.specs.Tables.{tableOf};
 
 const UNKNOWN: u32 = 2;
 
@@ -27,59 +28,36 @@ impl Fold {
         }
     }
 
+    // The nine results, two bits each: that of a and b stands from bit 8 a + 2 b on.
+    fn table(self) -> u32
+        ensures { λ r. ⌜ r ≡ tableOf self ⌝ }
+    {
+        match self {
+            Fold::All => 0x28_24_00,
+            Fold::Any => 0x26_15_24,
+            Fold::Odd => 0x2a_21_24,
+        }
+    }
+
     // The answer with one argument more: it was a, and b comes.
     pub fn step(self, a: u32, b: u32) -> u32
         requires { ⌜ a ≤ 2 ⌝ }
         ensures { λ r. ⌜ r ≡ code (step self (value a) (value b)) ⌝ }
     {
-        match self {
-            Fold::All => and(a, b),
-            Fold::Any => or(a, b),
-            Fold::Odd => xor(a, b),
-        }
+        (self.table() >> (8 * a + 2 * coded(b))) % 4
     }
 }
 
-// A 0 forces the result, and a 1 leaves it to the other argument.
-fn and(a: u32, b: u32) -> u32
-    requires { ⌜ a ≤ 2 ⌝ }
-    ensures { λ r. ⌜ r ≡ code (step All (value a) (value b)) ⌝ }
+// The value that a number stands for as 0, 1 or 2.
+fn coded(b: u32) -> u32
+    ensures { λ r. ⌜ r ≡ code (value b) ⌝ }
 {
-    if a == 0 || b == 0 {
-        return 0;
-    }
-    if b == 1 { a } else { UNKNOWN }
+    if b < UNKNOWN { b } else { UNKNOWN }
 }
 
-// A 1 forces the result, and a 0 leaves it to the other argument.
-fn or(a: u32, b: u32) -> u32
-    requires { ⌜ a ≤ 2 ⌝ }
-    ensures { λ r. ⌜ r ≡ code (step Any (value a) (value b)) ⌝ }
-{
-    if a == 1 || b == 1 {
-        return 1;
-    }
-    if b == 0 { a } else { UNKNOWN }
-}
-
-// Nothing forces the result.
-fn xor(a: u32, b: u32) -> u32
-    requires { ⌜ a ≤ 2 ⌝ }
-    ensures { λ r. ⌜ r ≡ code (step Odd (value a) (value b)) ⌝ }
-{
-    match b {
-        0 => a,
-        1 => not(a),
-        _ => UNKNOWN,
-    }
-}
-
+// An odd number of 1 and a is one where a is none.
 pub fn not(a: u32) -> u32
     ensures { λ r. ⌜ r ≡ code (negation (value a)) ⌝ }
 {
-    match a {
-        0 => 1,
-        1 => 0,
-        _ => UNKNOWN,
-    }
+    Fold::Odd.step(1, a)
 }

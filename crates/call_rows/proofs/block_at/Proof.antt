@@ -147,5 +147,5 @@ block-at-spec =
     (λ c.
     let cleared = c .before .before in
     let ran = cleared .before .before .before .before in
-    ran .run .kept .1 .1 .1 .1 .1 .1 .0)
+    ran .run .kept .1 .1 .1 .1 .1 .1 .1 .0)
     returns-5)

@@ -1,2 +1,0 @@
--- Facts that the functions' proofs share.
-pub mod Steps
