@@ -19,9 +19,9 @@ enum { ROUNDS = 25, ROUND_NS = 2000000, MOST = 65536, BLOCK = 1024, MOST_OUT = 1
 struct side {
     uint16_t (*check)(const uint8_t *, size_t, size_t *);
     uint16_t (*evaluate)(const uint8_t *, size_t, uint16_t, const uint8_t *, size_t, uint32_t *, size_t, uint8_t *,
-                         size_t, size_t *, size_t *);
+                         size_t, size_t *, uint32_t *, size_t *);
     uint16_t (*evaluate_rows)(const uint8_t *, size_t, uint16_t, size_t, const uint8_t *, size_t, uint32_t *, size_t,
-                              uint8_t *, size_t, size_t *, size_t *);
+                              uint8_t *, size_t, size_t *, uint32_t *, size_t *);
     uint16_t (*count)(const uint8_t *, size_t, uint16_t, uint32_t *, size_t, uint32_t *, uint32_t *, size_t *);
     uint16_t (*flatten)(const uint8_t *, size_t, uint16_t, uint32_t *, size_t, uint8_t *, size_t, size_t *, size_t *);
     uint16_t (*adder)(size_t, uint8_t *, size_t, size_t *, size_t *);
@@ -39,7 +39,7 @@ static const struct side theirs = {tuned_check,   tuned_evaluate, tuned_evaluate
 static struct bench_file file;
 static size_t width, inputs, rows;
 static uint8_t values[192 * BLOCK], out[MOST_OUT];
-static uint32_t scratch[MOST], figures[7], tally[16];
+static uint32_t scratch[MOST], work, figures[7], tally[16];
 static size_t written, place;
 
 typedef uint16_t task(const struct side *side);
@@ -52,7 +52,7 @@ static uint16_t check(const struct side *side)
 static uint16_t evaluate(const struct side *side)
 {
     return side->evaluate(file.bytes, file.length, file.module, values, inputs, scratch, MOST, out, MOST, &written,
-                          &place);
+                          &work, &place);
 }
 
 /* A file before itself: all of it is read twice, and written once. */
@@ -66,7 +66,7 @@ static uint16_t join(const struct side *side)
 static uint16_t evaluate_block(const struct side *side)
 {
     return side->evaluate_rows(file.bytes, file.length, file.module, rows, values, rows * inputs, scratch, MOST, out,
-                               MOST_OUT, &written, &place);
+                               MOST_OUT, &written, &work, &place);
 }
 
 /* Each row of the block by a call of its own. */
@@ -76,7 +76,7 @@ static uint16_t evaluate_each(const struct side *side)
 
     for (size_t i = 0; i < rows; i++, at += written) {
         uint16_t refused = side->evaluate(file.bytes, file.length, file.module, values + i * inputs, inputs, scratch,
-                                          MOST, out + at, MOST_OUT - at, &written, &place);
+                                          MOST, out + at, MOST_OUT - at, &written, &work, &place);
 
         if (refused != 0)
             return refused;

@@ -447,7 +447,7 @@ static void run_values(uint32_t k, uint8_t *frame)
 
 uint16_t TUNED(evaluate)(const uint8_t *file, size_t file_len, uint16_t number, const uint8_t *values,
                          size_t values_len, uint32_t *scratch, size_t scratch_len, uint8_t *out, size_t out_len,
-                         size_t *written, size_t *place)
+                         size_t *written, uint32_t *work, size_t *place)
 {
     uint16_t no = open_file(file, file_len, place);
     const struct module *m;
@@ -474,6 +474,7 @@ uint16_t TUNED(evaluate)(const uint8_t *file, size_t file_len, uint16_t number, 
         out[i] = frame_values[output_slots[k][i]];
     memset(scratch, 0, m->room * sizeof *scratch);
     *written = m->outs;
+    *work = m->size;
     return 0;
 }
 
@@ -641,7 +642,7 @@ static size_t first_above(const uint8_t *values, size_t count)
 
 uint16_t TUNED(evaluate_rows)(const uint8_t *file, size_t file_len, uint16_t number, size_t rows,
                               const uint8_t *values, size_t values_len, uint32_t *scratch, size_t scratch_len,
-                              uint8_t *out, size_t out_len, size_t *written, size_t *place)
+                              uint8_t *out, size_t out_len, size_t *written, uint32_t *work, size_t *place)
 {
     uint16_t no = open_file(file, file_len, place);
     const struct module *m;
@@ -676,6 +677,7 @@ uint16_t TUNED(evaluate_rows)(const uint8_t *file, size_t file_len, uint16_t num
     }
     memset(scratch, 0, m->room * sizeof *scratch);
     *written = rows * m->outs;
+    *work = (uint32_t)rows * m->size;
     return 0;
 }
 

@@ -18,10 +18,10 @@ uint16_t TUNED(modules)(const uint8_t *file, size_t file_len, size_t *modules, s
 uint16_t TUNED(number_at)(const uint8_t *file, size_t file_len, size_t position, uint16_t *number, size_t *place);
 uint16_t TUNED(evaluate)(const uint8_t *file, size_t file_len, uint16_t number, const uint8_t *values,
                          size_t values_len, uint32_t *scratch, size_t scratch_len, uint8_t *out, size_t out_len,
-                         size_t *written, size_t *place);
+                         size_t *written, uint32_t *work, size_t *place);
 uint16_t TUNED(evaluate_rows)(const uint8_t *file, size_t file_len, uint16_t number, size_t rows,
                               const uint8_t *values, size_t values_len, uint32_t *scratch, size_t scratch_len,
-                              uint8_t *out, size_t out_len, size_t *written, size_t *place);
+                              uint8_t *out, size_t out_len, size_t *written, uint32_t *work, size_t *place);
 uint16_t TUNED(count)(const uint8_t *file, size_t file_len, uint16_t number, uint32_t *scratch, size_t scratch_len,
                       uint32_t figures[7], uint32_t tally[16], size_t *place);
 uint16_t TUNED(flatten)(const uint8_t *file, size_t file_len, uint16_t number, uint32_t *scratch,

@@ -37,7 +37,7 @@
  *   27  more than 1,024 rows                                 0
  *
  * What a call leaves. A refusal writes `*place` (and `*which`) and nothing else that was lent: no buffer, none of `*written`,
- * `*modules`, `*number`, `figures`, `tally`. An answer writes `*place` and what was asked for; it fills the first bytes
+ * `*work`, `*modules`, `*number`, `figures`, `tally`. An answer writes `*place` and what was asked for; it fills the first bytes
  * of `out` and leaves the rest, and it leaves 0 in the first `room` entries of `scratch` and the rest as it was.
  */
 #ifndef SHELF_H
@@ -62,22 +62,25 @@ uint16_t shelf_number_at(const uint8_t *file, size_t file_len, size_t position, 
 
 /* Runs the module of that number on values 0 (false), 1 (true), 2 (unknown), 3 (floats), one for each input in order.
  * The values of its outputs, in order, come in the first bytes of out; *written is how many there are. Only 0 and 1 are
- * known: what floats is unknown to every gate, and no output is 3.
+ * known: what floats is unknown to every gate, and no output is 3. *work is the number of occurrences that the run
+ * is, each counted every time it is reached, gate or module: the module's expanded size, whatever the values, at most
+ * 65,535. The code may do less than it counts.
  * Refusals 1 to 17, then 18, 19, 20, 21, 22. */
 uint16_t shelf_evaluate(const uint8_t *file, size_t file_len, uint16_t number, const uint8_t *values,
                         size_t values_len, uint32_t *scratch, size_t scratch_len, uint8_t *out, size_t out_len,
-                        size_t *written, size_t *place);
+                        size_t *written, uint32_t *work, size_t *place);
 
 /* Runs the module of that number on a block of rows at once, as many as `rows` says, at most 1,024. The rows of values
  * lie end to end in values, so that values_len is rows times the inputs, and the rows of outputs come end to end in
  * the first bytes of out, each as shelf_evaluate gives it for its row alone; *written is how many outputs there are
- * in all. With no rows nothing is written to out, and scratch is asked for and left as for one row. It takes 64 bytes
- * of stack for each of 256, 2,048, 8,192 or 65,536 entries, the fewest that the module's room fits in.
+ * in all, and *work the sum over the rows of the work that each is alone, at most 67,107,840, though one walk
+ * serves many rows. With no rows nothing is written to out, *work is 0, and scratch is asked for and left as for one row.
+ * It takes 64 bytes of stack for each of 256, 2,048, 8,192 or 65,536 entries, the fewest that the module's room fits in.
  * Refusals 1 to 17, then 18, 27, 19 where values_len is not rows times the inputs, 20 with the index in all of values,
  * 21, 22 where out is shorter than all rows of outputs. */
 uint16_t shelf_evaluate_rows(const uint8_t *file, size_t file_len, uint16_t number, size_t rows,
                              const uint8_t *values, size_t values_len, uint32_t *scratch, size_t scratch_len,
-                             uint8_t *out, size_t out_len, size_t *written, size_t *place);
+                             uint8_t *out, size_t out_len, size_t *written, uint32_t *work, size_t *place);
 
 /* Counts the module of that number. figures: inputs, outputs, gates, expanded size, room, delay, largest load.
  * tally: how many gates of each kind, in gate order; their sum is the gates. Refusals 1 to 17, then 18, 21. */

@@ -99,6 +99,7 @@ static void judge_row(size_t width, int operation, int c, uint64_t a, uint64_t b
     uint8_t values[2 * WIDEST + 5], outputs[WIDEST + 2];
     struct outcome is = meant(width, operation, c, a, b);
     size_t written, place;
+    uint32_t work;
 
     values[0] = (uint8_t)c;
     for (size_t i = 0; i < width; i++) {
@@ -108,7 +109,7 @@ static void judge_row(size_t width, int operation, int c, uint64_t a, uint64_t b
     for (int i = 0; i < 4; i++)
         values[1 + 2 * width + (size_t)i] = operation >> i & 1;
     expect(plain_evaluate(judged[width], lengths[width], ALU, values, 2 * width + 5, scratch, SCRATCH, outputs,
-                          width + 2, &written, &place) == 0,
+                          width + 2, &written, &work, &place) == 0,
            width, "cannot be run");
     expect(outputs[0] == is.carry, width, "a wrong carry");
     expect(outputs[1] == is.overflow, width, "a wrong overflow");

@@ -38,7 +38,7 @@ struct given {
 struct outcome {
     uint16_t number;
     size_t place, result;
-    uint32_t figures[7], tally[16];
+    uint32_t work, figures[7], tally[16];
 };
 
 static uint64_t seed;
@@ -59,7 +59,8 @@ static void dump(const char *name, const uint8_t *bytes, size_t length)
 
 static void print_outcome(const char *name, const struct outcome *outcome)
 {
-    printf("%s: number %u place %zu result %zu figures", name, outcome->number, outcome->place, outcome->result);
+    printf("%s: number %u place %zu result %zu work %u figures", name, outcome->number, outcome->place,
+           outcome->result, outcome->work);
     for (int i = 0; i < 7; i++)
         printf(" %u", outcome->figures[i]);
     printf(" tally");
@@ -120,7 +121,7 @@ static void begin(enum call call)
 static int same_outcome(void)
 {
     return ours.number == plain.number && ours.place == plain.place && ours.result == plain.result &&
-           memcmp(ours.figures, plain.figures, sizeof ours.figures) == 0 &&
+           ours.work == plain.work && memcmp(ours.figures, plain.figures, sizeof ours.figures) == 0 &&
            memcmp(ours.tally, plain.tally, sizeof ours.tally) == 0;
 }
 
@@ -203,10 +204,11 @@ static void compare_evaluate(uint16_t number, size_t values_len, size_t scratch_
     given.scratch_len = scratch_len;
     given.out_len = out_len;
     ours.number = shelf_evaluate(lent_file, file_len, number, lent_values, values_len, lend_scratch(&our_scratch),
-                                 scratch_len, lend(&our_out, out_len, NULL), out_len, &ours.result, &ours.place);
+                                 scratch_len, lend(&our_out, out_len, NULL), out_len, &ours.result, &ours.work,
+                                 &ours.place);
     plain.number = plain_evaluate(file, file_len, number, values, values_len, lend_scratch(&plain_scratch),
                                   scratch_len, lend(&plain_out, out_len, NULL), out_len, &plain.result,
-                                  &plain.place);
+                                  &plain.work, &plain.place);
     if (memcmp(lent_values, values, values_len) != 0 || !guard_kept(&values_lender, values_len))
         report("the values were changed");
     note_highest(values_len);
@@ -225,10 +227,10 @@ static void compare_rows(uint16_t number, size_t rows, size_t values_len, size_t
     given.out_len = out_len;
     ours.number = shelf_evaluate_rows(lent_file, file_len, number, rows, lent_values, values_len,
                                       lend_scratch(&our_scratch), scratch_len, lend(&our_out, out_len, NULL),
-                                      out_len, &ours.result, &ours.place);
+                                      out_len, &ours.result, &ours.work, &ours.place);
     plain.number = plain_evaluate_rows(file, file_len, number, rows, values, values_len,
                                        lend_scratch(&plain_scratch), scratch_len, lend(&plain_out, out_len, NULL),
-                                       out_len, &plain.result, &plain.place);
+                                       out_len, &plain.result, &plain.work, &plain.place);
     if (memcmp(lent_values, values, values_len) != 0 || !guard_kept(&values_lender, values_len))
         report("the values were changed");
     end_call_with_buffers();
@@ -261,9 +263,9 @@ static void compare_flatten(uint16_t number, size_t scratch_len, size_t out_len)
     end_call_with_buffers();
 }
 
-/* Gates, delay and largest load of a module. */
+/* What flattening keeps of a module's figures, and what it makes plain: room and expanded size. */
 struct kept {
-    uint32_t gates, size, delay, load;
+    uint32_t inputs, gates, size, room, delay, load;
 };
 
 typedef uint16_t count_call(const uint8_t *, size_t, uint16_t, uint32_t *, size_t, uint32_t *, uint32_t *, size_t *);
@@ -276,7 +278,7 @@ static struct kept kept_of(count_call *count, const uint8_t *bytes, size_t lengt
 
     if (count(bytes, length, number, scratch, SCRATCH_MOST, figures, tally, &place) != 0)
         report("a file that flattening answers, or its flattened file, has no figures");
-    return (struct kept){figures[2], figures[3], figures[5], figures[6]};
+    return (struct kept){figures[0], figures[2], figures[3], figures[4], figures[5], figures[6]};
 }
 
 /* A file that was just flattened, whose bytes stand in `out`, has the figures of its module that flattening keeps. */
@@ -287,6 +289,8 @@ static void flattened_alike(count_call *count, const uint8_t *bytes, const struc
 
     if (flat.gates != whole.gates || flat.delay != whole.delay || flat.load != whole.load)
         report("the figures of the flattened file differ");
+    if (flat.size != whole.gates || flat.room != whole.inputs + whole.gates)
+        report("the size of the flattened file is not its gates, or its room not its inputs and gates");
     if (whole.size != whole.gates)
         flattened_deep++;
 }

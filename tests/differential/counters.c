@@ -68,12 +68,12 @@ static void judge_row(size_t width, int top, int kinds_below)
     static uint32_t scratch[SCRATCH];
     uint8_t bits[WIDEST], outputs[16];
     size_t written, place;
-    uint32_t counted = 0, zeros = (uint32_t)((int)width - 1 - top);
+    uint32_t work, counted = 0, zeros = (uint32_t)((int)width - 1 - top);
 
     for (int i = 0; i < (int)width; i++)
         bits[i] = (uint8_t)(i > top ? 0 : i == top ? 1 : below(kinds_below));
     expect(plain_evaluate(judged[width], lengths[width], COUNTER, bits, width, scratch, SCRATCH, outputs, 16, &written,
-                          &place) == 0,
+                          &work, &place) == 0,
            width, "cannot be run");
     for (size_t i = 0; i < written; i++) {
         expect(outputs[i] < 2, width, "an output is unknown though the highest 1 is known");

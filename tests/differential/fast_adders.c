@@ -51,9 +51,10 @@ static void run(const uint8_t *file, size_t length, uint16_t number, size_t widt
                 uint8_t *outputs)
 {
     size_t written, place;
+    uint32_t work;
 
     expect(plain_evaluate(file, length, number, values, 2 * width + 1, scratch, SCRATCH, outputs, WIDEST + 1,
-                          &written, &place) == 0 &&
+                          &written, &work, &place) == 0 &&
                written == width + 1,
            width, "cannot be run");
 }

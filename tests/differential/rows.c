@@ -53,9 +53,10 @@ static void check_readings(void)
 static void check_sum(const char *row, const uint8_t *in, const uint8_t *sum)
 {
     size_t written = 77, place = 77;
+    uint32_t work = 77;
 
-    expect(shelf_evaluate(adder_1, sizeof adder_1, 18, in, 3, scratch, 17, out, 2, &written, &place) == 0 &&
-               written == 2 && place == 0 && memcmp(out, sum, 2) == 0,
+    expect(shelf_evaluate(adder_1, sizeof adder_1, 18, in, 3, scratch, 17, out, 2, &written, &work, &place) == 0 &&
+               written == 2 && work == 8 && place == 0 && memcmp(out, sum, 2) == 0,
            row);
 }
 
@@ -63,10 +64,11 @@ static void check_sum(const char *row, const uint8_t *in, const uint8_t *sum)
 static void check_too_high(void)
 {
     size_t written = 77, place = 77;
+    uint32_t work = 77;
 
     expect(shelf_evaluate(adder_1, sizeof adder_1, 18, (const uint8_t[]){3, 0, 4}, 3, scratch, 17, out, 2, &written,
-                          &place) == 20 &&
-               written == 77 && place == 2,
+                          &work, &place) == 20 &&
+               written == 77 && work == 77 && place == 2,
            "3 0 4");
 }
 
@@ -115,11 +117,12 @@ static uint32_t counted(size_t width, uint32_t value)
 {
     uint8_t bits[64] = {0};
     size_t length, written, place;
-    uint32_t count = 0;
+    uint32_t work, count = 0;
 
     bits[0] = (uint8_t)value;
     expect(shelf_counter(width, file, MOST, &length, &place) == 0 &&
-               shelf_evaluate(file, length, 32, bits, width, scratch, MOST, out, MOST, &written, &place) == 0,
+               shelf_evaluate(file, length, 32, bits, width, scratch, MOST, out, MOST, &written, &work,
+                              &place) == 0,
            "counter");
     for (size_t i = 0; i < written; i++)
         count |= (uint32_t)out[i] << i;

@@ -1,4 +1,5 @@
-/* Evaluation: refusals 18 to 22 in order, then the values of the outputs. Only an answer touches a lent buffer. */
+/* Evaluation: refusals 18 to 22 in order, then the values of the outputs and how many occurrences were run. Only an answer
+ * touches what was lent. */
 #include "plain.h"
 
 #include <string.h>
@@ -27,7 +28,7 @@ void plain_outputs(const struct file *file, int position, const uint8_t *values,
 
 uint16_t plain_evaluate(const uint8_t *bytes, size_t length, uint16_t number, const uint8_t *values,
                         size_t values_len, uint32_t *scratch, size_t scratch_len, uint8_t *out, size_t out_len,
-                        size_t *written, size_t *place)
+                        size_t *written, uint32_t *work, size_t *place)
 {
     uint16_t refused = plain_check(bytes, length, place);
     const struct module *module;
@@ -50,8 +51,10 @@ uint16_t plain_evaluate(const uint8_t *bytes, size_t length, uint16_t number, co
         return plain_end(place, 21, 0);
     if (out_len < (size_t)module->outputs.count)
         return plain_end(place, 22, 0);
+    plain_reached = 0;
     plain_outputs(&plain_file, position, values, out);
     memset(scratch, 0, figures.room * sizeof *scratch);
     *written = (size_t)module->outputs.count;
+    *work = plain_reached;
     return 0;
 }

@@ -63,6 +63,7 @@ int plain_find(const struct file *file, int number);                        /* a
 
 /* run.c: a module on any kind of values; `gate` makes the value of a gate's net */
 typedef uint32_t gate_rule(void *state, int kind, const uint32_t *arguments);
+extern uint32_t plain_reached; /* occurrences that were run, counted on and on */
 void plain_run(const struct file *file, int position, const uint32_t *inputs, uint32_t *outputs, gate_rule *gate,
                void *state);
 
@@ -96,10 +97,10 @@ uint16_t plain_modules(const uint8_t *file, size_t file_len, size_t *modules, si
 uint16_t plain_number_at(const uint8_t *file, size_t file_len, size_t position, uint16_t *number, size_t *place);
 uint16_t plain_evaluate(const uint8_t *file, size_t file_len, uint16_t number, const uint8_t *values,
                         size_t values_len, uint32_t *scratch, size_t scratch_len, uint8_t *out, size_t out_len,
-                        size_t *written, size_t *place);
+                        size_t *written, uint32_t *work, size_t *place);
 uint16_t plain_evaluate_rows(const uint8_t *file, size_t file_len, uint16_t number, size_t rows,
                              const uint8_t *values, size_t values_len, uint32_t *scratch, size_t scratch_len,
-                             uint8_t *out, size_t out_len, size_t *written, size_t *place);
+                             uint8_t *out, size_t out_len, size_t *written, uint32_t *work, size_t *place);
 uint16_t plain_count(const uint8_t *file, size_t file_len, uint16_t number, uint32_t *scratch, size_t scratch_len,
                      uint32_t figures[7], uint32_t tally[16], size_t *place);
 uint16_t plain_flatten(const uint8_t *file, size_t file_len, uint16_t number, uint32_t *scratch, size_t scratch_len,

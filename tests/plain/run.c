@@ -3,6 +3,8 @@
  * A module refers only to later ones, so one table of values for each position is enough. */
 #include "plain.h"
 
+uint32_t plain_reached;
+
 static uint32_t value_of[MOST_MODULES][NET_NUMBERS];
 
 void plain_run(const struct file *file, int position, const uint32_t *inputs, uint32_t *outputs, gate_rule *gate,
@@ -17,6 +19,7 @@ void plain_run(const struct file *file, int position, const uint32_t *inputs, ui
         const struct occurrence *occurrence = &module->occurrences[o];
         uint32_t arguments[MOST_IN_LIST], results[MOST_IN_LIST];
 
+        plain_reached++;
         for (int i = 0; i < occurrence->takes.count; i++)
             arguments[i] = value[occurrence->takes.net[i]];
         if (occurrence->refers < KINDS)

@@ -142,11 +142,12 @@ static void print_row(uint16_t number, uint32_t inputs, int mood)
     static uint32_t scratch[MOST_SCRATCH];
     uint8_t values[MOST_LIST], outputs[MOST_LIST];
     size_t written, place;
+    uint32_t work;
 
     for (uint32_t i = 0; i < inputs; i++)
         values[i] = (uint8_t)(mood == 0 ? below(2) : mood == 1 ? below(4) : percent(15) ? between(2, 3) : below(2));
     if (shelf_evaluate(file, file_len, number, values, inputs, scratch, MOST_SCRATCH, outputs, MOST_LIST, &written,
-                       &place) != 0)
+                       &work, &place) != 0)
         exit(1);
     printf("    in = ");
     print_word(values, inputs);

@@ -6,6 +6,12 @@ pub enum Writing {
     Refused { number: u16, place: usize },
 }
 
+// Of a run: what it wrote, and how many occurrences it ran, 0 with a refusal.
+pub struct Run {
+    pub writing: Writing,
+    pub work: u32,
+}
+
 // Of the check: whether a file is accepted, or the rule that it breaks and where.
 pub enum Checked {
     Good,

@@ -19,8 +19,8 @@ use Rattle.call_door.specs.Asks.{refusedSheet, Result, decides, Gives, M
 
 module _ (n p : ℕ) (scratch out : List ℕ) where
   plainly : (task : Task) → Gives task (refusal n p) scratch out scratch out (refusedSheet n p)
-  plainly Evaluate = record { answered = record { is = refl; out = refl }; scratched = refl }
-  plainly (Rows rows) = record { answered = record { is = refl; out = refl }; scratched = refl }
+  plainly Evaluate = record { settled = record { answered = record { is = refl; out = refl }; scratched = refl }; worked = refl }
+  plainly (Rows rows) = record { settled = record { answered = record { is = refl; out = refl }; scratched = refl }; worked = refl }
   plainly (Own Count) = record { is = refl; scratch = refl }
   plainly (Own Flatten) = record { answered = record { is = refl; out = refl }; scratched = refl }
 

@@ -3,9 +3,11 @@ use Prim.Native.Nat.{ℕ, _≤_}
 use mathlib.Core.Path.{_≡_, sym, subst}
 use mathlib.Core.List.{List}
 use lib.ListN.{length}
-use Rattle.meaning.specs.Calls.{evaluationOn, countingOn, flatteningOn}
-use Rattle.meaning.specs.Rows.{rowsEvaluationOn}
+use Rattle.meaning.specs.Calls.{countingOn, flatteningOn}
+use Rattle.meaning.specs.Work.{runningOn, rowsRunningOn}
 use Rattle.answers.specs.Settled.{Settles}
+use Rattle.answers.specs.Running.{Runs}
+use Rattle.answers.specs.declared.Run.{Run}
 use Rattle.answers.specs.declared.Writing.{Writing}
 use Rattle.call_count.specs.Answers.{Counts}
 use Rattle.call_count.specs.declared.answers.Counted.{Counted}
@@ -30,15 +32,15 @@ module _ {image starts nets : List ℕ} {site : Site} (s : Standing image starts
         → Done task (site .number) values scratch out (s .ms) (s .found .m) scratch′ out′ r
     told kind is = subst (λ (t : Task). Done t (site .number) values scratch out (s .ms) (s .found .m) scratch′ out′ r) (sym is)
 
-    pub evaluates : {w : Writing} → task ≡ Evaluate → r .writing ≡ w
-        → Settles (evaluationOn (site .number) values (length scratch) (length out) (s .ms) (s .found .m)) scratch out scratch′ out′ w
+    pub runs : {run : Run} → task ≡ Evaluate → (r .writing ≡ run .writing) × (r .work ≡ run .work)
+        → Runs (runningOn (site .number) values (length scratch) (length out) (s .ms) (s .found .m)) scratch out scratch′ out′ run
         → Done task (site .number) values scratch out (s .ms) (s .found .m) scratch′ out′ r
-    evaluates is written settles = told Evaluate is (record { done = rw written settles })
+    runs is written ran = told Evaluate is (record { done = rw (written .0, written .1) ran })
 
-    pub evaluates-rows : {w : Writing} (rows : ℕ) → task ≡ Rows rows → r .writing ≡ w
-        → Settles (rowsEvaluationOn (site .number) rows values (length scratch) (length out) (s .ms) (s .found .m)) scratch out scratch′ out′ w
+    pub runs-rows : {run : Run} (rows : ℕ) → task ≡ Rows rows → (r .writing ≡ run .writing) × (r .work ≡ run .work)
+        → Runs (rowsRunningOn (site .number) rows values (length scratch) (length out) (s .ms) (s .found .m)) scratch out scratch′ out′ run
         → Done task (site .number) values scratch out (s .ms) (s .found .m) scratch′ out′ r
-    evaluates-rows rows is written settles = told (Rows rows) is (record { done = rw written settles })
+    runs-rows rows is written ran = told (Rows rows) is (record { done = rw (written .0, written .1) ran })
 
     pub counts : {c : Counted} → task ≡ Own Count → r .counted ≡ c
         → Counts (countingOn (site .number) (length scratch) (s .ms) (s .found .m)) scratch scratch′ c

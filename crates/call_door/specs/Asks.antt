@@ -5,9 +5,10 @@ use mathlib.Core.List.{List}
 use lib.ListN.{length}
 use Rattle.meaning.specs.Syntax.{Module}
 use Rattle.meaning.specs.Boxlist.{assoc}
-use Rattle.meaning.specs.Calls.{Decision, onFile, onModule, Written, Figures, evaluationOn, countingOn, flatteningOn, moduleCount, numberAt}
-use Rattle.meaning.specs.Rows.{rowsEvaluationOn}
+use Rattle.meaning.specs.Calls.{Decision, onFile, onModule, Written, Figures, countingOn, flatteningOn, moduleCount, numberAt}
+use Rattle.meaning.specs.Work.{Ran, runningOn, rowsRunningOn}
 use Rattle.answers.specs.Settled.{Settles}
+use Rattle.answers.specs.Running.{Runs}
 use Rattle.answers.specs.declared.Writing.the-variants as writing
 use Rattle.call_count.specs.Answers.{Counts, refusedWith}
 use Rattle.answers.specs.Contents.{listedOf, namedOf}
@@ -27,6 +28,7 @@ abbrev pub refusedSheet : (number place : ℕ) → Sheet
 refusedSheet number place =
     record {
       writing = writing.Refused number place;
+      work = 0;
       counted = refusedWith number place;
       listed = listed.Refused number place;
       named = named.Refused number place;
@@ -39,22 +41,22 @@ InShort Flatten site = (site .size ≤ 832) × (site .room ≤ 1024)
 
 -- What is asked of a module comes to one of these,
 abbrev pub Result : Task → Type 0
-Result Evaluate = Written
-Result (Rows rows) = Written
+Result Evaluate = Ran
+Result (Rows rows) = Ran
 Result (Own Count) = Figures
 Result (Own Flatten) = Written
 
 -- decided so once the module is found,
 abbrev pub decides : (task : Task) (number : ℕ) (values : List ℕ) (scratch out : ℕ) (ms : List Module) → Module → Decision (Result task)
-decides Evaluate number values scratch out ms m = evaluationOn number values scratch out ms m
-decides (Rows rows) number values scratch out ms m = rowsEvaluationOn number rows values scratch out ms m
+decides Evaluate number values scratch out ms m = runningOn number values scratch out ms m
+decides (Rows rows) number values scratch out ms m = rowsRunningOn number rows values scratch out ms m
 decides (Own Count) number values scratch out ms m = countingOn number scratch ms m
 decides (Own Flatten) number values scratch out ms m = flatteningOn number scratch out ms m
 
 -- and given so.
 abbrev pub Gives : (task : Task) → Decision (Result task) → (scratch out scratch′ out′ : List ℕ) → Sheet → Type 0
-Gives Evaluate d scratch out scratch′ out′ r = Settles d scratch out scratch′ out′ (r .writing)
-Gives (Rows rows) d scratch out scratch′ out′ r = Settles d scratch out scratch′ out′ (r .writing)
+Gives Evaluate d scratch out scratch′ out′ r = Runs d scratch out scratch′ out′ (record { writing = r .writing; work = r .work })
+Gives (Rows rows) d scratch out scratch′ out′ r = Runs d scratch out scratch′ out′ (record { writing = r .writing; work = r .work })
 Gives (Own Count) d scratch out scratch′ out′ r = Counts d scratch scratch′ (r .counted)
 Gives (Own Flatten) d scratch out scratch′ out′ r = Settles d scratch out scratch′ out′ (r .writing)
 

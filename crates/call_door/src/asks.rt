@@ -1,6 +1,7 @@
 // What can be asked of a file, and the sheet that an answer is written on.
 use answers::Listed;
 use answers::Named;
+use answers::Run;
 use answers::Writing;
 use call_count::answers::Counted;
 ghost use mathlib.Core.Path.{_≡_};
@@ -29,6 +30,7 @@ pub enum Ask {
 // A field for each kind of answer. A refusal is in all of them, an answer in its own.
 pub struct Sheet {
     pub writing: Writing,
+    pub work: u32,
     pub counted: Counted,
     pub listed: Listed,
     pub named: Named,
@@ -39,6 +41,7 @@ pub(crate) fn refused(number: u16, place: usize) -> Sheet
 {
     Sheet {
         writing: Writing::Refused { number, place },
+        work: 0,
         counted: call_count::answers::refused(number, place),
         listed: Listed::Refused { number, place },
         named: Named::Refused { number, place },
@@ -50,6 +53,22 @@ pub(crate) fn wrote(writing: Writing) -> Sheet
 {
     Sheet {
         writing,
+        work: 0,
+        counted: call_count::answers::refused(0, 0),
+        listed: Listed::Modules(0),
+        named: Named::Number(0),
+    }
+}
+
+pub(crate) fn ran(run: Run) -> Sheet
+    ensures { λ r. ⌜ r .writing ≡ run .writing ⌝ }
+    ensures { λ r. ⌜ r .work ≡ run .work ⌝ }
+{
+    let writing = run.writing;
+    let work = run.work;
+    Sheet {
+        writing,
+        work,
         counted: call_count::answers::refused(0, 0),
         listed: Listed::Modules(0),
         named: Named::Number(0),
@@ -61,6 +80,7 @@ pub(crate) fn counted(counted: Counted) -> Sheet
 {
     Sheet {
         writing: Writing::Wrote(0),
+        work: 0,
         counted,
         listed: Listed::Modules(0),
         named: Named::Number(0),
@@ -72,6 +92,7 @@ pub(crate) fn listed(listed: Listed) -> Sheet
 {
     Sheet {
         writing: Writing::Wrote(0),
+        work: 0,
         counted: call_count::answers::refused(0, 0),
         listed,
         named: Named::Number(0),
@@ -83,6 +104,7 @@ pub(crate) fn named(named: Named) -> Sheet
 {
     Sheet {
         writing: Writing::Wrote(0),
+        work: 0,
         counted: call_count::answers::refused(0, 0),
         listed: Listed::Modules(0),
         named,

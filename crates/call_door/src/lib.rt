@@ -8,6 +8,7 @@ use crate::asks::Own;
 use crate::asks::Task;
 use answers::Listed;
 use answers::Named;
+use answers::Run;
 use answers::Writing;
 use call_count::answers::Counted;
 ghost use mathlib.Core.Path.{_≡_};
@@ -39,21 +40,17 @@ pub fn number_at(file: &[u8], position: usize) -> Named
     sheet.named
 }
 
-// The outputs of the module of a number for the values of its inputs, as the first bytes of `out`.
-pub fn evaluate(
-    file: &[u8],
-    number: u16,
-    values: &[u8],
-    scratch: &mut [u32],
-    out: &mut [u8],
-) -> Writing
+// The outputs of the module of a number for the values of its inputs, as the first bytes of `out`; and how much work the run was.
+pub fn evaluate(file: &[u8], number: u16, values: &[u8], scratch: &mut [u32], out: &mut [u8]) -> Run
     ensures { λ r. ⌜ Evaluates (now (file .entry)) number (now (values .entry)) (now (scratch .entry)) (now (out .entry)) (now (scratch .exit)) (now (out .exit)) r ⌝ }
 {
     let sheet = crate::opening::answer(Ask::Of(Task::Evaluate, number), file, values, scratch, out);
-    sheet.writing
+    let writing = sheet.writing;
+    let work = sheet.work;
+    Run { writing, work }
 }
 
-// The outputs of the module of a number for rows of values, row by row.
+// The outputs of the module of a number for rows of values, row by row; and how much work they were.
 pub fn evaluate_rows(
     file: &[u8],
     number: u16,
@@ -61,7 +58,7 @@ pub fn evaluate_rows(
     values: &[u8],
     scratch: &mut [u32],
     out: &mut [u8],
-) -> Writing
+) -> Run
     ensures { λ r. ⌜ EvaluatesRows (now (file .entry)) number rows (now (values .entry)) (now (scratch .entry)) (now (out .entry)) (now (scratch .exit)) (now (out .exit)) r ⌝ }
 {
     let sheet = crate::opening::answer(
@@ -71,7 +68,9 @@ pub fn evaluate_rows(
         scratch,
         out,
     );
-    sheet.writing
+    let writing = sheet.writing;
+    let work = sheet.work;
+    Run { writing, work }
 }
 
 // The figures of the module of a number.

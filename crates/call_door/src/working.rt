@@ -110,7 +110,7 @@ pub(crate) fn work_at(
         → Done task (site .number) (now (values .entry)) (now (scratch .entry)) (now (out .entry)) (s .ms) (s .found .m) (now (scratch .exit)) (now (out .exit)) r) ⌝ }
 {
     match task {
-        Task::Evaluate => crate::asks::wrote(call_evaluate::evaluate_at(
+        Task::Evaluate => crate::asks::ran(call_evaluate::run_at(
             image,
             starts,
             nets,
@@ -119,7 +119,7 @@ pub(crate) fn work_at(
             scratch,
             out,
         )),
-        Task::Rows(rows) => crate::asks::wrote(call_rows::rows_at(
+        Task::Rows(rows) => crate::asks::ran(call_rows::run_at(
             image,
             starts,
             nets,

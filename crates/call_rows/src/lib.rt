@@ -1,10 +1,14 @@
 // A block of rows: a module of a file run on many rows of values at once.
+use answers::Run;
 use answers::Writing;
 use open_finding::Site;
-ghost use Prim.Native.Nat.{_≤_};
+ghost use Prim.Native.Nat.{_*_, _≤_};
+ghost use mathlib.Core.Path.{_≡_};
 ghost use lib.ListN.{length};
 ghost use Rattle.answers.specs.Settled.{Settles};
+ghost use Rattle.answers.specs.Running.{Runs};
 ghost use Rattle.meaning.specs.Rows.{rowsEvaluationOn};
+ghost use Rattle.meaning.specs.Work.{rowsRunningOn};
 ghost use Rattle.open_finding.specs.Standing.{Standing};
 
 mod space;
@@ -64,7 +68,7 @@ fn block_at(
 
 // Refusal 27, then the others. One row is a run of its own, in the lent scratch. Called from two places the block stays a function of its
 // own, and other tasks do not pay for its stack.
-pub fn rows_at(
+fn rows_at(
     image: &[u16],
     starts: &[usize],
     nets: &[usize],
@@ -92,4 +96,37 @@ pub fn rows_at(
         };
     }
     block_at(image, starts, nets, site, rows, values, scratch, out)
+}
+
+// The work of a block that is not too long: each row is as many occurrences as the module's expanded size.
+fn block_work(rows: usize, size: u32) -> u32
+    requires { ⌜ size ≤ 65535 ⌝ }
+    ensures { λ r. ⌜ (rows ≤ 1024 → r ≡ rows * size) ⌝ }
+{
+    if 1024 < rows {
+        return 0;
+    }
+    rows as u32 * size
+}
+
+// The same with its work: the walk itself serves many rows at once.
+pub fn run_at(
+    image: &[u16],
+    starts: &[usize],
+    nets: &[usize],
+    site: Site,
+    rows: usize,
+    values: &[u8],
+    scratch: &mut [u32],
+    out: &mut [u8],
+) -> Run
+    requires { ⌜ Standing (now image) (now starts) (now nets) site ⌝ }
+    ensures { λ r.
+        ⌜ ((s : Standing (now (image .entry)) (now (starts .entry)) (now (nets .entry)) site)
+        → Runs (rowsRunningOn (site .number) rows (now (values .entry)) (length (now (scratch .entry))) (length (now (out .entry))) (s .ms) (s .found .m)) (now (scratch .entry)) (now (out .entry)) (now (scratch .exit)) (now (out .exit)) r) ⌝ }
+{
+    let counted = block_work(rows, site.size);
+    let writing = rows_at(image, starts, nets, site, rows, values, scratch, out);
+    let work = call_evaluate::work_with(writing, counted);
+    Run { writing, work }
 }

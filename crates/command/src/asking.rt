@@ -61,41 +61,53 @@ fn count_in(file: &[u8], number: u16, scratch: &mut [u32; 40960]) -> Counted {
 }
 
 // Values and outputs are words of digits; x and z, in either case, are 2 and 3. Any digit is taken for a value; which are good the library
-// says.
-pub(crate) fn run(path: &[u8], number: &[u8], values: &[u8]) {
+// says. The work is told where it is asked for.
+pub(crate) fn run(work: bool, path: &[u8], number: &[u8], values: &[u8]) {
     if !crate::words::all_values(values) {
         crate::saying::fail(b"not a word of 0, 1, 2 and 3, or x and z: ", values);
         return;
     }
     match crate::words::parse(number) {
         Parsed::Other => crate::saying::not_a_number(number),
-        Parsed::Number(n) => run_module(path, n, values),
+        Parsed::Number(n) => run_module(work, path, n, values),
     }
 }
 
-fn run_module(path: &[u8], number: u16, word: &[u8]) {
+fn run_module(work: bool, path: &[u8], number: u16, word: &[u8]) {
     let mut file = io::large_buffer();
     match crate::files::load(path, &mut file) {
         Loaded::Failed => crate::saying::cannot_read(path),
         Loaded::Bytes(count) => {
             let mut scratch = [0u32; 40960];
-            run_in(front(count, &file), number, word, &mut scratch);
+            run_in(work, front(count, &file), number, word, &mut scratch);
         }
     }
 }
 
-fn run_in(file: &[u8], number: u16, word: &[u8], scratch: &mut [u32; 40960]) {
+fn run_in(work: bool, file: &[u8], number: u16, word: &[u8], scratch: &mut [u32; 40960]) {
     let mut values = io::buffer();
     let mut out = [0u8; 192];
     let given = crate::words::to_values(word, &mut values);
-    match shelf::evaluate(file, number, front(given, &values), scratch, &mut out) {
+    let run = shelf::evaluate(file, number, front(given, &values), scratch, &mut out);
+    let writing = run.writing;
+    match writing {
         Writing::Refused { number, place } => crate::refusing::refuse(number, place),
-        Writing::Wrote(count) => show_outputs(count, &mut out),
+        Writing::Wrote(count) => {
+            show_outputs(count, &mut out);
+            if work {
+                show_work(run.work);
+            }
+        }
     }
 }
 
 fn show_outputs(count: usize, out: &mut [u8]) {
     crate::words::to_digits(out);
     crate::saying::say(front(count, out));
+    crate::saying::end_line();
+}
+
+fn show_work(work: u32) {
+    crate::saying::say_figure(b"work ", work);
     crate::saying::end_line();
 }

@@ -74,7 +74,7 @@ fn with_two(name: &[u8], first: &[u8], second: &[u8]) {
 
 fn with_three(name: &[u8], first: &[u8], second: &[u8], third: &[u8]) {
     if is(name, b"run") {
-        asking::run(first, second, third);
+        asking::run(false, first, second, third);
     } else if is(name, b"flatten") {
         making::flatten(first, second, third);
     } else if is(name, b"find") {
@@ -89,6 +89,8 @@ fn with_three(name: &[u8], first: &[u8], second: &[u8], third: &[u8]) {
 fn with_four(name: &[u8], first: &[u8], second: &[u8], third: &[u8], fourth: &[u8]) {
     if is(name, b"find") {
         shelves::find(first, second, third, fourth);
+    } else if is(name, b"run") && is(first, b"--work") {
+        asking::run(true, second, third, fourth);
     } else {
         saying::usage();
     }

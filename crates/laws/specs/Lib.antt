@@ -61,3 +61,4 @@ pub mod Loads
 pub mod Counter
 pub mod Demands
 pub mod Floating
+pub mod Work

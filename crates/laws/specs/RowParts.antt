@@ -1,6 +1,6 @@
 -- The rows of a buffer are its parts of one size; and what is made of the rows, end to end, has what is made of each as its parts.
 use Prim.Native.Nat.{ℕ, zero, suc, _+_, _*_, _≤_, _<_}
-use mathlib.Core.Path.{_≡_, sym, ap, _∙_}
+use mathlib.Core.Path.{_≡_, refl, sym, ap, _∙_}
 use mathlib.Core.List.{List, [], _∷_, _++_}
 use native.Mathlib.Omega.{arith}
 use native.Mathlib.Nat.{zero-mul, suc-mul, mul-le-mul-right}
@@ -30,6 +30,12 @@ pub length-of-part :
     (size : ℕ) {i rows : ℕ} (xs : List ℕ) → length xs ≡ rows * size → i < rows → length (part size i xs) ≡ size
 length-of-part size {i} xs all h =
     length-take-le size (drop (i * size) xs) (omega (arith, length-drop (i * size) xs, all, part-within size h))
+
+-- There are as many rows as are asked for.
+pub count-of-rows : (rows width : ℕ) (values : List ℕ) → length (rowsOf rows width values) ≡ rows
+unfolding rowsOf
+count-of-rows zero width values = refl
+count-of-rows (suc rows) width values = ap suc (count-of-rows rows width (drop width values))
 
 -- Where each row gives as much as the others, the parts are what the rows give.
 module _ (f : List ℕ → List ℕ) (size : ℕ) (sized : (row : List ℕ) → length (f row) ≡ size) where

@@ -29,5 +29,6 @@ pub mod Flattening
 pub mod Calls
 pub mod Rows
 pub mod CallRules
+pub mod Work
 pub mod Listing
 pub mod Shelves

@@ -4,6 +4,7 @@ mod judged; // judged.rt: the check
 pub use answers::Checked;
 pub use answers::Listed;
 pub use answers::Named;
+pub use answers::Run;
 pub use answers::Writing;
 pub use call_count::answers::Counted;
 pub use call_count::answers::Figures;

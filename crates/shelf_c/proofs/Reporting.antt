@@ -1,8 +1,9 @@
 -- The numbers read off the library's answer are those of the decision.
 use Prim.Native.Nat.{ℕ}
 use mathlib.Core.Path.{_≡_, refl, sym, ap, subst, _∙_}
-use mathlib.Core.List.{[], _∷_}
+use mathlib.Core.List.{List, [], _∷_}
 use Rattle.meaning.specs.Calls.{Decision, refusal, answer, Written, Figures, numberOf, placeOf}
+use Rattle.meaning.specs.Work.{Ran, workAfter}
 use Rattle.call_count.specs.Answers.{countedOf}
 use Rattle.call_count.specs.declared.answers.Counted.{Counted}
 use Rattle.answers.specs.Contents.{listedOf, namedOf}
@@ -11,8 +12,10 @@ use Rattle.answers.specs.declared.Listed.the-variants as listed
 use Rattle.answers.specs.declared.Named.{Named}
 use Rattle.answers.specs.declared.Named.the-variants as named
 use Rattle.answers.specs.Answers.{writingOf}
+use Rattle.answers.specs.Running.{RunsAs}
+use Rattle.answers.specs.declared.Run.{Run}
 use Rattle.answers.specs.declared.Writing.{Writing}
-use Rattle.shelf_c.specs.Results.{answerAfter, Reports, numberIn, writtenIn, placeIn, figuresIn, tallyIn}
+use Rattle.shelf_c.specs.Results.{answerAfter, workLeft, Reports, ReportsRun, numberIn, writtenIn, workIn, placeIn, figuresIn, tallyIn}
 
 of-decision : (d : Decision Written) (before : ℕ) → Reports d (numberIn (writingOf d)) before (writtenIn (writingOf d) before) (placeIn (writingOf d))
 of-decision (refusal number place) before = record { numberIs = refl; writtenIs = refl; placeIs = refl }
@@ -27,6 +30,25 @@ reports {d} {before = before} is told =
       numberIs = told .0 ∙ ap numberIn is ∙ r .numberIs;
       writtenIs = told .1 .0 ∙ ap (λ (w : Writing). writtenIn w before) is ∙ r .writtenIs;
       placeIs = told .1 .1 ∙ ap placeIn is ∙ r .placeIs;
+    }
+
+-- The work of a run is handed back where it is answered.
+work-reports :
+    (d : Decision Written) (before : ℕ) {result : Writing} {work done left : ℕ} → result ≡ writingOf d → work ≡ done
+    → left ≡ workIn result work before → left ≡ workLeft d done before
+work-reports (refusal number place) before {work = work} is same told = told ∙ ap (λ (w : Writing). workIn w work before) is
+work-reports (answer w) before {work = work} is same told = told ∙ ap (λ (w : Writing). workIn w work before) is ∙ same
+
+pub run-reports :
+    {d : Decision Written} {ran : Decision Ran} {scratch out scratch′ out′ : List ℕ} {result : Run} {number before written workBefore work place : ℕ}
+    → RunsAs d ran scratch out scratch′ out′ result
+    → (number ≡ numberIn (result .writing))
+    × ((written ≡ writtenIn (result .writing) before) × ((work ≡ workIn (result .writing) (result .work) workBefore) × (place ≡ placeIn (result .writing))))
+    → ReportsRun d (workAfter ran) number before written workBefore work place
+run-reports {d} {workBefore = workBefore} a told =
+    record {
+      reported = reports (a .settled .answered .is) (told .0, (told .1 .0, told .1 .1 .1));
+      workIs = work-reports d workBefore (a .settled .answered .is) (a .worked) (told .1 .1 .0);
     }
 
 -- A call that answers one number hands back three: those of the decision.

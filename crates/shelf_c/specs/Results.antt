@@ -15,10 +15,20 @@ abbrev pub writtenAfter : Decision Written → ℕ → ℕ
 writtenAfter (refusal number place) before = before
 writtenAfter (answer w) before = length (w .bytes)
 
+-- The work of a run, beside what it comes to.
+abbrev pub workLeft : Decision Written → (done before : ℕ) → ℕ
+workLeft (refusal number place) done before = before
+workLeft (answer w) done before = done
+
 pub record Reports (decision : Decision Written) (number before written place : ℕ) : Type 0 where
   pub numberIs : number ≡ numberOf decision
   pub writtenIs : written ≡ writtenAfter decision before
   pub placeIs : place ≡ placeOf decision
+
+-- A run that was `done` much work reports it too.
+pub record ReportsRun (decision : Decision Written) (done number before written workBefore work place : ℕ) : Type 0 where
+  pub reported : Reports decision number before written place
+  pub workIs : work ≡ workLeft decision done workBefore
 
 -- The same numbers, read off the library's answer.
 abbrev pub numberIn : Writing → ℕ
@@ -28,6 +38,10 @@ numberIn (Refused number place) = number
 abbrev pub writtenIn : Writing → ℕ → ℕ
 writtenIn (Wrote count) before = count
 writtenIn (Refused number place) before = before
+
+abbrev pub workIn : Writing → (done before : ℕ) → ℕ
+workIn (Wrote count) done before = done
+workIn (Refused number place) done before = before
 
 abbrev pub placeIn : Writing → ℕ
 placeIn (Wrote count) = 0
@@ -57,6 +71,16 @@ pub one-report :
     → Reports decision number′ before written′ place′
     → (number ≡ number′) × ((written ≡ written′) × (place ≡ place′))
 one-report one other = (one .numberIs ∙ sym (other .numberIs), (one .writtenIs ∙ sym (other .writtenIs), one .placeIs ∙ sym (other .placeIs)))
+
+-- of a run,
+pub one-run-report :
+    {decision : Decision Written} {done before workBefore number number′ written written′ work work′ place place′ : ℕ}
+    → ReportsRun decision done number before written workBefore work place
+    → ReportsRun decision done number′ before written′ workBefore work′ place′
+    → (number ≡ number′) × ((written ≡ written′) × (place ≡ place′)) × (work ≡ work′)
+one-run-report one other =
+    let same = one-report (one .reported) (other .reported) in
+    (same .0, same .1, one .workIs ∙ sym (other .workIs))
 
 -- of one that answers one number,
 pub one-number-report :

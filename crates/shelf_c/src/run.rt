@@ -3,8 +3,34 @@ ghost use mathlib.Core.Path.{_≡_};
 ghost use lib.ListN.{length};
 ghost use Rattle.meaning.specs.Calls.{evaluation, flattening, outAfter, scratchAfter};
 ghost use Rattle.meaning.specs.Rows.{rowsEvaluation};
-ghost use Rattle.shelf_c.specs.Results.{Reports};
+ghost use Rattle.meaning.specs.Work.{running, rowsRunning, workAfter};
+ghost use Rattle.shelf_c.specs.Results.{Reports, ReportsRun, numberIn, writtenIn, workIn, placeIn};
 use crate::written::report;
+use shelf::Run;
+use shelf::Writing;
+
+// Hands back the four numbers of a run that was answered; of a refusal only two.
+fn report_run(run: Run, written: &mut usize, work: &mut u32, place: &mut usize) -> u16
+    ensures { λ r. ⌜ r ≡ numberIn (run .writing) ⌝ }
+    ensures { λ _. ⌜ now (written .exit) ≡ writtenIn (run .writing) (now (written .entry)) ⌝ }
+    ensures { λ _. ⌜ now (work .exit) ≡ workIn (run .writing) (run .work) (now (work .entry)) ⌝ }
+    ensures { λ _. ⌜ now (place .exit) ≡ placeIn (run .writing) ⌝ }
+{
+    let done = run.work;
+    let writing = run.writing;
+    match writing {
+        Writing::Wrote(count) => {
+            *written = count;
+            *work = done;
+            *place = 0;
+            0
+        }
+        Writing::Refused { number, place: at } => {
+            *place = at;
+            number
+        }
+    }
+}
 
 #[no_mangle]
 pub extern "C" fn shelf_evaluate(
@@ -14,15 +40,17 @@ pub extern "C" fn shelf_evaluate(
     scratch: &mut [u32],
     out: &mut [u8],
     written: &mut usize,
+    work: &mut u32,
     place: &mut usize,
 ) -> u16
-    ensures { λ r. ⌜ Reports (evaluation (now (file .entry)) number (now (values .entry)) (length (now (scratch .entry))) (length (now (out .entry)))) r (now (written .entry)) (now (written .exit)) (now (place .exit)) ⌝ }
+    ensures { λ r. ⌜ ReportsRun (evaluation (now (file .entry)) number (now (values .entry)) (length (now (scratch .entry))) (length (now (out .entry)))) (workAfter (running (now (file .entry)) number (now (values .entry)) (length (now (scratch .entry))) (length (now (out .entry))))) r (now (written .entry)) (now (written .exit)) (now (work .entry)) (now (work .exit)) (now (place .exit)) ⌝ }
     ensures { λ _. ⌜ now (out .exit) ≡ outAfter (evaluation (now (file .entry)) number (now (values .entry)) (length (now (scratch .entry))) (length (now (out .entry)))) (now (out .entry)) ⌝ }
     ensures { λ _. ⌜ now (scratch .exit) ≡ scratchAfter (λ w. w .cleared) (evaluation (now (file .entry)) number (now (values .entry)) (length (now (scratch .entry))) (length (now (out .entry)))) (now (scratch .entry)) ⌝ }
 {
-    report(
+    report_run(
         shelf::evaluate(file, number, values, scratch, out),
         written,
+        work,
         place,
     )
 }
@@ -36,15 +64,17 @@ pub extern "C" fn shelf_evaluate_rows(
     scratch: &mut [u32],
     out: &mut [u8],
     written: &mut usize,
+    work: &mut u32,
     place: &mut usize,
 ) -> u16
-    ensures { λ r. ⌜ Reports (rowsEvaluation (now (file .entry)) number rows (now (values .entry)) (length (now (scratch .entry))) (length (now (out .entry)))) r (now (written .entry)) (now (written .exit)) (now (place .exit)) ⌝ }
+    ensures { λ r. ⌜ ReportsRun (rowsEvaluation (now (file .entry)) number rows (now (values .entry)) (length (now (scratch .entry))) (length (now (out .entry)))) (workAfter (rowsRunning (now (file .entry)) number rows (now (values .entry)) (length (now (scratch .entry))) (length (now (out .entry))))) r (now (written .entry)) (now (written .exit)) (now (work .entry)) (now (work .exit)) (now (place .exit)) ⌝ }
     ensures { λ _. ⌜ now (out .exit) ≡ outAfter (rowsEvaluation (now (file .entry)) number rows (now (values .entry)) (length (now (scratch .entry))) (length (now (out .entry)))) (now (out .entry)) ⌝ }
     ensures { λ _. ⌜ now (scratch .exit) ≡ scratchAfter (λ w. w .cleared) (rowsEvaluation (now (file .entry)) number rows (now (values .entry)) (length (now (scratch .entry))) (length (now (out .entry)))) (now (scratch .entry)) ⌝ }
 {
-    report(
+    report_run(
         shelf::evaluate_rows(file, number, rows, values, scratch, out),
         written,
+        work,
         place,
     )
 }

@@ -44,14 +44,15 @@ fn run_case(file: &mut [u8], values: &mut [u8], scratch: &mut [u32], out: &mut [
     let fed = read_part(values);
     let entries = within(read_number() as usize, scratch.len());
     let room = within(read_number() as usize, out.len());
-    let answer = call_door::evaluate(
+    let run = call_door::evaluate(
         &file[..long],
         number,
         &values[..fed],
         &mut scratch[..entries],
         &mut out[..room],
     );
-    show(answer, out);
+    let writing = run.writing;
+    show(writing, out);
 }
 
 // Reads or writes the file of a case into the front of the buffer, and answers its length.

@@ -1,7 +1,7 @@
 -- Each kind of task is done.
 use borrow.Author.Needs.{needs}
 use Rattle.call_door.specs.declared.asks.Task.the-variants.{Own}
-use Rattle.call_door.proofs.Works.{told, evaluates, evaluates-rows}
+use Rattle.call_door.proofs.Works.{told, runs, runs-rows}
 use Rattle.call_door.proofs.working.work_at.Statement.{statement}
 use Rattle.call_door.proofs.working.work_at.Tie as tie
 
@@ -27,13 +27,13 @@ returns-3 : tie.Need-returns-3
 returns-3 c s =
     let written = c .before in
     let done = written .before .before .before .before in
-    evaluates s (done .before .before .before .enum-told .given .1) (c .wrote .ensures) (done .evaluate-at .ensures s)
+    runs s (done .before .before .before .enum-told .given .1) (c .ran .ensures) (done .run-at .ensures s)
 
 returns-4 : tie.Need-returns-4
 returns-4 c s =
     let written = c .before in
     let done = written .before .before .before .before in
-    evaluates-rows s _ (done .before .before .before .before .task .given .1) (c .wrote2 .ensures) (done .rows-at .ensures s)
+    runs-rows s _ (done .before .before .before .before .task .given .1) (c .ran2 .ensures) (done .run-at2 .ensures s)
 
 returns-5 : tie.Need-returns-5
 returns-5 c s =
