@@ -13,7 +13,7 @@
 #include <string.h>
 #include <time.h>
 
-enum { ROUNDS = 25, ROUND_NS = 2000000, MOST = 65536, BLOCK = 1024, MOST_OUT = 192 * BLOCK };
+enum { ROUNDS = 25, ROUND_NS = 2000000, MOST = 65536, BLOCK = 1024, MOST_OUT = SHELF_NDL_MOST };
 
 /* The calls of one side. */
 struct side {
@@ -28,12 +28,15 @@ struct side {
     uint16_t (*fast_adder)(size_t, uint8_t *, size_t, size_t *, size_t *);
     uint16_t (*counter)(size_t, uint8_t *, size_t, size_t *, size_t *);
     uint16_t (*join)(const uint8_t *, size_t, const uint8_t *, size_t, uint8_t *, size_t, uint16_t *, size_t *, size_t *);
+    uint16_t (*write_ndl)(const uint8_t *, size_t, const uint8_t *, size_t, uint8_t *, size_t, size_t *, size_t *);
 };
 
 static const struct side ours = {shelf_check,   shelf_evaluate, shelf_evaluate_rows, shelf_count,
-                                 shelf_flatten, shelf_adder,    shelf_fast_adder, shelf_counter, shelf_join};
+                                 shelf_flatten, shelf_adder,    shelf_fast_adder, shelf_counter, shelf_join,
+                                 shelf_write_ndl};
 static const struct side theirs = {tuned_check,   tuned_evaluate, tuned_evaluate_rows, tuned_count,
-                                   tuned_flatten, tuned_adder,    tuned_fast_adder, tuned_counter, tuned_join};
+                                   tuned_flatten, tuned_adder,    tuned_fast_adder, tuned_counter, tuned_join,
+                                   tuned_write_ndl};
 
 /* What a row works on, and what it leaves for comparison. */
 static struct bench_file file;
@@ -61,6 +64,15 @@ static uint16_t join(const struct side *side)
     uint16_t which;
 
     return side->join(file.bytes, file.length, file.bytes, file.length, out, MOST, &which, &written, &place);
+}
+
+/* The names of docs/NDL.md. */
+static const uint8_t names[] = "BUF     IV      ND2     ND3     ND4     OR2     OR3     OR4     "
+                               "EN      EO      AN2     AN3     AN4     NR2     NR3     NR4     ";
+
+static uint16_t write_ndl(const struct side *side)
+{
+    return side->write_ndl(file.bytes, file.length, names, 128, out, MOST_OUT, &written, &place);
 }
 
 static uint16_t evaluate_block(const struct side *side)
@@ -281,6 +293,15 @@ static void writer_rows(void)
     row("counter", "width 64", write_counter, 0, "");
 }
 
+static void listing_rows(void)
+{
+    struct bench_file files[] = {one_module(), many_modules(), long_lists(), many_references()};
+
+    for (size_t i = 0; i < sizeof files / sizeof *files; i++)
+        row_on("ndl", files[i], write_ndl, files[i].numbers, " number");
+    row_on("ndl", written_adder(1), write_ndl, 0, "");
+}
+
 int main(void)
 {
     check_rows();
@@ -290,5 +311,6 @@ int main(void)
     writer_rows();
     row_on("join", many_modules(), join, 128, " module");
     row_on("join", written_adder(1), join, 0, "");
+    listing_rows();
     return 0;
 }

@@ -1403,3 +1403,154 @@ uint16_t TUNED(join)(const uint8_t *group, size_t group_len, const uint8_t *hous
         return no;
     return give(to, out, out_len, written, place);
 }
+
+/* ---- listings */
+
+enum { TEXT = 8 * BYTES + 4654, NAMES = 128 };
+
+static uint8_t text[TEXT];
+
+/* The text of numbers up to 16,383, and of names, is put from words of 8 bytes: what is too much of them is written over. */
+static struct word {
+    uint8_t bytes[8];
+    uint32_t length;
+} gate_word[GATES];
+
+static inline uint8_t *put_word(uint8_t *to, const struct word *word)
+{
+    memcpy(to, word->bytes, 8);
+    return to + word->length;
+}
+
+static inline uint8_t *put_digits(uint8_t *to, uint32_t n)
+{
+    if (n >= 10000)
+        *to++ = (uint8_t)('0' + n / 10000);
+    if (n >= 1000)
+        *to++ = (uint8_t)('0' + n / 1000 % 10);
+    if (n >= 100)
+        *to++ = (uint8_t)('0' + n / 100 % 10);
+    if (n >= 10)
+        *to++ = (uint8_t)('0' + n / 10 % 10);
+    *to++ = (uint8_t)('0' + n % 10);
+    return to;
+}
+
+static inline uint8_t *put_text(uint8_t *to, const char *line)
+{
+    size_t length = strlen(line);
+
+    memcpy(to, line, length);
+    return to + length;
+}
+
+static inline uint8_t *put_net_names(uint8_t *to, const uint16_t *nets, uint32_t count)
+{
+    for (uint32_t i = 0; i < count; i++) {
+        if (i > 0)
+            *to++ = ',';
+        *to++ = 'N';
+        to = put_digits(to, nets[i]);
+    }
+    return to;
+}
+
+static uint8_t *put_keyword(uint8_t *to, const char *keyword, const uint16_t *nets, uint32_t count)
+{
+    to = put_text(to, keyword);
+    if (count > 0)
+        *to++ = ' ';
+    return put_text(put_net_names(to, nets, count), ";\n");
+}
+
+static uint8_t *put_occurrences(uint8_t *to, const uint16_t *at, uint32_t count)
+{
+    for (uint32_t i = 0; i < count; i++) {
+        uint32_t drives = at[0], refers = at[drives + 1], takes = at[drives + 2];
+
+        *to++ = 'G';
+        to = put_digits(to, i);
+        *to++ = '(';
+        to = put_text(put_net_names(to, at + 1, drives), ") = ");
+        if (refers < GATES) {
+            to = put_word(to, &gate_word[refers]);
+        } else {
+            *to++ = 'M';
+            to = put_digits(to, refers);
+        }
+        *to++ = '(';
+        to = put_text(put_net_names(to, at + drives + 3, takes), ");\n");
+        at += drives + 3 + takes;
+    }
+    return to;
+}
+
+static uint8_t *put_listing(uint8_t *to)
+{
+    to = put_text(to, "COMPILE;\nDIRECTORY MASTER;\n\n");
+    for (uint32_t k = 0; k < module_count; k++) {
+        const struct module *m = &modules[k];
+
+        to = put_digits(put_text(to, "MODULE M"), m->number);
+        to = put_keyword(put_text(to, ";\n"), "INPUTS", numbers + m->start + 2, m->ins);
+        to = put_keyword(to, "OUTPUTS", numbers + m->outputs, m->outs);
+        to = put_occurrences(put_text(to, "LEVEL FUNCTION;\nDEFINE\n"), numbers + m->body, m->runs);
+        to = put_text(to, "END MODULE;\n\n");
+    }
+    return put_text(to, "END COMPILE;\nEND;\n");
+}
+
+/* The length of a good name; 0 of a bad one. */
+static uint32_t letters_of(const uint8_t *name)
+{
+    uint32_t length = 0, digits = 0;
+
+    for (; length < 8 && name[length] != ' '; length++) {
+        int digit = name[length] >= '0' && name[length] <= '9';
+
+        if (!digit && (name[length] < 'A' || name[length] > 'Z'))
+            return 0;
+        digits += length > 0 && digit;
+    }
+    for (uint32_t i = length; i < 8; i++)
+        if (name[i] != ' ')
+            return 0;
+    return name[0] == 'M' && length > 1 && digits == length - 1 ? 0 : length;
+}
+
+static uint32_t take_names(const uint8_t *names)
+{
+    for (uint32_t k = 0; k < GATES; k++) {
+        memcpy(gate_word[k].bytes, names + 8 * k, 8);
+        gate_word[k].length = letters_of(names + 8 * k);
+        if (gate_word[k].length == 0)
+            return k;
+        for (uint32_t j = 0; j < k; j++)
+            if (memcmp(gate_word[j].bytes, gate_word[k].bytes, 8) == 0)
+                return k;
+    }
+    return GATES;
+}
+
+uint16_t TUNED(write_ndl)(const uint8_t *file, size_t file_len, const uint8_t *names, size_t names_len, uint8_t *out,
+                          size_t out_len, size_t *written, size_t *place)
+{
+    uint16_t no = open_file(file, file_len, place);
+    uint8_t *to = out_len < 8 * file_len + 4654 ? text : out;
+    uint32_t bad;
+    size_t length;
+
+    if (no != 0)
+        return no;
+    if (names_len != NAMES)
+        return end(place, 29, 0);
+    if ((bad = take_names(names)) < GATES)
+        return end(place, 29, bad);
+    length = (size_t)(put_listing(to) - to);
+    if (out_len < length)
+        return end(place, 22, 0);
+    if (to == text)
+        memcpy(out, text, length);
+    *written = length;
+    return end(place, 0, 0);
+}

@@ -3,12 +3,12 @@
  * A shelf file is a list of modules built from gates; docs/ and the scope of the project say what its bytes mean.
  * Every function below is total: any bytes, any lengths and any numbers may be passed. Link libshelf_c.a (x86-64).
  *
- * Slices. A lent buffer is passed as a pointer and a length: `file`, `values` and `out` in bytes, `scratch` in
- * entries. A pointer must be good for that many entries, also where the length is 0 it must not be a null pointer,
- * and no two buffers of one call may overlap. `file` and `values` are only read.
+ * Slices. A lent buffer is passed as a pointer and a length: `file`, `values`, `names` and `out` in bytes, `scratch`
+ * in entries. A pointer must be good for that many entries, also where the length is 0 it must not be a null pointer,
+ * and no two buffers of one call may overlap. `file`, `values` and `names` are only read.
  *
- * What comes back. Every function returns 0 for an answer, or the number of a refusal, 1 to 24 or 27. `*place` gets
- * 0 with an answer and the refusal's place with a refusal:
+ * What comes back. Every function returns 0 for an answer, or the number of a refusal, 1 to 24, 27 or 29. `*place`
+ * gets 0 with an answer and the refusal's place with a refusal:
  *
  *    1  the file is over 65,535 bytes                        0
  *    2  the file ends where a byte is due                    the file's length
@@ -35,6 +35,7 @@
  *   23  the width is outside 1 to 64                         0
  *   24  flattening needs more than 4,096 nets                0
  *   27  more than 1,024 rows                                 0
+ *   29  not 128 bytes of names, or a name is bad or used     0, or the first such name, 0 to 15
  *
  * What a call leaves. A refusal writes `*place` (and `*which`) and nothing else that was lent: no buffer, none of `*written`,
  * `*work`, `*modules`, `*number`, `figures`, `tally`. An answer writes `*place` and what was asked for; it fills the first bytes
@@ -109,6 +110,16 @@ uint16_t shelf_look_up(const uint8_t *group, size_t group_len, const uint8_t *ho
  * 128 modules and 1 if it has over 65,535 bytes, both at 0, 6 to 17, and 22. */
 uint16_t shelf_join(const uint8_t *group, size_t group_len, const uint8_t *house, size_t house_len, uint8_t *out,
                     size_t out_len, uint16_t *which, size_t *written, size_t *place);
+
+/* What a listing has at most: 8 bytes for each of the file's and 4,654 more, so this for any file. */
+#define SHELF_NDL_MOST 528934
+
+/* Writes the file as a listing for a board maker, in the Network Description Language; docs/NDL.md has the text. names are
+ * those of the sixteen gates in order, 8 bytes each: 1 to 8 capitals or digits, then spaces; all different, and none an M and
+ * one or more digits. The text comes in the first *written bytes of out, at most 8 * file_len + 4,654. A shorter out
+ * that the text fits in serves too. It takes about a megabyte of stack. Refusals 1 to 17, then 29, 22. */
+uint16_t shelf_write_ndl(const uint8_t *file, size_t file_len, const uint8_t *names, size_t names_len, uint8_t *out,
+                         size_t out_len, size_t *written, size_t *place);
 
 /* Writes the file of the ripple adder of that width: module 18, inputs carry, a, b, outputs sum, carry, low bits
  * first. The file comes in the first *written bytes of out, at most 1,019. Refusals 23, 22. */

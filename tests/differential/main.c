@@ -9,6 +9,7 @@
 #include "counters.h"
 #include "fast_adders.h"
 #include "damage.h"
+#include "listings.h"
 #include "make.h"
 #include "random.h"
 #include "shelves.h"
@@ -121,6 +122,8 @@ static void run_case(uint64_t seed, long number)
     compare_case(number);
     make_case();
     compare_file(file.byte, file.length);
+    if (percent(25))
+        compare_listing(file.byte, file.length);
     if (percent(5))
         compare_writers();
     if (percent(20))
@@ -151,7 +154,7 @@ int main(int argc, char **argv)
     judge_alus();
     for (long i = 0; i < cases; i++)
         run_case(seed, first + i);
-    if ((!compare_summary() | !shelves_summary()) && cases >= ENOUGH) {
+    if ((!compare_summary() | !shelves_summary() | !listings_summary()) && cases >= ENOUGH) {
         printf("differential: FAILED: some number that a call can give was never met\n");
         return 1;
     }

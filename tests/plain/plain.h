@@ -109,6 +109,8 @@ uint16_t plain_look_up(const uint8_t *group, size_t group_len, const uint8_t *ho
                        uint16_t number, uint16_t *which, size_t *start, size_t *length, size_t *place);
 uint16_t plain_join(const uint8_t *group, size_t group_len, const uint8_t *house, size_t house_len, uint8_t *out,
                     size_t out_len, uint16_t *which, size_t *written, size_t *place);
+uint16_t plain_write_ndl(const uint8_t *file, size_t file_len, const uint8_t *names, size_t names_len, uint8_t *out,
+                         size_t out_len, size_t *written, size_t *place);
 uint16_t plain_adder(size_t width, uint8_t *out, size_t out_len, size_t *written, size_t *place);
 uint16_t plain_fast_adder(size_t width, uint8_t *out, size_t out_len, size_t *written, size_t *place);
 

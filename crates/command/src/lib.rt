@@ -3,6 +3,7 @@
 mod asking; // asking.rt: check, list, count and run
 mod counted; // counted.rt: the figures of a module
 mod files; // files.rt: bytes in, bytes out
+mod listing; // listing.rt: a listing for a board maker
 mod making; // making.rt: flatten, the adders, the ALU and counter
 mod refusing; // refusing.rt: refusals in words
 mod saying; // saying.rt: lines, what could not be carried out, and the help
@@ -67,6 +68,8 @@ fn with_two(name: &[u8], first: &[u8], second: &[u8]) {
         making::to_order(Order::Alu, first, second);
     } else if is(name, b"counter") {
         making::to_order(Order::Counter, first, second);
+    } else if is(name, b"ndl") {
+        listing::ndl(first, second, b"");
     } else {
         saying::usage();
     }
@@ -81,6 +84,8 @@ fn with_three(name: &[u8], first: &[u8], second: &[u8], third: &[u8]) {
         shelves::find(first, second, third, b"");
     } else if is(name, b"join") {
         shelves::join(first, second, third);
+    } else if is(name, b"ndl") {
+        listing::ndl(first, second, third);
     } else {
         saying::usage();
     }

@@ -5,7 +5,7 @@ use crate::words::front;
 use shelf::Writing;
 
 // Writes what was made to a file, or says why nothing was made.
-fn keep(made: Writing, bytes: &[u8], path: &[u8]) {
+pub(crate) fn keep(made: Writing, bytes: &[u8], path: &[u8]) {
     match made {
         Writing::Refused { number, place } => crate::refusing::refuse(number, place),
         Writing::Wrote(count) => write(front(count, bytes), path),

@@ -20,12 +20,13 @@ pub(crate) fn refuse_of(whose: &[u8], number: u16, place: usize) {
     end_line();
 }
 
-// Where it is: refusals 2 to 5 name a byte, 6 to 17 a module by its position, 20 a value.
+// Where it is: refusals 2 to 5 name a byte, 6 to 17 a module by its position, 20 a value, 29 a gate's name.
 fn say_place(number: u16, place: u64) {
     match number {
         2..=5 => say_at(b"byte ", place),
         6..=17 => say_at(b"module at position ", place),
         20 => say_at(b"value ", place),
+        29 => say_at(b"gate name ", place),
         _ => {}
     }
 }
@@ -104,6 +105,9 @@ fn say_rule_of_making(number: u16) {
     match number {
         23 => say(b"the width is not from 1 to 64"),
         24 => say(b"flattened, the module has more than 4,096 nets"),
+        29 => say(
+            b"not 128 bytes of names, or it is not 1 to 8 capitals or digits and then spaces, or M and digits, or used before",
+        ),
         _ => {}
     }
 }

@@ -61,6 +61,8 @@ gimlet find GROUP HOUSE MODULE   which file has the module, the group's before t
 gimlet join GROUP HOUSE OUT      writes the group's modules and the house's that the
                                  group lacks. A module of the house that refers to one
                                  which the group has too is then refused with 13
+gimlet ndl FILE OUT              writes a listing for a board maker; with a word NAMES
+                                 more, under the gate names of that file, 8 bytes each
 gimlet adder WIDTH OUT           writes an adder, width 1 to 64; its module is 18
 gimlet fast-adder WIDTH OUT      writes a propagate-generate adder, width 1 to 64; its
                                  module is 40

@@ -62,3 +62,4 @@ pub mod Counter
 pub mod Demands
 pub mod Floating
 pub mod Work
+pub mod Ndl

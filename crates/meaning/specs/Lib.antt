@@ -32,3 +32,4 @@ pub mod CallRules
 pub mod Work
 pub mod Listing
 pub mod Shelves
+pub mod Ndl

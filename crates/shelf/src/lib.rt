@@ -19,6 +19,7 @@ pub use call_join::join;
 pub use call_look_up::Looked;
 pub use call_look_up::look_up;
 pub use call_look_up::which_shelf;
+pub use call_ndl::write_ndl;
 pub use judged::check;
 pub use write_order::adder;
 pub use write_order::alu;

@@ -3,6 +3,7 @@
 // in C's words.
 mod counted; // counted.rt: figures and contents
 mod judged; // judged.rt: the check
+mod listed; // listed.rt: a listing for the board maker
 mod shelves; // shelves.rt: two files
 mod run; // run.rt: evaluation, of one row and of many, and flattening
 mod written; // written.rt: modules to order

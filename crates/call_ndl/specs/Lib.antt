@@ -1,0 +1,2 @@
+-- What stands in the list of the call.
+pub mod ReadTo

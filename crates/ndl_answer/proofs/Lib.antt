@@ -1,0 +1,3 @@
+-- Facts that the functions' proofs share.
+pub mod Fits
+pub mod Naming

@@ -1,0 +1,3 @@
+-- What the contracts cite, beside `meaning`.
+pub mod Parts
+pub mod Standing
