@@ -1,7 +1,7 @@
 // Commands that ask about a file.
-use crate::files::Loaded;
 use crate::words::Parsed;
-use crate::words::front;
+use rows_file::Loaded;
+use rows_file::front;
 use shelf::Checked;
 use shelf::Counted;
 use shelf::Writing;
@@ -56,14 +56,14 @@ fn count_module(path: &[u8], number: u16) {
 }
 
 // The scratch of a call: no module has more room.
-fn count_in(file: &[u8], number: u16, scratch: &mut [u32; 40960]) -> Counted {
+pub(crate) fn count_in(file: &[u8], number: u16, scratch: &mut [u32; 40960]) -> Counted {
     shelf::count(file, number, scratch)
 }
 
 // Values and outputs are words of digits; x and z, in either case, are 2 and 3. Any digit is taken for a value; which are good the library
 // says. The work is told where it is asked for.
 pub(crate) fn run(work: bool, path: &[u8], number: &[u8], values: &[u8]) {
-    if !crate::words::all_values(values) {
+    if row_lines::first_other(values) != values.len() {
         crate::saying::fail(b"not a word of 0, 1, 2 and 3, or x and z: ", values);
         return;
     }
@@ -87,7 +87,7 @@ fn run_module(work: bool, path: &[u8], number: u16, word: &[u8]) {
 fn run_in(work: bool, file: &[u8], number: u16, word: &[u8], scratch: &mut [u32; 40960]) {
     let mut values = io::buffer();
     let mut out = [0u8; 192];
-    let given = crate::words::to_values(word, &mut values);
+    let given = row_lines::put_values(word, &mut values);
     let run = shelf::evaluate(file, number, front(given, &values), scratch, &mut out);
     let writing = run.writing;
     match writing {

@@ -1,39 +1,36 @@
 // Bytes from a file, and bytes to a file.
 use libc::STDIN_FILENO;
+use rows_file::Loaded;
+use rows_file::load_from;
 
-// What became of reading a file.
-pub(crate) enum Loaded {
-    Bytes(usize),
-    Failed,
-}
-
-// Reads from a descriptor until the buffer is full or the input ends.
-fn load_from(descriptor: i32, buffer: &mut [u8]) -> Loaded {
-    let got = libc::read(descriptor, buffer);
-    if got < 0 {
-        return Loaded::Failed;
-    }
-    let first = io::count(got, buffer);
-    let more = io::read_full(descriptor, &mut buffer[first..]);
-    Loaded::Bytes(first + more)
-}
-
-// Reads a file, or standard input where it is named `-`.
-pub(crate) fn load(path: &[u8], buffer: &mut [u8]) -> Loaded {
+// Opens a file for reading, or standard input where it is named `-`.
+pub(crate) fn open(path: &[u8]) -> i32 {
     if crate::words::is(path, b"-") {
-        return load_from(STDIN_FILENO, buffer);
+        return STDIN_FILENO;
     }
-    let descriptor = os::open_read(path);
+    os::open_read(path)
+}
+
+// Closes what was opened. Standard input stays open.
+pub(crate) fn close(path: &[u8], descriptor: i32) {
+    if !crate::words::is(path, b"-") {
+        libc::close(descriptor);
+    }
+}
+
+// Reads a file.
+pub(crate) fn load(path: &[u8], buffer: &mut [u8]) -> Loaded {
+    let descriptor = open(path);
     if descriptor < 0 {
         return Loaded::Failed;
     }
     let loaded = load_from(descriptor, buffer);
-    libc::close(descriptor);
+    close(path, descriptor);
     loaded
 }
 
 // Puts a path with `.part` behind it into a buffer.
-fn partial(path: &[u8], buffer: &mut [u8]) -> usize {
+pub(crate) fn partial(path: &[u8], buffer: &mut [u8]) -> usize {
     if buffer.len() < path.len() + 5 {
         return 0;
     }
@@ -46,7 +43,7 @@ fn partial(path: &[u8], buffer: &mut [u8]) -> usize {
 pub(crate) fn save(path: &[u8], bytes: &[u8]) -> bool {
     let mut name = io::buffer();
     let long = partial(path, &mut name);
-    save_through(crate::words::front(long, &name), path, bytes)
+    save_through(rows_file::front(long, &name), path, bytes)
 }
 
 fn save_through(part: &[u8], path: &[u8], bytes: &[u8]) -> bool {
@@ -54,16 +51,20 @@ fn save_through(part: &[u8], path: &[u8], bytes: &[u8]) -> bool {
     if descriptor < 0 {
         return false;
     }
-    if !write_out(descriptor, bytes) || os::rename(part, path) < 0 {
+    let written = io::write_all(descriptor, bytes);
+    let closed = libc::close(descriptor);
+    if !written {
+        os::unlink(part);
+        return false;
+    }
+    take_place(closed, part, path)
+}
+
+// A file that was closed well takes the place of another; or it is removed.
+pub(crate) fn take_place(closed: i32, part: &[u8], path: &[u8]) -> bool {
+    if closed < 0 || os::rename(part, path) < 0 {
         os::unlink(part);
         return false;
     }
     true
-}
-
-// Answers whether all was written and the file closed well.
-fn write_out(descriptor: i32, bytes: &[u8]) -> bool {
-    let written = io::write_all(descriptor, bytes);
-    let closed = libc::close(descriptor);
-    written && 0 <= closed
 }

@@ -6,12 +6,13 @@ mod files; // files.rt: bytes in, bytes out
 mod listing; // listing.rt: a listing for a board maker
 mod making; // making.rt: flatten, the adders, the ALU and counter
 mod refusing; // refusing.rt: refusals in words
+mod rows; // rows.rt: rows
 mod saying; // saying.rt: lines, what could not be carried out, and the help
 mod shelves; // shelves.rt: find and join
+mod telling; // telling.rt: rows, how it ended
 mod words; // words.rt: the words of a command line
 
 use making::Order;
-pub use words::front;
 use words::is;
 use words::word_at;
 
@@ -24,17 +25,27 @@ pub fn perform(line: &[u8]) {
         word_at(line, 2),
         word_at(line, 3),
         word_at(line, 4),
+        word_at(line, 5),
     );
 }
 
 // The command of a name, by how many words it is asked for in.
-fn carry_out(words: usize, name: &[u8], first: &[u8], second: &[u8], third: &[u8], fourth: &[u8]) {
+fn carry_out(
+    words: usize,
+    name: &[u8],
+    first: &[u8],
+    second: &[u8],
+    third: &[u8],
+    fourth: &[u8],
+    fifth: &[u8],
+) {
     match words {
         1 => alone(name),
         2 => with_one(name, first),
         3 => with_two(name, first, second),
         4 => with_three(name, first, second, third),
         5 => with_four(name, first, second, third, fourth),
+        6 => with_five(name, first, second, third, fourth, fifth),
         _ => saying::usage(),
     }
 }
@@ -96,6 +107,16 @@ fn with_four(name: &[u8], first: &[u8], second: &[u8], third: &[u8], fourth: &[u
         shelves::find(first, second, third, fourth);
     } else if is(name, b"run") && is(first, b"--work") {
         asking::run(true, second, third, fourth);
+    } else if is(name, b"rows") {
+        rows::rows(false, first, second, third, fourth);
+    } else {
+        saying::usage();
+    }
+}
+
+fn with_five(name: &[u8], first: &[u8], second: &[u8], third: &[u8], fourth: &[u8], fifth: &[u8]) {
+    if is(name, b"rows") && is(first, b"--work") {
+        rows::rows(true, second, third, fourth, fifth);
     } else {
         saying::usage();
     }

@@ -1,6 +1,6 @@
 // A listing for a board maker.
-use crate::files::Loaded;
-use crate::words::front;
+use rows_file::Loaded;
+use rows_file::front;
 
 // Without a word for the file of names, `names` is empty.
 pub(crate) fn ndl(path: &[u8], to: &[u8], names: &[u8]) {

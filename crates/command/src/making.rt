@@ -1,7 +1,7 @@
 // Commands that make a file.
-use crate::files::Loaded;
 use crate::words::Parsed;
-use crate::words::front;
+use rows_file::Loaded;
+use rows_file::front;
 use shelf::Writing;
 
 // Writes what was made to a file, or says why nothing was made.

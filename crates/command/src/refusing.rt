@@ -15,7 +15,11 @@ pub(crate) fn refuse_of(whose: &[u8], number: u16, place: usize) {
     say_number(place as u64);
     end_line();
     say(whose);
-    say_place(number, place as u64);
+    say_words(number, place as u64);
+}
+
+pub(crate) fn say_words(number: u16, place: u64) {
+    say_place(number, place);
     say_rule(number);
     end_line();
 }

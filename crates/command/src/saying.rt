@@ -55,6 +55,9 @@ gimlet run FILE MODULE VALUES    the outputs of a module; values and outputs are
                                  be 3, which floats; x and z stand for 2 and 3, and _
                                  may stand between groups of values
 gimlet run --work FILE ..        the same, and a last line with the occurrences it ran
+gimlet rows FILE MODULE ROWS OUT runs the module on each line of ROWS, a word of values
+                                 as for run, and writes its outputs as a line of OUT
+gimlet rows --work FILE ..       the same, and a last line with the occurrences they ran
 gimlet flatten FILE MODULE OUT   writes the module as plain gates to the file OUT
 gimlet find GROUP HOUSE MODULE   which file has the module, the group's before the
                                  house's; with a word OUT more, writes a file of it
@@ -71,7 +74,7 @@ gimlet alu WIDTH OUT             writes an arithmetic unit of sixteen operations
 gimlet counter WIDTH OUT         writes a leading-zero counter, width 1 to 64; its
                                  module is 32
 gimlet help                      this text
-FILE may be -, for standard input. MODULE is a module's number. An answer is one line,
+FILE or ROWS may be -, for standard input. MODULE is a module's number. An answer is one line,
 and with --work a last one more.
 A refusal is a line with its number and place, and a line that says them in words.
 What could not be carried out at all is a line that begins with failed.

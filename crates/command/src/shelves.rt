@@ -1,10 +1,10 @@
 // A group's file before the house's: find and join.
-use crate::files::Loaded;
 use crate::saying::end_line;
 use crate::saying::say;
 use crate::saying::say_number;
 use crate::words::Parsed;
-use crate::words::front;
+use rows_file::Loaded;
+use rows_file::front;
 use shelf::Joining;
 use shelf::Looked;
 

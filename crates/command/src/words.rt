@@ -49,14 +49,6 @@ pub(crate) fn word_at<'a>(line: &'a [u8], before: usize) -> &'a [u8] {
     &line[from..to]
 }
 
-// As many of the bytes as are counted, at most all.
-pub fn front<'a>(count: usize, bytes: &'a [u8]) -> &'a [u8] {
-    if bytes.len() < count {
-        return bytes;
-    }
-    &bytes[0..count]
-}
-
 // Whether a word is the one named.
 pub(crate) fn is(word: &[u8], name: &[u8]) -> bool {
     if word.len() != name.len() {
@@ -102,61 +94,6 @@ pub(crate) fn all_digits(word: &[u8]) -> bool {
         }
     }
     true
-}
-
-// Whether each byte of a word stands for a value, or is a line between groups of them.
-pub(crate) fn all_values(word: &[u8]) -> bool {
-    for i in 0..word.len() {
-        if !is_value(word[i]) {
-            return false;
-        }
-    }
-    true
-}
-
-fn is_value(byte: u8) -> bool {
-    match byte {
-        b'0'..=b'9' => true,
-        b'x' => true,
-        b'X' => true,
-        b'z' => true,
-        b'Z' => true,
-        b'_' => true,
-        _ => false,
-    }
-}
-
-// The values that a word's bytes stand for, without the lines between groups, at the front of a buffer. A word longer than the buffer is cut, and still longer than any list of
-// values that a module takes.
-pub(crate) fn to_values(word: &[u8], buffer: &mut [u8]) -> usize {
-    let mut given = 0;
-    for i in 0..word.len() {
-        given = take_value(word[i], buffer, given);
-    }
-    given
-}
-
-// One more value behind those that are given, unless the byte is a line or the buffer is full.
-fn take_value(byte: u8, buffer: &mut [u8], given: usize) -> usize {
-    if byte == b'_' {
-        return given;
-    }
-    if given < buffer.len() {
-        buffer[given] = input_of(byte);
-        return given + 1;
-    }
-    given
-}
-
-// The value of a byte of such a word: x is unknown and z floats, as simulators write them.
-fn input_of(byte: u8) -> u8 {
-    match byte {
-        b'x' => 2,
-        b'X' => 2,
-        b'z' => 3,
-        b'Z' => 3,
-        _ => value_of(byte),
-    }
 }
 
 // The value of a digit.

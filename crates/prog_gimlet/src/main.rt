@@ -2,7 +2,7 @@
 fn main() {
     let mut line = io::large_buffer();
     let filled = gather(&mut line);
-    command::perform(command::front(filled, &line));
+    command::perform(rows_file::front(filled, &line));
 }
 
 // The words that the program was started with, but for its own name, each with a byte of 0 behind it. Words past the end of the line are

@@ -1,5 +1,5 @@
 // Performs the command of each line of standard input, and prints the line in front of what it says. Words are parted by spaces; two
-// spaces side by side have an empty word between them.
+// spaces side by side have an empty word between them. A line `show FILE` prints what a command before it has written.
 use libc::STDIN_FILENO;
 use libc::STDOUT_FILENO;
 ghost use Prim.Native.Nat.{_≤_};
@@ -29,7 +29,30 @@ fn perform_line(line: &mut [u8]) {
     io::write_all(STDOUT_FILENO, b"> ");
     io::write_all(STDOUT_FILENO, line);
     end_words(line);
-    command::perform(line);
+    if line.len() < 6 || !is_show(line) {
+        command::perform(line);
+        return;
+    }
+    let end = line.len() - 1;
+    show(&line[5..end]);
+}
+
+fn is_show(line: &[u8]) -> bool
+    requires { ⌜ 6 ≤ length (now line) ⌝ }
+{
+    line[0] == b's' && line[1] == b'h' && line[2] == b'o' && line[3] == b'w' && line[4] == 0
+}
+
+fn show(path: &[u8]) {
+    let descriptor = os::open_read(path);
+    if descriptor < 0 {
+        io::write_all(STDOUT_FILENO, b"no such file\n");
+        return;
+    }
+    let mut bytes = io::large_buffer();
+    let long = io::read_full(descriptor, &mut bytes);
+    libc::close(descriptor);
+    io::write_all(STDOUT_FILENO, &bytes[..long]);
 }
 
 // Where the line that begins at a place has its line feed; the end of all lines where it has none.
