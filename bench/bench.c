@@ -29,14 +29,16 @@ struct side {
     uint16_t (*counter)(size_t, uint8_t *, size_t, size_t *, size_t *);
     uint16_t (*join)(const uint8_t *, size_t, const uint8_t *, size_t, uint8_t *, size_t, uint16_t *, size_t *, size_t *);
     uint16_t (*write_ndl)(const uint8_t *, size_t, const uint8_t *, size_t, uint8_t *, size_t, size_t *, size_t *);
+    uint16_t (*strict_check)(const uint8_t *, size_t, size_t *);
+    uint16_t (*rewrite)(const uint8_t *, size_t, uint8_t *, size_t, size_t *, size_t *);
 };
 
 static const struct side ours = {shelf_check,   shelf_evaluate, shelf_evaluate_rows, shelf_count,
                                  shelf_flatten, shelf_adder,    shelf_fast_adder, shelf_counter, shelf_join,
-                                 shelf_write_ndl};
+                                 shelf_write_ndl, shelf_strict_check, shelf_rewrite};
 static const struct side theirs = {tuned_check,   tuned_evaluate, tuned_evaluate_rows, tuned_count,
                                    tuned_flatten, tuned_adder,    tuned_fast_adder, tuned_counter, tuned_join,
-                                   tuned_write_ndl};
+                                   tuned_write_ndl, tuned_strict_check, tuned_rewrite};
 
 /* What a row works on, and what it leaves for comparison. */
 static struct bench_file file;
@@ -50,6 +52,16 @@ typedef uint16_t task(const struct side *side);
 static uint16_t check(const struct side *side)
 {
     return side->check(file.bytes, file.length, &place);
+}
+
+static uint16_t strict_check(const struct side *side)
+{
+    return side->strict_check(file.bytes, file.length, &place);
+}
+
+static uint16_t rewrite(const struct side *side)
+{
+    return side->rewrite(file.bytes, file.length, out, MOST, &written, &place);
 }
 
 static uint16_t evaluate(const struct side *side)
@@ -302,6 +314,15 @@ static void listing_rows(void)
     row_on("ndl", written_adder(1), write_ndl, 0, "");
 }
 
+static void withdrawn_rows(void)
+{
+    row_on("strict", many_modules(), strict_check, many_modules().numbers, " number");
+    row_on("strict", written_adder(1), strict_check, 0, "");
+    row_on("rewrite", four_input_gates(), rewrite, four_input_gates().numbers, " number");
+    row_on("rewrite", many_modules(), rewrite, many_modules().numbers, " number");
+    row_on("rewrite", written_adder(1), rewrite, 0, "");
+}
+
 int main(void)
 {
     check_rows();
@@ -309,6 +330,7 @@ int main(void)
     count_rows();
     flatten_rows();
     writer_rows();
+    withdrawn_rows();
     row_on("join", many_modules(), join, 128, " module");
     row_on("join", written_adder(1), join, 0, "");
     listing_rows();

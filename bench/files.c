@@ -53,6 +53,17 @@ struct bench_file one_module(void)
     return finish("one module, 4-input gates", 16);
 }
 
+/* Rewritten it has about as many bytes as a file may have. */
+struct bench_file four_input_gates(void)
+{
+    enum { MODULES = 24, NETS = 125 };
+
+    draft_start(&draft, MODULES);
+    for (int m = 0; m < MODULES; m++)
+        wide_gates(&draft.modules[m], NETS);
+    return finish("24 modules, 4-input gates", 16);
+}
+
 struct bench_file many_modules(void)
 {
     enum { NETS = 87 };

@@ -13,6 +13,7 @@ struct bench_file {
 };
 
 struct bench_file one_module(void);       /* 4,096 nets, gates of four inputs, and a smaller one to fill up */
+struct bench_file four_input_gates(void); /* gates of four inputs in 24 modules, near that length when rewritten */
 struct bench_file many_modules(void);     /* 128 modules of two-input gates, each refers to the next */
 struct bench_file long_lists(void);       /* references with 192 arguments and 192 driven nets */
 struct bench_file many_references(void);  /* as many references to one module as nets allow */

@@ -1554,3 +1554,152 @@ uint16_t TUNED(write_ndl)(const uint8_t *file, size_t file_len, const uint8_t *n
     *written = length;
     return end(place, 0, 0);
 }
+
+/* ---- four-input gates withdrawn */
+
+/* How many of the four gates each module has and reaches; and the new file, at most three times as long. */
+static uint32_t fours[MODULES], fours_reached[MODULES];
+static uint8_t made_new[3 * BYTES];
+
+static inline uint32_t is_four(uint32_t refers)
+{
+    return refers < GATES ? 0x9090u >> refers & 1 : 0;
+}
+
+static void count_fours(void)
+{
+    for (uint32_t k = module_count; k-- > 0;) {
+        const struct module *m = &modules[k];
+        const uint16_t *at = numbers + m->body;
+        uint32_t own = 0, reached = 0;
+
+        for (uint32_t i = 0; i < m->runs; i++) {
+            at += 1 + *at;
+            own += is_four(*at++);
+            at += 1 + *at;
+        }
+        for (uint32_t i = 0; i < m->calls; i++)
+            reached += fours_reached[references[m->references + i]];
+        fours[k] = own;
+        fours_reached[k] = own + reached;
+    }
+}
+
+uint16_t TUNED(strict_check)(const uint8_t *file, size_t file_len, size_t *place)
+{
+    uint16_t no = open_file(file, file_len, place);
+
+    if (no != 0)
+        return no;
+    count_fours();
+    for (uint32_t k = 0; k < module_count; k++)
+        if (fours[k] != 0)
+            return end(place, 28, k);
+    return 0;
+}
+
+/* Every net of a good module is an input or driven. */
+static void list_nets(const struct module *m, uint32_t mark)
+{
+    const uint16_t *at = numbers + m->start + 2;
+
+    for (uint32_t i = 0; i < m->ins; i++)
+        listed[at[i]] = mark;
+    at = numbers + m->body;
+    for (uint32_t i = 0; i < m->runs; i++) {
+        uint32_t drives = *at++;
+
+        for (uint32_t j = 0; j < drives; j++)
+            listed[*at++] = mark;
+        at += 2 + at[1];
+    }
+}
+
+static inline uint8_t *put_two(uint8_t *to, uint32_t net, uint8_t kind, uint32_t a, uint32_t b)
+{
+    *to++ = 1;
+    to = put(to, net);
+    *to++ = kind;
+    *to++ = 2;
+    return put(put(to, a), b);
+}
+
+static uint8_t *put_rewritten(uint8_t *to, uint32_t k)
+{
+    static const uint8_t pair[GATES] = {[4] = 10, [7] = 5, [12] = 10, [15] = 5};
+    static const uint8_t two[GATES] = {[4] = 2, [7] = 5, [12] = 10, [15] = 13};
+    const struct module *m = &modules[k];
+    const uint16_t *at = numbers + m->start, *body = numbers + m->body;
+    uint32_t mark = next_stamp(), net = 0;
+
+    list_nets(m, mark);
+    while (at < body - 1)
+        to = put(to, *at++);
+    to = put(to, m->runs + 2 * fours[k]);
+    at = body;
+    for (uint32_t i = 0; i < m->runs; i++) {
+        const uint16_t *next = at + 1 + *at;
+        uint32_t refers = *next++;
+
+        next += 1 + *next;
+        if (is_four(refers)) {
+            uint32_t first, second;
+
+            while (listed[net] == mark)
+                net++;
+            first = net++;
+            while (listed[net] == mark)
+                net++;
+            second = net++;
+            to = put_two(to, first, pair[refers], at[4], at[5]);
+            to = put_two(to, second, pair[refers], at[6], at[7]);
+            to = put_two(to, at[1], two[refers], first, second);
+            at = next;
+        } else {
+            while (at < next)
+                to = put(to, *at++);
+        }
+    }
+    return to;
+}
+
+/* A module that has none of the four gates keeps its bytes. */
+static uint8_t *put_kept(uint8_t *to, const uint8_t *file, size_t file_len, uint32_t k)
+{
+    size_t start = modules[k].byte, stop = k + 1 < module_count ? modules[k + 1].byte : file_len;
+
+    memcpy(to, file + start, stop - start);
+    return to + (stop - start);
+}
+
+uint16_t TUNED(rewrite)(const uint8_t *file, size_t file_len, uint8_t *out, size_t out_len, size_t *written,
+                        size_t *place)
+{
+    uint16_t no = open_file(file, file_len, place);
+    uint8_t *to;
+    size_t length;
+
+    if (no != 0)
+        return no;
+    count_fours();
+    for (uint32_t k = 0; k < module_count; k++)
+        if (modules[k].runs + 2 * fours[k] > OCCURRENCES)
+            return end(place, 4, 0);
+    for (uint32_t k = 0; k < module_count; k++)
+        if (modules[k].nets + 2 * fours[k] > NETS)
+            return end(place, 16, k);
+    for (uint32_t k = module_count; k-- > 0;)
+        if (modules[k].size + 2 * fours_reached[k] > SIZE)
+            return end(place, 17, k);
+    to = put(made_new, module_count);
+    for (uint32_t k = 0; k < module_count; k++)
+        to = fours[k] != 0 ? put_rewritten(to, k) : put_kept(to, file, file_len, k);
+    length = (size_t)(to - made_new);
+    if (length > BYTES)
+        return end(place, 1, 0);
+    if (out_len < length)
+        return end(place, 22, 0);
+    memcpy(out, made_new, length);
+    *written = length;
+    return end(place, 0, 0);
+}

@@ -14,6 +14,9 @@
 #endif
 
 uint16_t TUNED(check)(const uint8_t *file, size_t file_len, size_t *place);
+uint16_t TUNED(strict_check)(const uint8_t *file, size_t file_len, size_t *place);
+uint16_t TUNED(rewrite)(const uint8_t *file, size_t file_len, uint8_t *out, size_t out_len, size_t *written,
+                        size_t *place);
 uint16_t TUNED(modules)(const uint8_t *file, size_t file_len, size_t *modules, size_t *place);
 uint16_t TUNED(number_at)(const uint8_t *file, size_t file_len, size_t position, uint16_t *number, size_t *place);
 uint16_t TUNED(evaluate)(const uint8_t *file, size_t file_len, uint16_t number, const uint8_t *values,

@@ -7,7 +7,7 @@
  * in entries. A pointer must be good for that many entries, also where the length is 0 it must not be a null pointer,
  * and no two buffers of one call may overlap. `file`, `values` and `names` are only read.
  *
- * What comes back. Every function returns 0 for an answer, or the number of a refusal, 1 to 24, 27 or 29. `*place`
+ * What comes back. Every function returns 0 for an answer, or the number of a refusal, 1 to 24 or 27 to 29. `*place`
  * gets 0 with an answer and the refusal's place with a refusal:
  *
  *    1  the file is over 65,535 bytes                        0
@@ -36,6 +36,7 @@
  *   24  flattening needs more than 4,096 nets                0
  *   27  more than 1,024 rows                                 0
  *   29  not 128 bytes of names, or a name is bad or used     0, or the first such name, 0 to 15
+ *   28  the module uses a four-input gate                    the module's position
  *
  * What a call leaves. A refusal writes `*place` (and `*which`) and nothing else that was lent: no buffer, none of `*written`,
  * `*work`, `*modules`, `*number`, `figures`, `tally`. An answer writes `*place` and what was asked for; it fills the first bytes
@@ -53,6 +54,20 @@ extern "C" {
 
 /* Is this a good file? Refusals 1 to 17; of several, the first in the order of reading and of the rules. */
 uint16_t shelf_check(const uint8_t *file, size_t file_len, size_t *place);
+
+/* Is it a good file that the maker still builds, one that uses none of the gates B-NAND4, B-OR4, B-AND4 and B-NOR4?
+ * Refusals 1 to 17, then 28 at the first module that uses one, whether anything reaches it or not. */
+uint16_t shelf_strict_check(const uint8_t *file, size_t file_len, size_t *place);
+
+/* Writes the file with three gates of two inputs in place of each of those four gates: one on the first two arguments and
+ * one on the last two, which drive new nets, and one of the same kind on these, which drives the gate's net. New nets
+ * have the lowest numbers unused in their module, occurrences in order. The strict check passes what is written, its
+ * modules give the same outputs on all values, and a file that uses none of the four comes back byte for byte.
+ * *written is how many bytes there are, at most 65,535.
+ * Refusals 1 to 17 of the file; then of the new file 4 (more than 4,096 occurrences in a module, place 0), 16, 17 and
+ * 1 (place 0), in that order, each over the whole new file before the next; then 22. */
+uint16_t shelf_rewrite(const uint8_t *file, size_t file_len, uint8_t *out, size_t out_len, size_t *written,
+                       size_t *place);
 
 /* How many modules the file has, in *modules. Refusals 1 to 17. */
 uint16_t shelf_modules(const uint8_t *file, size_t file_len, size_t *modules, size_t *place);

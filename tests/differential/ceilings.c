@@ -1,5 +1,5 @@
-/* Files at a ceiling, or one past it: bytes, modules, entries of a list, occurrences, nets, expanded size, and the
- * nets of a flattened module. */
+/* Files at a ceiling, or one past it: bytes, modules, entries of a list, occurrences, nets, expanded size, the nets of
+ * a flattened module, and the same of a rewritten file. */
 #include "make.h"
 
 #include "random.h"
@@ -125,6 +125,77 @@ static void many_occurrences(struct draft *draft, int occurrences)
     draft->modules[0].number = 17;
     end_with_empty(draft);
     refer(&draft->modules[0], EMPTY, occurrences);
+}
+
+static const int four_kinds[] = {4, 7, 12, 15};
+
+/* A gate of four inputs on nets below `drives`. */
+static void add_four(struct draft_module *module, int drives)
+{
+    struct draft_occurrence *occurrence = add_occurrence(module, four_kinds[below(4)]);
+
+    add_net(&occurrence->drives, drives);
+    for (int i = 0; i < 4; i++)
+        add_net(&occurrence->takes, below(drives));
+}
+
+/* Rewritten, the module has `gates` gates: three for each of four inputs. With its inputs they are its nets. */
+static void many_when_rewritten(struct draft *draft, int inputs, int gates)
+{
+    struct draft_module *module = &draft->modules[0];
+    int fours = between(1, gates / 3), next = inputs;
+
+    draft_start(draft, 1);
+    add_nets(&module->inputs, 0, inputs);
+    for (int i = 0; i < fours; i++)
+        add_four(module, next++);
+    for (int i = 3 * fours; i < gates; i++, next++)
+        add_gate(module, BUF, next, below(next), 0);
+    add_net(&module->outputs, next - 1);
+}
+
+/* 771 times a module of 28 gates of four inputs: 65,535 when they are rewritten, and `more`. */
+static void large_when_rewritten(struct draft *draft, int more)
+{
+    struct draft_module *outer = &draft->modules[0], *inner = &draft->modules[1];
+
+    draft_start(draft, 2);
+    add_nets(&inner->inputs, 0, 4);
+    for (int i = 0; i < 28; i++)
+        add_four(inner, 4 + i);
+    add_net(&inner->outputs, 31);
+    add_nets(&outer->inputs, 0, 4);
+    for (int i = 0; i < 771; i++) {
+        struct draft_occurrence *occurrence = add_occurrence(outer, inner->number);
+
+        add_net(&occurrence->drives, 4 + i);
+        for (int j = 0; j < 4; j++)
+            add_net(&occurrence->takes, below(4 + i));
+    }
+    for (int i = 0; i < more; i++)
+        add_gate(outer, BUF, 775 + i, i, 0);
+    add_net(&outer->outputs, 774);
+}
+
+/* At a ceiling that only the rewritten file meets: occurrences, nets, expanded size, bytes. */
+static void at_ceiling_when_rewritten(struct draft *draft, int over)
+{
+    int inputs = between(1, 100);
+
+    switch (below(4)) {
+    case 0:
+        many_when_rewritten(draft, inputs, 4096 + over);
+        break;
+    case 1:
+        many_when_rewritten(draft, inputs, 4096 - inputs + over);
+        break;
+    case 2:
+        large_when_rewritten(draft, over);
+        break;
+    default:
+        many_when_rewritten(draft, inputs, between(30, 300));
+        pad_to(draft, 65535 - between(0, 3000));
+    }
 }
 
 /* A chain of modules that each have a gate or two and refer to the next. */
@@ -259,7 +330,7 @@ void make_at_ceiling(struct draft *draft)
 {
     int over = percent(50);
 
-    switch (below(12)) {
+    switch (below(14)) {
     case 0:
         doubled(draft, 1 + over);
         break;
@@ -289,6 +360,10 @@ void make_at_ceiling(struct draft *draft)
         break;
     case 9:
         much_room(draft);
+        break;
+    case 10:
+    case 11:
+        at_ceiling_when_rewritten(draft, over);
         break;
     default:
         if (percent(50))

@@ -16,10 +16,10 @@
 #include <string.h>
 
 /* A block of 1,024 rows of 192 values or outputs each is the largest, with some to spare. */
-enum { REFUSALS = 28, SCRATCH_MOST = 70000, OUT_MOST = 200000, VALUES_MOST = 200000 };
+enum { REFUSALS = 29, SCRATCH_MOST = 70000, OUT_MOST = 200000, VALUES_MOST = 200000 };
 
-static const char *const call_names[CALLS] = {"check", "modules", "number_at", "evaluate", "rows",
-                                              "count", "flatten", "adder",     "fast_adder", "alu",       "counter"};
+static const char *const call_names[CALLS] = {"check", "strict",  "rewrite", "modules",    "number_at", "evaluate", "rows",
+                                              "count", "flatten", "adder",   "fast_adder", "alu",       "counter"};
 static long met[CALLS][REFUSALS];
 
 /* Flattened files that were counted, and counts of such of several levels, one by each reading. */
@@ -155,6 +155,14 @@ static void compare_check(void)
     begin(CHECK);
     ours.number = shelf_check(lent_file, file_len, &ours.place);
     plain.number = plain_check(file, file_len, &plain.place);
+    end_call();
+}
+
+static void compare_strict_check(void)
+{
+    begin(STRICT_CHECK);
+    ours.number = shelf_strict_check(lent_file, file_len, &ours.place);
+    plain.number = plain_strict_check(file, file_len, &plain.place);
     end_call();
 }
 
@@ -376,6 +384,56 @@ static struct right right_lengths(uint16_t number)
     return (struct right){figures[0], figures[1], figures[4], flat};
 }
 
+/* Of the refusals 1, 4, 16 and 17 of a rewriting, those that are about the new file; and files that changed. */
+static long met_new[REFUSALS], rewritten;
+
+/* A rewritten file passes the strict check, comes back as it is when it is rewritten again, and its modules answer as
+ * those of the file do. */
+static void judge_rewritten(uint16_t number, size_t values_len)
+{
+    uint32_t work;
+    static uint32_t scratch[SCRATCH_MOST];
+    static uint8_t again[OUT_MOST], before[OUT_MOST], after[OUT_MOST];
+    const uint8_t *new_file = our_out.end - given.out_len;
+    size_t new_len = ours.result, length = 0, outputs = 0, new_outputs = 0, place;
+    uint16_t answer, new_answer;
+
+    if (shelf_strict_check(new_file, new_len, &place) != 0)
+        report("the strict check does not pass a rewritten file");
+    if (shelf_rewrite(new_file, new_len, again, OUT_MOST, &length, &place) != 0 || length != new_len ||
+        memcmp(again, new_file, length) != 0)
+        report("a rewritten file changes when it is rewritten again");
+    answer = shelf_evaluate(lent_file, file_len, number, values, values_len, scratch, SCRATCH_MOST, before, OUT_MOST,
+                            &outputs, &work, &place);
+    new_answer = shelf_evaluate(new_file, new_len, number, values, values_len, scratch, SCRATCH_MOST, after, OUT_MOST,
+                                &new_outputs, &work, &place);
+    if (answer != new_answer || outputs != new_outputs || memcmp(before, after, outputs) != 0)
+        report("a module of the rewritten file answers otherwise");
+    rewritten += new_len != file_len;
+}
+
+static void compare_rewrite(uint16_t number, size_t values_len)
+{
+    static uint8_t out[OUT_MOST];
+    size_t right = 0, place;
+
+    plain_rewrite(file, file_len, out, OUT_MOST, &right, &place);
+    begin(REWRITE);
+    given.number = number;
+    given.values_len = values_len;
+    given.out_len = near(right);
+    lend_scratch(&our_scratch);
+    lend_scratch(&plain_scratch);
+    ours.number = shelf_rewrite(lent_file, file_len, lend(&our_out, given.out_len, NULL), given.out_len, &ours.result,
+                                &ours.place);
+    plain.number = plain_rewrite(file, file_len, lend(&plain_out, given.out_len, NULL), given.out_len, &plain.result,
+                                 &plain.place);
+    end_call_with_buffers();
+    met_new[ours.number] += plain_check(file, file_len, &place) == 0;
+    if (ours.number == 0)
+        judge_rewritten(number, values_len);
+}
+
 /* None, one, a few, the most, one more, or any number at all. Many rows are for modules that run fast. */
 static size_t choose_rows(int fast)
 {
@@ -412,6 +470,7 @@ static void compare_module_calls(size_t modules)
 
     choose_values(values_len);
     compare_evaluate(number, values_len, near(right.room), near(right.outputs));
+    compare_rewrite(number, values_len);
     compare_block(number, right);
     compare_count(number, near(right.room));
     compare_flatten(number, near(right.room), near(right.flat));
@@ -427,6 +486,7 @@ void compare_file(const uint8_t *bytes, size_t length)
     lent_file = lend(&file_lender, length, bytes);
     plain_modules(file, file_len, &modules, &place);
     compare_check();
+    compare_strict_check();
     compare_modules();
     compare_number_at(percent(95) ? (size_t)below((int)modules + 2) : (size_t)random_word());
     compare_module_calls(modules);
@@ -528,6 +588,10 @@ static int can_give(enum call call, int number)
     if (number <= 17)
         return 1;
     switch (call) {
+    case STRICT_CHECK:
+        return number == 28;
+    case REWRITE:
+        return number == 22;
     case NUMBER_AT:
         return number == 18;
     case EVALUATE:
@@ -577,5 +641,8 @@ int compare_summary(void)
     printf("runs answered on a 3: %ld, refused for a 4: %ld\n", met_three, met_four);
     printf("flattened files with the gates, delay and load of their module: %ld, of several levels %ld\n", flattened,
            flattened_deep / 2);
-    return complete && met_three > 0 && met_four > 0 && flattened_deep > 0;
+    printf("rewritten files that changed: %ld; refused for the new file with 4: %ld, 16: %ld, 17: %ld, 1: %ld, 22: %ld\n", rewritten,
+           met_new[4], met_new[16], met_new[17], met_new[1], met_new[22]);
+    return complete && met_three > 0 && met_four > 0 && flattened_deep > 0 && rewritten > 0 && met_new[4] > 0 &&
+           met_new[16] > 0 && met_new[17] > 0 && met_new[1] > 0;
 }

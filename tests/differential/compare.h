@@ -5,7 +5,7 @@
 #include <stddef.h>
 #include <stdint.h>
 
-enum call { CHECK, MODULES, NUMBER_AT, EVALUATE, EVALUATE_ROWS, COUNT, FLATTEN, ADDER, FAST_ADDER, ALU, COUNTER, CALLS };
+enum call { CHECK, STRICT_CHECK, REWRITE, MODULES, NUMBER_AT, EVALUATE, EVALUATE_ROWS, COUNT, FLATTEN, ADDER, FAST_ADDER, ALU, COUNTER, CALLS };
 
 void compare_start(uint64_t seed);
 void compare_case(long number); /* named in the report of a difference */

@@ -18,6 +18,27 @@ uint16_t plain_check(const uint8_t *bytes, size_t length, size_t *place)
     return plain_end(place, refusal.number, refusal.place);
 }
 
+/* 28: the first module that uses one of the four gates with four inputs, reached or not. */
+uint16_t plain_strict_check(const uint8_t *bytes, size_t length, size_t *place)
+{
+    uint16_t refused = plain_check(bytes, length, place);
+    int at, i;
+
+    if (refused != 0)
+        return refused;
+    for (at = 0; at < plain_file.count; at++) {
+        const struct module *module = &plain_file.modules[at];
+
+        for (i = 0; i < module->count; i++) {
+            int refers = module->occurrences[i].refers;
+
+            if (refers == 4 || refers == 7 || refers == 12 || refers == 15)
+                return plain_end(place, 28, (size_t)at);
+        }
+    }
+    return 0;
+}
+
 uint16_t plain_modules(const uint8_t *bytes, size_t length, size_t *modules, size_t *place)
 {
     uint16_t refused = plain_check(bytes, length, place);

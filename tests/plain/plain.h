@@ -93,6 +93,9 @@ uint16_t plain_give(const struct bytes *answer, uint8_t *out, size_t out_len, si
 
 /* The calls */
 uint16_t plain_check(const uint8_t *file, size_t file_len, size_t *place);
+uint16_t plain_strict_check(const uint8_t *file, size_t file_len, size_t *place);
+uint16_t plain_rewrite(const uint8_t *file, size_t file_len, uint8_t *out, size_t out_len, size_t *written,
+                       size_t *place);
 uint16_t plain_modules(const uint8_t *file, size_t file_len, size_t *modules, size_t *place);
 uint16_t plain_number_at(const uint8_t *file, size_t file_len, size_t position, uint16_t *number, size_t *place);
 uint16_t plain_evaluate(const uint8_t *file, size_t file_len, uint16_t number, const uint8_t *values,

@@ -14,6 +14,14 @@ pub(crate) fn check(path: &[u8]) {
     }
 }
 
+pub(crate) fn strict(path: &[u8]) {
+    let mut file = io::large_buffer();
+    match crate::files::load(path, &mut file) {
+        Loaded::Failed => crate::saying::cannot_read(path),
+        Loaded::Bytes(count) => show_checked(shelf::strict_check(front(count, &file))),
+    }
+}
+
 fn show_checked(checked: Checked) {
     match checked {
         Checked::Good => crate::saying::say(b"ok\n"),

@@ -1,10 +1,10 @@
 // The command `gimlet`, all of it but where its words come from: so that it can be held to stored lines. It decides nothing itself. Each
 // answer is one line on standard output; a refusal has a second line that says in words which rule it is and what the place means.
-mod asking; // asking.rt: check, list, count and run
+mod asking; // asking.rt: check, strict, list, count and run
 mod counted; // counted.rt: the figures of a module
 mod files; // files.rt: bytes in, bytes out
 mod listing; // listing.rt: a listing for a board maker
-mod making; // making.rt: flatten, the adders, the ALU and counter
+mod making; // making.rt: rewrite, flatten, the adders, the ALU and counter
 mod refusing; // refusing.rt: refusals in words
 mod rows; // rows.rt: rows
 mod saying; // saying.rt: lines, what could not be carried out, and the help
@@ -61,6 +61,8 @@ fn alone(name: &[u8]) {
 fn with_one(name: &[u8], first: &[u8]) {
     if is(name, b"check") {
         asking::check(first);
+    } else if is(name, b"strict") {
+        asking::strict(first);
     } else if is(name, b"list") {
         asking::list(first);
     } else {
@@ -71,6 +73,8 @@ fn with_one(name: &[u8], first: &[u8]) {
 fn with_two(name: &[u8], first: &[u8], second: &[u8]) {
     if is(name, b"count") {
         asking::count(first, second);
+    } else if is(name, b"rewrite") {
+        making::rewrite(first, second);
     } else if is(name, b"adder") {
         making::to_order(Order::Adder, first, second);
     } else if is(name, b"fast-adder") {

@@ -2,6 +2,7 @@
 use crate::words::Parsed;
 use rows_file::Loaded;
 use rows_file::front;
+use shelf::Checked;
 use shelf::Writing;
 
 // Writes what was made to a file, or says why nothing was made.
@@ -48,6 +49,32 @@ fn ordered(order: Order, width: usize, bytes: &mut [u8]) -> Writing {
         Order::FastAdder => shelf::fast_adder(width, bytes),
         Order::Alu => shelf::alu(width, bytes),
         Order::Counter => shelf::counter(width, bytes),
+    }
+}
+
+pub(crate) fn rewrite(path: &[u8], to: &[u8]) {
+    let mut file = io::large_buffer();
+    match crate::files::load(path, &mut file) {
+        Loaded::Failed => crate::saying::cannot_read(path),
+        Loaded::Bytes(count) => rewrite_accepted(front(count, &file), to),
+    }
+}
+
+// A refusal is told apart by whether it is about the file or about the new one.
+fn rewrite_accepted(file: &[u8], to: &[u8]) {
+    match shelf::check(file) {
+        Checked::Good => rewrite_into(file, to),
+        Checked::Broken { number, place } => crate::refusing::refuse(number, place),
+    }
+}
+
+fn rewrite_into(file: &[u8], to: &[u8]) {
+    let mut bytes = io::large_buffer();
+    match shelf::rewrite(file, &mut bytes) {
+        Writing::Refused { number, place } => {
+            crate::refusing::refuse_of(b"in the rewritten file: ", number, place)
+        }
+        Writing::Wrote(count) => write(front(count, &bytes), to),
     }
 }
 

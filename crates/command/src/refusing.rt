@@ -24,13 +24,14 @@ pub(crate) fn say_words(number: u16, place: u64) {
     end_line();
 }
 
-// Where it is: refusals 2 to 5 name a byte, 6 to 17 a module by its position, 20 a value, 29 a gate's name.
+// Where it is: refusals 2 to 5 name a byte, 6 to 17 and 28 a module by its position, 20 a value, 29 a gate's name.
 fn say_place(number: u16, place: u64) {
     match number {
         2..=5 => say_at(b"byte ", place),
         6..=17 => say_at(b"module at position ", place),
         20 => say_at(b"value ", place),
         29 => say_at(b"gate name ", place),
+        28 => say_at(b"module at position ", place),
         _ => {}
     }
 }
@@ -112,6 +113,7 @@ fn say_rule_of_making(number: u16) {
         29 => say(
             b"not 128 bytes of names, or it is not 1 to 8 capitals or digits and then spaces, or M and digits, or used before",
         ),
+        28 => say(b"it uses a four-input gate, which the maker no longer builds"),
         _ => {}
     }
 }

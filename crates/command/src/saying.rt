@@ -47,6 +47,9 @@ pub(crate) fn help() {
     say(
         b"\
 gimlet check FILE                whether the file is accepted: ok, or refused and why
+gimlet strict FILE               whether it is accepted and uses no four-input gate
+gimlet rewrite FILE OUT          writes it with gates of two inputs in place of those of
+                                 four
 gimlet list FILE                 a line for each module: position, number, inputs,
                                  outputs, gates, size, room, delay, largest load
 gimlet count FILE MODULE         the figures of a module, and its gates of each kind

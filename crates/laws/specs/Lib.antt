@@ -63,3 +63,4 @@ pub mod Demands
 pub mod Floating
 pub mod Work
 pub mod Ndl
+pub mod Withdrawn

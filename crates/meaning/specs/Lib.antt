@@ -33,3 +33,4 @@ pub mod Work
 pub mod Listing
 pub mod Shelves
 pub mod Ndl
+pub mod Withdrawn

@@ -6,4 +6,5 @@ mod judged; // judged.rt: the check
 mod listed; // listed.rt: a listing for the board maker
 mod shelves; // shelves.rt: two files
 mod run; // run.rt: evaluation, of one row and of many, and flattening
+mod withdrawn; // withdrawn.rt: the strict check and the rewriting
 mod written; // written.rt: modules to order

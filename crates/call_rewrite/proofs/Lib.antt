@@ -1,0 +1,5 @@
+-- Facts that the proofs cite.
+pub mod Longer
+pub mod Suiting
+pub mod Tables
+pub mod Answering

@@ -1,0 +1,24 @@
+-- `call_rewrite::rewriting::rewrite_long` meets its contract: long lists serve for any file.
+use Prim.Native.Nat.{ℕ}
+use native.Mathlib.Omega.{arith}
+use borrow.Author.Needs.{needs}
+use lib.ListN.{length-replicate}
+use Rattle.read_parts.specs.Exact.{bytes-all}
+use Rattle.open_file.specs.Spaces.{any-space}
+use Rattle.call_rewrite.proofs.rewriting.rewrite_long.Statement.{statement}
+use Rattle.call_rewrite.proofs.rewriting.rewrite_long.Tie as tie
+
+abbrev listed : tie.After-rewrite-in-arg → tie.After-shared-slice-known
+listed c = c .before .before .before .before .before .before
+
+pub rewrite-long-spec : {M : Type 1} → statement M
+rewrite-long-spec =
+    tie.close
+    (tie.spec
+    (λ c. search needs)
+    (λ c. search needs)
+    (λ c. search needs)
+    (λ c. search needs)
+    (λ c κs. (any-space _ (bytes-all _ (λ i. listed c .shared-slice-known .given i .fits)), omega (arith, length-replicate {A = ℕ} 196605 0)))
+    (λ c. search needs)
+    (λ c. search needs))

@@ -1,0 +1,3 @@
+-- What the strict check and the rewriting rest on once a file is opened.
+pub mod Standing
+pub mod Growing

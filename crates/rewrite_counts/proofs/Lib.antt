@@ -1,0 +1,4 @@
+-- Facts that the functions' proofs share.
+pub mod Walking
+pub mod Deciding
+pub mod Filling
