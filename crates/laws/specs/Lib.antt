@@ -64,3 +64,4 @@ pub mod Floating
 pub mod Work
 pub mod Ndl
 pub mod Withdrawn
+pub mod Filing

@@ -34,3 +34,4 @@ pub mod Listing
 pub mod Shelves
 pub mod Ndl
 pub mod Withdrawn
+pub mod Filing

@@ -1,0 +1,2 @@
+-- Lemmas that proofs share.
+pub mod Reporting
