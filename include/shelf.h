@@ -35,8 +35,8 @@
  *   23  the width is outside 1 to 64                         0
  *   24  flattening needs more than 4,096 nets                0
  *   27  more than 1,024 rows                                 0
- *   29  not 128 bytes of names, or a name is bad or used     0, or the first such name, 0 to 15
  *   28  the module uses a four-input gate                    the module's position
+ *   29  not 128 bytes of names, or a name is bad or used     0, or the first such name, 0 to 15
  *
  * What a call leaves. A refusal writes `*place` (and `*which`) and nothing else that was lent: no buffer, none of `*written`,
  * `*work`, `*modules`, `*number`, `figures`, `tally`. An answer writes `*place` and what was asked for; it fills the first bytes
@@ -91,7 +91,7 @@ uint16_t shelf_evaluate(const uint8_t *file, size_t file_len, uint16_t number, c
  * the first bytes of out, each as shelf_evaluate gives it for its row alone; *written is how many outputs there are
  * in all, and *work the sum over the rows of the work that each is alone, at most 67,107,840, though one walk
  * serves many rows. With no rows nothing is written to out, *work is 0, and scratch is asked for and left as for one row.
- * It takes 64 bytes of stack for each of 256, 2,048, 8,192 or 65,536 entries, the fewest that the module's room fits in.
+ * It takes 64 bytes of stack for each of 256, 1,024, 8,192 or 65,536 entries, the fewest that the module's room fits in.
  * Refusals 1 to 17, then 18, 27, 19 where values_len is not rows times the inputs, 20 with the index in all of values,
  * 21, 22 where out is shorter than all rows of outputs. */
 uint16_t shelf_evaluate_rows(const uint8_t *file, size_t file_len, uint16_t number, size_t rows,
