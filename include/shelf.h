@@ -7,7 +7,7 @@
  * in entries. A pointer must be good for that many entries, also where the length is 0 it must not be a null pointer,
  * and no two buffers of one call may overlap. `file`, `values` and `names` are only read.
  *
- * What comes back. Every function returns 0 for an answer, or the number of a refusal, 1 to 24 or 27 to 29. `*place`
+ * What comes back. Every function returns 0 for an answer, or the number of a refusal, 1 to 29 or 33. `*place`
  * gets 0 with an answer and the refusal's place with a refusal:
  *
  *    1  the file is over 65,535 bytes                        0
@@ -34,9 +34,12 @@
  *   22  the output buffer is shorter than the answer         0
  *   23  the width is outside 1 to 64                         0
  *   24  flattening needs more than 4,096 nets                0
+ *   25  the text is not in the list form                     the first byte at which no such text goes on
+ *   26  an atom, a list or a count of names is too long      the first byte that is too much
  *   27  more than 1,024 rows                                 0
  *   28  the module uses a four-input gate                    the module's position
  *   29  not 128 bytes of names, or a name is bad or used     0, or the first such name, 0 to 15
+ *   33  the text is over 262,144 bytes                       0
  *
  * What a call leaves. A refusal writes `*place` (and `*which`) and nothing else that was lent: no buffer, none of `*written`,
  * `*work`, `*modules`, `*number`, `figures`, `tally`. An answer writes `*place` and what was asked for; it fills the first bytes
@@ -135,6 +138,15 @@ uint16_t shelf_join(const uint8_t *group, size_t group_len, const uint8_t *house
  * that the text fits in serves too. It takes about a megabyte of stack. Refusals 1 to 17, then 29, 22. */
 uint16_t shelf_write_ndl(const uint8_t *file, size_t file_len, const uint8_t *names, size_t names_len, uint8_t *out,
                          size_t out_len, size_t *written, size_t *place);
+
+/* Makes a file from a text in the published list form (docs/LISTS.md says what such a text is). Nets are numbered in order of
+ * first appearance in their module, modules from 16 in order of first mention, gates by their names. The file comes in
+ * the first *written bytes of out, at most 65,535, and the check accepts it. Refusals: 33 text over 262,144 bytes, at 0; then 25 at
+ * the first byte at which no list of modules goes on, or at the text's length if it only lacks an end, and 26 at the first
+ * atom or bracket that is over a ceiling, whichever of the two comes first; then 1 at 0, 6 to 17 of the file, and 22.
+ * A text of over 2,048 bytes takes some 6 megabytes of stack while it is read. */
+uint16_t shelf_read_text(const uint8_t *text, size_t text_len, uint8_t *out, size_t out_len, size_t *written,
+                         size_t *place);
 
 /* Writes the file of the ripple adder of that width: module 18, inputs carry, a, b, outputs sum, carry, low bits
  * first. The file comes in the first *written bytes of out, at most 1,019. Refusals 23, 22. */

@@ -85,6 +85,8 @@ fn with_two(name: &[u8], first: &[u8], second: &[u8]) {
         making::to_order(Order::Counter, first, second);
     } else if is(name, b"ndl") {
         listing::ndl(first, second, b"");
+    } else if is(name, b"read") {
+        making::read(first, second);
     } else {
         saying::usage();
     }

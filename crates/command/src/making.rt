@@ -101,3 +101,18 @@ fn flatten_in(file: &[u8], number: u16, scratch: &mut [u32; 40960], to: &[u8]) {
     let made = shelf::flatten(file, number, scratch, &mut bytes);
     keep(made, &bytes, to);
 }
+
+// Makes a file from a text in the published list form. One byte more than a text may have is read, so that 33 can be told.
+pub(crate) fn read(path: &[u8], to: &[u8]) {
+    let mut text = [0u8; 262145];
+    match crate::files::load(path, &mut text) {
+        Loaded::Failed => crate::saying::cannot_read(path),
+        Loaded::Bytes(count) => read_in(front(count, &text), to),
+    }
+}
+
+fn read_in(text: &[u8], to: &[u8]) {
+    let mut bytes = io::large_buffer();
+    let made = shelf::read_text(text, &mut bytes);
+    keep(made, &bytes, to);
+}

@@ -24,10 +24,10 @@ pub(crate) fn say_words(number: u16, place: u64) {
     end_line();
 }
 
-// Where it is: refusals 2 to 5 name a byte, 6 to 17 and 28 a module by its position, 20 a value, 29 a gate's name.
+// Where it is: refusals 2 to 5 name a byte, 25 and 26 one of a text, 6 to 17 and 28 a module by its position, 20 a value, 29 a gate's name.
 fn say_place(number: u16, place: u64) {
     match number {
-        2..=5 => say_at(b"byte ", place),
+        2..=5 | 25 | 26 => say_at(b"byte ", place),
         6..=17 => say_at(b"module at position ", place),
         20 => say_at(b"value ", place),
         29 => say_at(b"gate name ", place),
@@ -114,6 +114,9 @@ fn say_rule_of_making(number: u16) {
             b"not 128 bytes of names, or it is not 1 to 8 capitals or digits and then spaces, or M and digits, or used before",
         ),
         28 => say(b"it uses a four-input gate, which the maker no longer builds"),
+        25 => say(b"no list of modules goes on so"),
+        26 => say(b"an atom, a list or a count of names is over its ceiling"),
+        33 => say(b"the text is longer than 262,144 bytes"),
         _ => {}
     }
 }

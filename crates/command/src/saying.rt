@@ -76,6 +76,7 @@ gimlet alu WIDTH OUT             writes an arithmetic unit of sixteen operations
                                  1 to 64; its module is 48
 gimlet counter WIDTH OUT         writes a leading-zero counter, width 1 to 64; its
                                  module is 32
+gimlet read TEXT OUT             makes the file OUT from a text in the published list form
 gimlet help                      this text
 FILE or ROWS may be -, for standard input. MODULE is a module's number. An answer is one line,
 and with --work a last one more.

@@ -22,6 +22,7 @@ pub use call_look_up::which_shelf;
 pub use call_ndl::write_ndl;
 pub use call_rewrite::rewrite;
 pub use call_rewrite::strict_check;
+pub use call_text::read_text;
 pub use judged::check;
 pub use write_order::adder;
 pub use write_order::alu;

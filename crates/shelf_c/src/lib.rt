@@ -7,4 +7,5 @@ mod listed; // listed.rt: a listing for the board maker
 mod shelves; // shelves.rt: two files
 mod run; // run.rt: evaluation, of one row and of many, and flattening
 mod withdrawn; // withdrawn.rt: the strict check and the rewriting
+mod texts; // texts.rt: a text in the list form
 mod written; // written.rt: modules to order

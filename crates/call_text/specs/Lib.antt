@@ -1,0 +1,2 @@
+-- A text becomes a file.
+pub mod Rooms
