@@ -31,14 +31,15 @@ struct side {
     uint16_t (*write_ndl)(const uint8_t *, size_t, const uint8_t *, size_t, uint8_t *, size_t, size_t *, size_t *);
     uint16_t (*strict_check)(const uint8_t *, size_t, size_t *);
     uint16_t (*rewrite)(const uint8_t *, size_t, uint8_t *, size_t, size_t *, size_t *);
+    uint16_t (*read_text)(const uint8_t *, size_t, uint8_t *, size_t, size_t *, size_t *);
 };
 
 static const struct side ours = {shelf_check,   shelf_evaluate, shelf_evaluate_rows, shelf_count,
                                  shelf_flatten, shelf_adder,    shelf_fast_adder, shelf_counter, shelf_join,
-                                 shelf_write_ndl, shelf_strict_check, shelf_rewrite};
+                                 shelf_write_ndl, shelf_strict_check, shelf_rewrite, shelf_read_text};
 static const struct side theirs = {tuned_check,   tuned_evaluate, tuned_evaluate_rows, tuned_count,
                                    tuned_flatten, tuned_adder,    tuned_fast_adder, tuned_counter, tuned_join,
-                                   tuned_write_ndl, tuned_strict_check, tuned_rewrite};
+                                   tuned_write_ndl, tuned_strict_check, tuned_rewrite, tuned_read_text};
 
 /* What a row works on, and what it leaves for comparison. */
 static struct bench_file file;
@@ -62,6 +63,11 @@ static uint16_t strict_check(const struct side *side)
 static uint16_t rewrite(const struct side *side)
 {
     return side->rewrite(file.bytes, file.length, out, MOST, &written, &place);
+}
+
+static uint16_t read_text(const struct side *side)
+{
+    return side->read_text(file.bytes, file.length, out, MOST, &written, &place);
 }
 
 static uint16_t evaluate(const struct side *side)
@@ -323,6 +329,13 @@ static void withdrawn_rows(void)
     row_on("rewrite", written_adder(1), rewrite, 0, "");
 }
 
+static void text_rows(void)
+{
+    row_on("read", drafted_text(262144), read_text, 262144, " byte");
+    row_on("read", alike_text(262144), read_text, 262144, " byte");
+    row_on("read", drafted_text(2048), read_text, 2048, " byte");
+}
+
 int main(void)
 {
     check_rows();
@@ -334,5 +347,6 @@ int main(void)
     row_on("join", many_modules(), join, 128, " module");
     row_on("join", written_adder(1), join, 0, "");
     listing_rows();
+    text_rows();
     return 0;
 }

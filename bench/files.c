@@ -192,3 +192,69 @@ struct bench_file deep_when_flat(void)
     }
     return finish("3 levels", 16);
 }
+
+/* ---- texts */
+
+enum { SHORT_TEXT = 2048, FEW_GATES = 20, MODULE_GATES = 500, LINE = 128 };
+
+typedef void name_of(char *to, int net);
+
+static void designers_name(char *to, int net)
+{
+    static const char *const forms[] = {"CARRY-%d", "sum-bit-%d", "T%d"};
+
+    sprintf(to, forms[net % 3], net);
+}
+
+static void long_name(char *to, int net)
+{
+    sprintf(to, "THE-CARRY-OUT-OF-THE-STAGE-%05d", net);
+}
+
+/* A module of gates, the nets 0 and 1 its inputs and the last one its output. */
+static char *put_module(char *to, int k, int gates, name_of *name)
+{
+    char drives[LINE], a[LINE], b[LINE];
+
+    name(a, 0);
+    name(b, 1);
+    name(drives, gates + 1);
+    to += sprintf(to, "(STAGE-%d (%s %s) (%s) (\n", k, a, b, drives);
+    for (int net = 2; net < gates + 2; net++) {
+        name(drives, net);
+        name(a, scatter(2 * net, net));
+        name(b, scatter(2 * net + 1, net));
+        to += sprintf(to, "  ((%s) (B-NAND %s %s))\n", drives, a, b);
+    }
+    return to + sprintf(to, "))\n");
+}
+
+static struct bench_file finish_text(const char *label, size_t length, name_of *name)
+{
+    char *bytes = malloc(length + MODULE_GATES * LINE), *to = bytes + 1;
+    int gates = length <= SHORT_TEXT ? FEW_GATES : MODULE_GATES;
+
+    if (bytes == NULL)
+        abort();
+    *bytes = '(';
+    for (int k = 0;; k++) {
+        char *behind = put_module(to, k, gates, name);
+
+        if (behind + 1 > bytes + length)
+            break;
+        to = behind;
+    }
+    *to++ = ')';
+    memset(to, ' ', (size_t)(bytes + length - to));
+    return (struct bench_file){label, (const uint8_t *)bytes, length, 0, 16};
+}
+
+struct bench_file drafted_text(size_t length)
+{
+    return finish_text(length <= SHORT_TEXT ? "a short draft" : "a draft", length, designers_name);
+}
+
+struct bench_file alike_text(size_t length)
+{
+    return finish_text("names of 32 bytes, alike", length, long_name);
+}

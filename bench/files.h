@@ -22,4 +22,8 @@ struct bench_file full_size(void);        /* expanded size 65,535, gates; a smal
 struct bench_file doubling(void);         /* expanded size 65,535, no gates; a small file */
 struct bench_file deep_when_flat(void);   /* flattens to 4,096 nets; a small file */
 
+/* Texts in the list form, of so many bytes: gates with names as a designer gives them; and names of 32 bytes that are alike but for their ends. */
+struct bench_file drafted_text(size_t length);
+struct bench_file alike_text(size_t length);
+
 #endif

@@ -16,7 +16,8 @@ enum {
     ROWS = 1024,
     BLOCK = 256, /* rows in one walk */
     GATES = 16,
-    ROOM = 40959 /* at most so in a good file, which lists every net of every frame */
+    ROOM = 40959, /* at most so in a good file, which lists every net of every frame */
+    TEXT_BYTES = 262144
 };
 
 struct module {
@@ -31,7 +32,7 @@ struct module {
     uint8_t again; /* a later module has the same number */
 };
 
-static uint16_t numbers[BYTES + 1];
+static uint16_t numbers[TEXT_BYTES]; /* of a text there may be more than of any file */
 static struct module modules[MODULES];
 static uint32_t module_count;
 
@@ -302,15 +303,13 @@ static uint16_t measure(size_t *place)
     return end(place, 0, 0);
 }
 
-static uint16_t open_file(const uint8_t *file, size_t length, size_t *place)
+/* 6 to 17, of modules that stand in `numbers`. */
+static uint16_t check_modules(size_t *place)
 {
-    uint16_t no = read_file(file, length, place), *image_end = image;
+    uint16_t no, *image_end = image;
     uint8_t *references_end = references;
-    uint32_t positions;
+    uint32_t positions = next_stamp();
 
-    if (no != 0)
-        return no;
-    positions = next_stamp();
     find_positions(positions);
     for (uint32_t k = 0; k < module_count; k++) {
         uint32_t mark = next_stamp();
@@ -328,6 +327,13 @@ static uint16_t open_file(const uint8_t *file, size_t length, size_t *place)
             return end(place, no, k);
     }
     return measure(place);
+}
+
+static uint16_t open_file(const uint8_t *file, size_t length, size_t *place)
+{
+    uint16_t no = read_file(file, length, place);
+
+    return no != 0 ? no : check_modules(place);
 }
 
 static int find(uint16_t number)
@@ -1025,7 +1031,8 @@ static uint8_t *put_ahead(uint8_t *to, struct shape t, uint32_t s, struct laid *
         *laid = (struct laid){s + 1, wide + 1 + s};
         return to;
     }
-    to = put_over_one(put_ahead(to, part[0], s, &x), x.end, s, x.p);
+    to = put_ahead(to, part[0], s, &x);
+    to = put_over_one(to, x.end, s, x.p);
     to = put_ahead(to, part[1], x.end, &y);
     to = put_over_two(to, y.end, s, x.p, y.p);
     to = put_ahead(to, part[2], y.end, &z);
@@ -1408,7 +1415,7 @@ uint16_t TUNED(join)(const uint8_t *group, size_t group_len, const uint8_t *hous
 
 enum { TEXT = 8 * BYTES + 4654, NAMES = 128 };
 
-static uint8_t text[TEXT];
+static uint8_t listing[TEXT];
 
 /* The text of numbers up to 16,383, and of names, is put from words of 8 bytes: what is too much of them is written over. */
 static struct word {
@@ -1536,7 +1543,7 @@ uint16_t TUNED(write_ndl)(const uint8_t *file, size_t file_len, const uint8_t *n
                           size_t out_len, size_t *written, size_t *place)
 {
     uint16_t no = open_file(file, file_len, place);
-    uint8_t *to = out_len < 8 * file_len + 4654 ? text : out;
+    uint8_t *to = out_len < 8 * file_len + 4654 ? listing : out;
     uint32_t bad;
     size_t length;
 
@@ -1549,8 +1556,8 @@ uint16_t TUNED(write_ndl)(const uint8_t *file, size_t file_len, const uint8_t *n
     length = (size_t)(put_listing(to) - to);
     if (out_len < length)
         return end(place, 22, 0);
-    if (to == text)
-        memcpy(out, text, length);
+    if (to == listing)
+        memcpy(out, listing, length);
     *written = length;
     return end(place, 0, 0);
 }
@@ -1571,17 +1578,17 @@ static void count_fours(void)
     for (uint32_t k = module_count; k-- > 0;) {
         const struct module *m = &modules[k];
         const uint16_t *at = numbers + m->body;
-        uint32_t own = 0, reached = 0;
+        uint32_t mine = 0, reached = 0;
 
         for (uint32_t i = 0; i < m->runs; i++) {
             at += 1 + *at;
-            own += is_four(*at++);
+            mine += is_four(*at++);
             at += 1 + *at;
         }
         for (uint32_t i = 0; i < m->calls; i++)
             reached += fours_reached[references[m->references + i]];
-        fours[k] = own;
-        fours_reached[k] = own + reached;
+        fours[k] = mine;
+        fours_reached[k] = mine + reached;
     }
 }
 
@@ -1700,6 +1707,325 @@ uint16_t TUNED(rewrite)(const uint8_t *file, size_t file_len, uint8_t *out, size
     if (out_len < length)
         return end(place, 22, 0);
     memcpy(out, made_new, length);
+    *written = length;
+    return end(place, 0, 0);
+}
+
+/* ---- texts */
+
+/* Names are kept in two tables with open addressing, twice as long as they may have entries. An entry has a name's first eight bytes, and says where
+ * the name was first mentioned, for the rest of longer ones. Entries of an earlier text or module bear another stamp; those of gates stay. */
+enum { ATOM = 32, SHELF_NAMES = NUMBERS - GATES, SLOTS = 2 * NUMBERS };
+
+struct name {
+    uint64_t front;
+    uint32_t stamp, mentioned;
+    uint16_t number, length;
+};
+
+struct names {
+    struct name table[SLOTS];
+    uint32_t stamp, count, most, first;
+};
+
+static struct names module_names, net_names;
+
+enum { ALWAYS = 0xFFFFFFFF };
+
+enum sort { OTHER, BLANK, LETTER, OPEN, CLOSE, QUOTE };
+
+static uint8_t sort_of[256];
+
+/* Eight bytes of a name in capitals, 0 behind its end. Letters are the only bytes of a name that have the bit of 64. */
+static inline uint64_t eight(const uint8_t *at, size_t left, size_t length)
+{
+    uint64_t word = 0;
+
+    if (left >= 8)
+        memcpy(&word, at, 8);
+    else
+        memcpy(&word, at, left);
+    if (length < 8)
+        word &= ((uint64_t)1 << 8 * length) - 1;
+    return word & ~((word & 0x4040404040404040) >> 1);
+}
+
+static inline uint32_t spread(uint64_t word)
+{
+    return (uint32_t)((word * 0x9E3779B97F4A7C15) >> 40);
+}
+
+static uint32_t spread_long(const uint8_t *at, size_t left, size_t length)
+{
+    uint64_t word = 0;
+
+    for (size_t i = 0; i < length; i += 8)
+        word = (word ^ eight(at + i, left - i, length - i)) * 0x9E3779B97F4A7C15 ^ word >> 29;
+    return spread(word);
+}
+
+static int same_rest(const uint8_t *text, size_t text_len, size_t one, size_t other, size_t length)
+{
+    for (size_t i = 8; i < length; i += 8)
+        if (eight(text + one + i, text_len - one - i, length - i) != eight(text + other + i, text_len - other - i, length - i))
+            return 0;
+    return 1;
+}
+
+/* The number of the name at a place, a new one where it is not known; -1 where there are too many. */
+static inline int number_of(struct names *names, const uint8_t *text, size_t text_len, size_t at, size_t length)
+{
+    uint64_t front = eight(text + at, text_len - at, length);
+    uint32_t slot = length <= 8 ? spread(front) : spread_long(text + at, text_len - at, length);
+
+    for (;; slot++) {
+        struct name *name = &names->table[slot % SLOTS];
+
+        if (name->stamp != names->stamp && name->stamp != ALWAYS) {
+            if (names->count == names->most)
+                return -1;
+            *name = (struct name){front, names->stamp, (uint32_t)at, (uint16_t)(names->first + names->count++), (uint16_t)length};
+            return name->number;
+        }
+        if (name->front == front && name->length == length && (length <= 8 || same_rest(text, text_len, name->mentioned, at, length)))
+            return name->number;
+    }
+}
+
+static void forget(struct names *names)
+{
+    if (++names->stamp == ALWAYS) {
+        for (size_t i = 0; i < SLOTS; i++)
+            if (names->table[i].stamp != ALWAYS)
+                names->table[i].stamp = 0;
+        names->stamp = 1;
+    }
+    names->count = 0;
+}
+
+static void know_gates(void)
+{
+    static const char *const gate_names[GATES] = {"B-BUF", "B-NOT", "B-NAND", "B-NAND3", "B-NAND4", "B-OR", "B-OR3", "B-OR4",
+                                                  "B-EQV", "B-XOR", "B-AND",  "B-AND3",  "B-AND4",  "B-NOR", "B-NOR3", "B-NOR4"};
+
+    sort_of[' '] = sort_of['\n'] = sort_of['\r'] = BLANK;
+    sort_of['('] = OPEN;
+    sort_of[')'] = CLOSE;
+    sort_of['\''] = QUOTE;
+    sort_of['-'] = LETTER;
+    for (int i = 0; i < 10; i++)
+        sort_of['0' + i] = LETTER;
+    for (int i = 0; i < 26; i++)
+        sort_of['A' + i] = sort_of['a' + i] = LETTER;
+    net_names.most = NUMBERS;
+    module_names.most = SHELF_NAMES;
+    module_names.first = GATES;
+    for (uint16_t i = 0; i < GATES; i++) {
+        uint16_t length = (uint16_t)strlen(gate_names[i]);
+        uint64_t front = eight((const uint8_t *)gate_names[i], length, length);
+        uint32_t slot = spread(front);
+
+        while (module_names.table[slot % SLOTS].stamp == ALWAYS)
+            slot++;
+        module_names.table[slot % SLOTS] = (struct name){front, ALWAYS, 0, i, length};
+    }
+}
+
+/* What comes next. */
+enum stage {
+    START,
+    MODULE,   /* a module, or the end */
+    NAME,     /* of a module */
+    INPUTS,   /* the list of these, and of the outputs, and of the occurrences */
+    OUTPUTS,
+    BODY,
+    INPUT,    /* a net, or the end of the list */
+    OUTPUT,
+    RUN,      /* an occurrence, or the end of the list */
+    DRIVES,   /* the list of driven nets */
+    DRIVEN,
+    CALL,     /* the list of name and arguments */
+    REFERS,
+    ARGUMENT,
+    RUN_END,
+    MODULE_END,
+    DONE
+};
+
+static uint16_t read_text(const uint8_t *text, size_t length, uint16_t **numbers_end, size_t *place)
+{
+    enum stage stage = START;
+    uint16_t *to = numbers, *count = numbers, *runs = numbers;
+    struct module *m = modules;
+    size_t at = 0;
+    int quoted = 0;
+
+    forget(&module_names);
+    while (at < length) {
+        switch (sort_of[text[at]]) {
+        case BLANK:
+            at++;
+            break;
+        case LETTER: {
+            size_t behind = at + 1;
+            struct names *names = &net_names;
+            int number;
+
+            while (behind < length && sort_of[text[behind]] == LETTER)
+                behind++;
+            switch (stage) {
+            case INPUT:
+            case OUTPUT:
+            case DRIVEN:
+            case ARGUMENT:
+                if (behind - at > ATOM || *count == LIST)
+                    return end(place, 26, at);
+                ++*count;
+                break;
+            case NAME:
+            case REFERS:
+                if (behind - at > ATOM)
+                    return end(place, 26, at);
+                names = &module_names;
+                break;
+            default:
+                return end(place, 25, at);
+            }
+            number = number_of(names, text, length, at, behind - at);
+            if (number < 0)
+                return end(place, 26, at);
+            *to++ = (uint16_t)number;
+            if (stage == NAME) {
+                m->number = (uint16_t)number;
+                stage = INPUTS;
+            } else if (stage == REFERS) {
+                count = to++;
+                *count = 0;
+                stage = ARGUMENT;
+            }
+            at = behind;
+            break;
+        }
+        case OPEN:
+            switch (stage) {
+            case START:
+                stage = MODULE;
+                break;
+            case MODULE:
+                if (m - modules == MODULES)
+                    return end(place, 26, at);
+                forget(&net_names);
+                m->start = (uint32_t)(to - numbers);
+                stage = NAME;
+                break;
+            case INPUTS:
+            case OUTPUTS:
+            case DRIVES:
+                count = to++;
+                *count = 0;
+                stage = stage == INPUTS ? INPUT : stage == OUTPUTS ? OUTPUT : DRIVEN;
+                break;
+            case BODY:
+                runs = to++;
+                *runs = 0;
+                m->body = (uint32_t)(to - numbers);
+                stage = RUN;
+                break;
+            case RUN:
+                if (*runs == OCCURRENCES)
+                    return end(place, 26, at);
+                ++*runs;
+                stage = DRIVES;
+                break;
+            case CALL:
+                stage = REFERS;
+                break;
+            default:
+                return end(place, 25, at);
+            }
+            at++;
+            break;
+        case CLOSE:
+            switch (stage) {
+            case MODULE:
+                stage = DONE;
+                break;
+            case INPUT:
+                m->ins = *count;
+                stage = OUTPUTS;
+                break;
+            case OUTPUT:
+                m->outs = *count;
+                m->outputs = (uint32_t)(count + 1 - numbers);
+                stage = BODY;
+                break;
+            case RUN:
+                m->runs = *runs;
+                stage = MODULE_END;
+                break;
+            case DRIVEN:
+                stage = CALL;
+                break;
+            case ARGUMENT:
+                stage = RUN_END;
+                break;
+            case RUN_END:
+                stage = RUN;
+                break;
+            case MODULE_END:
+                m++;
+                stage = MODULE;
+                break;
+            default:
+                return end(place, 25, at);
+            }
+            at++;
+            break;
+        case QUOTE:
+            if (stage != START || quoted)
+                return end(place, 25, at);
+            quoted = 1;
+            at++;
+            break;
+        default:
+            return end(place, 25, at);
+        }
+    }
+    if (stage != DONE)
+        return end(place, 25, length);
+    module_count = (uint32_t)(m - modules);
+    *numbers_end = to;
+    return 0;
+}
+
+static uint8_t made_text[BYTES + 1];
+
+uint16_t TUNED(read_text)(const uint8_t *text, size_t text_len, uint8_t *out, size_t out_len, size_t *written, size_t *place)
+{
+    uint16_t *numbers_end, no;
+    uint8_t *to;
+    size_t length;
+
+    if (sort_of[' '] == 0)
+        know_gates();
+    if (text_len > TEXT_BYTES)
+        return end(place, 33, 0);
+    if ((no = read_text(text, text_len, &numbers_end, place)) != 0)
+        return no;
+    to = put(made_text, module_count);
+    for (const uint16_t *at = numbers; at < numbers_end; at++) {
+        if (to - made_text >= BYTES)
+            return end(place, 1, 0);
+        to = put(to, *at);
+    }
+    length = (size_t)(to - made_text);
+    if (length > BYTES)
+        return end(place, 1, 0);
+    if ((no = check_modules(place)) != 0)
+        return no;
+    if (out_len < length)
+        return end(place, 22, 0);
+    memcpy(out, made_text, length);
     *written = length;
     return end(place, 0, 0);
 }
