@@ -1,3 +1,2 @@
 -- What the contracts of the ALU's writer cite, beside `meaning`.
 pub mod Heads
-pub mod Lists

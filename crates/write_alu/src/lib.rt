@@ -1,24 +1,20 @@
 // The ALU to order (docs/ALU.md): module 48, and the file with the control, the cell and the carry network. A place in the list of bytes is
 // named after what is to stand there.
-mod parts;
-mod rows;
-
 ghost use Prim.Native.Nat.{_+_, _*_, _≤_};
 ghost use mathlib.Core.Path.{_≡_};
 ghost use lib.ListN.{length};
-ghost use Rattle.meaning.specs.Layout.{each, moduleNumbers, numberBytes, encode};
-ghost use Rattle.meaning.specs.Alu.{copyCount, aluModule, alu};
+ghost use Rattle.meaning.specs.Layout.{each, occurrenceNumbers, moduleNumbers, numberBytes, encode};
+ghost use Rattle.meaning.specs.Alu.{copyCount, carriesAhead, aluModule, alu};
 ghost use Rattle.bytes_out.specs.Filled.{Put, Filled};
 ghost use Rattle.write_pieces.specs.Rooms.{Room};
 ghost use Rattle.write_alu.specs.Heads.{headBytes};
-use crate::parts::cell;
-use crate::parts::control;
-use crate::rows::cells;
-use crate::rows::copies;
-use crate::rows::look_ahead;
 use write_ahead::carry_one;
 use write_ahead::carry_two;
 use write_ahead::lookahead;
+use write_cells::parts::cell;
+use write_cells::parts::control;
+use write_cells::rows::cells;
+use write_cells::rows::copies;
 use write_fast::rows::gate_row;
 use write_pieces::bytes::copy;
 use write_pieces::numbers::put_list;
@@ -45,6 +41,18 @@ fn alu_head(width: u16, copied: u16, bytes: &mut [u8], at: usize) -> usize
     let carry = put_list(&[width + 2], bytes, outputs);
     let count = put_run(6 * width + 7, width + 2, bytes, carry);
     put_list(&[2 * width + 4 + 6 * copied], bytes, count)
+}
+
+// The carries, by module 41 on the carry into the network, all p and all g.
+fn look_ahead(width: u16, bytes: &mut [u8], at: usize) -> usize
+    requires { ⌜ (width ≤ 64) × Room (each numberBytes (occurrenceNumbers (carriesAhead width))) (now bytes) at ⌝ }
+    ensures { λ r. ⌜ Put (each numberBytes (occurrenceNumbers (carriesAhead width))) (now (bytes .entry)) at (now (bytes .exit)) r ⌝ }
+{
+    let carry = 2 * width + 6;
+    let carries = put_list(&[width], bytes, at);
+    let number = put_run(carry + 1, width, bytes, carries);
+    let bits = put_list(&[41, 2 * width + 1, carry], bytes, number);
+    put_run(3 * width + 7, 2 * width, bytes, bits)
 }
 
 // Module 48: the control lines and their copies, the cells, the carries, carry and overflow, and the result.

@@ -5,8 +5,8 @@ use borrow.Author.Needs.{needs}
 use lib.ListN.{length}
 use Rattle.meaning.specs.Layout.{each, occurrenceNumbers, moduleNumbers}
 use Rattle.bytes_out.specs.Puts.{put-more}
-use Rattle.write_alu.proofs.parts.cell.Statement.{statement}
-use Rattle.write_alu.proofs.parts.cell.Tie as tie
+use Rattle.write_cells.proofs.parts.cell.Statement.{statement}
+use Rattle.write_cells.proofs.parts.cell.Tie as tie
 
 copy-requires : tie.Need-copy-requires
 unfolding moduleNumbers occurrenceNumbers each

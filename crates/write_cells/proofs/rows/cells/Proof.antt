@@ -8,10 +8,10 @@ use Rattle.meaning.specs.Alu.{cells}
 use Rattle.bytes_out.specs.Laying.{Laying}
 use Rattle.write_pieces.specs.Laying.{laying-none, laying-length, laying-room, laying-more, laying-all}
 use Rattle.write_pieces.specs.Encoding.{bytes-of-piece, no-bytes}
-use Rattle.write_alu.specs.Lists.{cellList}
-use Rattle.write_alu.proofs.Occurrences.{cellsFrom, whole-cells, rest-of-cells, no-cells}
-use Rattle.write_alu.proofs.rows.cells.Statement.{statement}
-use Rattle.write_alu.proofs.rows.cells.Tie as tie
+use Rattle.write_cells.specs.Lists.{cellList}
+use Rattle.write_cells.proofs.Occurrences.{cellsFrom, whole-cells, rest-of-cells, no-cells}
+use Rattle.write_cells.proofs.rows.cells.Statement.{statement}
+use Rattle.write_cells.proofs.rows.cells.Tie as tie
 
 abbrev Inv-loop : tie.InvT-loop
 Inv-loop width copied bytes₀ at at₀ i₀ bytes at' i =

@@ -9,9 +9,9 @@ use Rattle.bytes_out.specs.Laying.{Laying}
 use Rattle.write_pieces.specs.Laying.{laying-none, laying-length, laying-room, laying-more, laying-all}
 use Rattle.write_pieces.specs.Encoding.{bytes-of-piece, no-bytes}
 use Rattle.write_ahead.proofs.Smalls.{all-small}
-use Rattle.write_alu.proofs.Occurrences.{copyList, copiesFrom, whole-copies, rest-of-copies, no-copies}
-use Rattle.write_alu.proofs.rows.copies.Statement.{statement}
-use Rattle.write_alu.proofs.rows.copies.Tie as tie
+use Rattle.write_cells.proofs.Occurrences.{copyList, copiesFrom, whole-copies, rest-of-copies, no-copies}
+use Rattle.write_cells.proofs.rows.copies.Statement.{statement}
+use Rattle.write_cells.proofs.rows.copies.Tie as tie
 
 abbrev Inv-loop : tie.InvT-loop
 Inv-loop lines net count bytes₀ at at₀ i₀ bytes at' i =

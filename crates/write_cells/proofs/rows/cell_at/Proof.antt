@@ -9,9 +9,9 @@ use Rattle.meaning.specs.Alu.{linesOf}
 use Rattle.bytes_out.specs.Filled.{Put}
 use Rattle.write_pieces.specs.Rooms.{Room}
 use Rattle.write_ahead.proofs.Smalls.{all-small}
-use Rattle.write_alu.specs.Lists.{cellWith, cellList}
-use Rattle.write_alu.proofs.rows.cell_at.Statement.{statement}
-use Rattle.write_alu.proofs.rows.cell_at.Tie as tie
+use Rattle.write_cells.specs.Lists.{cellWith, cellList}
+use Rattle.write_cells.proofs.rows.cell_at.Statement.{statement}
+use Rattle.write_cells.proofs.rows.cell_at.Tie as tie
 
 -- With the lines that are found.
 module _ (n copied i lines : ℕ) (found : lines ≡ linesOf n copied i) where

@@ -1,18 +1,17 @@
-// The occurrences of module 48.
+// Occurrences of module 48: the copies of the control lines, and the cells.
 ghost use Prim.Native.Nat.{_+_, _*_, _≤_};
 ghost use mathlib.Core.Path.{_≡_};
 ghost use Rattle.meaning.specs.Layout.{each, occurrenceNumbers, numberBytes};
-ghost use Rattle.meaning.specs.Alu.{linesOf, copies as copiesOf, cells as cellsOf, carriesAhead};
+ghost use Rattle.meaning.specs.Alu.{linesOf, copies as copiesOf, cells as cellsOf};
 ghost use Rattle.bytes_out.specs.Filled.{Put};
 ghost use Rattle.write_pieces.specs.Rooms.{Room};
-ghost use Rattle.write_alu.specs.Lists.{cellList};
+ghost use Rattle.write_cells.specs.Lists.{cellList};
 use write_pieces::numbers::put_list;
-use write_pieces::numbers::put_run;
 
 const BUF: u16 = 0;
 
 // The six lines again through buffers, so many times, the nets of a copy behind those of the one before.
-pub(crate) fn copies(lines: u16, net: u16, count: u16, bytes: &mut [u8], at: usize) -> usize
+pub fn copies(lines: u16, net: u16, count: u16, bytes: &mut [u8], at: usize) -> usize
     requires { ⌜ (lines ≤ 1000) × (net ≤ 1000) × (count ≤ 8) × Room (each numberBytes (each occurrenceNumbers (copiesOf lines net count))) (now bytes) at ⌝ }
     ensures { λ r. ⌜ Put (each numberBytes (each occurrenceNumbers (copiesOf lines net count))) (now (bytes .entry)) at (now (bytes .exit)) r ⌝ }
 {
@@ -105,7 +104,7 @@ fn cell_at(width: u16, copied: u16, i: u16, bytes: &mut [u8], at: usize) -> usiz
 }
 
 // The cells of all bits.
-pub(crate) fn cells(width: u16, copied: u16, bytes: &mut [u8], at: usize) -> usize
+pub fn cells(width: u16, copied: u16, bytes: &mut [u8], at: usize) -> usize
     requires { ⌜ (width ≤ 64) × (copied ≤ 8) × Room (each numberBytes (each occurrenceNumbers (cellsOf width copied 0 width))) (now bytes) at ⌝ }
     ensures { λ r. ⌜ Put (each numberBytes (each occurrenceNumbers (cellsOf width copied 0 width))) (now (bytes .entry)) at (now (bytes .exit)) r ⌝ }
 {
@@ -114,16 +113,4 @@ pub(crate) fn cells(width: u16, copied: u16, bytes: &mut [u8], at: usize) -> usi
         at = cell_at(width, copied, i, bytes, at);
     }
     at
-}
-
-// The carries, by module 41 on the carry into the network, all p and all g.
-pub(crate) fn look_ahead(width: u16, bytes: &mut [u8], at: usize) -> usize
-    requires { ⌜ (width ≤ 64) × Room (each numberBytes (occurrenceNumbers (carriesAhead width))) (now bytes) at ⌝ }
-    ensures { λ r. ⌜ Put (each numberBytes (occurrenceNumbers (carriesAhead width))) (now (bytes .entry)) at (now (bytes .exit)) r ⌝ }
-{
-    let carry = 2 * width + 6;
-    let carries = put_list(&[width], bytes, at);
-    let number = put_run(carry + 1, width, bytes, carries);
-    let bits = put_list(&[41, 2 * width + 1, carry], bytes, number);
-    put_run(3 * width + 7, 2 * width, bytes, bits)
 }

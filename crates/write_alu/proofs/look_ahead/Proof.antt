@@ -5,8 +5,8 @@ use Rattle.write_pieces.specs.Rooms.{Room}
 use Rattle.write_pieces.specs.Laying.{laying-start, laying-left, laying-put, laying-last, room-first}
 use Rattle.write_ahead.proofs.Smalls.{all-small}
 use Rattle.write_alu.proofs.AluBytes.{aheadPieces, bytes-of-ahead}
-use Rattle.write_alu.proofs.rows.look_ahead.Statement.{statement}
-use Rattle.write_alu.proofs.rows.look_ahead.Tie as tie
+use Rattle.write_alu.proofs.look_ahead.Statement.{statement}
+use Rattle.write_alu.proofs.look_ahead.Tie as tie
 
 -- The places behind the pieces, each from the one behind the next.
 abbrev start : tie.After-put-list → tie.Start

@@ -1,0 +1,2 @@
+-- What the contracts cite, beside `meaning`.
+pub mod Lists
