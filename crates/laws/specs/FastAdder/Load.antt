@@ -22,7 +22,7 @@ use Rattle.laws.specs.FastAdder.Shape.{steps-width}
 use Rattle.laws.specs.FastAdder.Counting.{total}
 use Rattle.laws.specs.FastAdder.Figures.{either-most}
 use Rattle.laws.specs.FastAdder.Hits.{hits, hitsIn}
-use Rattle.laws.specs.FastAdder.Lean.{leanSteps, steps-lean}
+use Rattle.laws.specs.FastAdder.Lean.{leanSteps, steps-lean, steps-lean-to-64}
 use Rattle.laws.specs.FastAdder.TreeLoad.{lookahead-load}
 use Rattle.laws.specs.FastAdder.FirstLoad.{first-load}
 
@@ -152,3 +152,8 @@ module _ (n : ℕ) (steps : List Step) (whole : width steps ≡ n) where
 pub fast-adder-load : (n : ℕ) → largestLoad (fastAdder n) 40 ≤ max 5 (2 * height n + 1)
 unfolding fastAdder
 fast-adder-load n = omega (arith, load-over n (steps n) (steps-width n), steps-lean n)
+
+-- At the widths that are written it is at most 9.
+pub fast-adder-load-to-64 : (n : ℕ) → n ≤ 64 → largestLoad (fastAdder n) 40 ≤ 9
+unfolding fastAdder
+fast-adder-load-to-64 n within = omega (arith, load-over n (steps n) (steps-width n), steps-lean-to-64 n within)
