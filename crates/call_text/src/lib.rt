@@ -51,6 +51,22 @@ fn file_long(text: &[u8], out: &mut [u8]) -> Writing
     answer(text, extent, &numbers, &mut bytes, out)
 }
 
+// In the lists for texts of so many bytes, or in the longest. The function calls itself: into such a function LLVM takes no large array of another, so a
+// short text does not pay for the stack of a long one.
+fn file(size: usize, text: &[u8], out: &mut [u8]) -> Writing
+    requires { ⌜ length (now text) ≤ 262144 ⌝ }
+    ensures { λ r. ⌜ Answers (afterReading (now (text .entry)) (length (now (out .entry)))) (now (out .entry)) (now (out .exit)) r ⌝ }
+{
+    if size < text.len() {
+        return file(262144, text, out);
+    }
+    if size <= 2048 {
+        file_short(text, out)
+    } else {
+        file_long(text, out)
+    }
+}
+
 // The file of a text, or the refusal.
 pub fn read_text(text: &[u8], out: &mut [u8]) -> Writing
     ensures { λ r. ⌜ Answers (listReading (now (text .entry)) (length (now (out .entry)))) (now (out .entry)) (now (out .exit)) r ⌝ }
@@ -61,8 +77,5 @@ pub fn read_text(text: &[u8], out: &mut [u8]) -> Writing
             place: 0,
         };
     }
-    if text.len() <= 2048 {
-        return file_short(text, out);
-    }
-    file_long(text, out)
+    file(2048, text, out)
 }

@@ -1,4 +1,4 @@
--- Stages and kinds of bytes as numbers: a stage without what was read, and the tables by which the code goes on.
+-- Stages and kinds of bytes as numbers: a stage without what was read, and the table by which the code goes on.
 use Prim.Native.Nat.{ℕ}
 use mathlib.Core.Bool.{Bool, true, false}
 use mathlib.Core.List.{List, [], _∷_}
@@ -48,18 +48,6 @@ isFinished (at s) = false
 isFinished (finished ms) = true
 isFinished astray = false
 
-unfoldable pub kinds : List ℕ
-kinds =
-    3 ∷ 3 ∷ 3 ∷ 3 ∷ 3 ∷ 3 ∷ 3 ∷ 3 ∷ 3 ∷ 3 ∷ 5 ∷ 3 ∷ 3 ∷ 5 ∷ 3 ∷ 3 ∷ 3 ∷ 3 ∷ 3 ∷ 3 ∷ 3 ∷ 3 ∷ 3 ∷ 3 ∷ 3 ∷ 3 ∷ 3 ∷ 3 ∷ 3 ∷ 3
-    ∷ 3 ∷ 3 ∷ 5 ∷ 3 ∷ 3 ∷ 3 ∷ 3 ∷ 3 ∷ 3 ∷ 0 ∷ 1 ∷ 2 ∷ 3 ∷ 3 ∷ 3 ∷ 4 ∷ 3 ∷ 3 ∷ 4 ∷ 4 ∷ 4 ∷ 4 ∷ 4 ∷ 4 ∷ 4 ∷ 4 ∷ 4 ∷ 4 ∷ 3 ∷ 3
-    ∷ 3 ∷ 3 ∷ 3 ∷ 3 ∷ 3 ∷ 4 ∷ 4 ∷ 4 ∷ 4 ∷ 4 ∷ 4 ∷ 4 ∷ 4 ∷ 4 ∷ 4 ∷ 4 ∷ 4 ∷ 4 ∷ 4 ∷ 4 ∷ 4 ∷ 4 ∷ 4 ∷ 4 ∷ 4 ∷ 4 ∷ 4 ∷ 4 ∷ 4 ∷ 4
-    ∷ 4 ∷ 3 ∷ 3 ∷ 3 ∷ 3 ∷ 3 ∷ 3 ∷ 4 ∷ 4 ∷ 4 ∷ 4 ∷ 4 ∷ 4 ∷ 4 ∷ 4 ∷ 4 ∷ 4 ∷ 4 ∷ 4 ∷ 4 ∷ 4 ∷ 4 ∷ 4 ∷ 4 ∷ 4 ∷ 4 ∷ 4 ∷ 4 ∷ 4 ∷ 4
-    ∷ 4 ∷ 4 ∷ 4 ∷ 3 ∷ 3 ∷ 3 ∷ 3 ∷ 3 ∷ 3 ∷ 3 ∷ 3 ∷ 3 ∷ 3 ∷ 3 ∷ 3 ∷ 3 ∷ 3 ∷ 3 ∷ 3 ∷ 3 ∷ 3 ∷ 3 ∷ 3 ∷ 3 ∷ 3 ∷ 3 ∷ 3 ∷ 3 ∷ 3 ∷ 3
-    ∷ 3 ∷ 3 ∷ 3 ∷ 3 ∷ 3 ∷ 3 ∷ 3 ∷ 3 ∷ 3 ∷ 3 ∷ 3 ∷ 3 ∷ 3 ∷ 3 ∷ 3 ∷ 3 ∷ 3 ∷ 3 ∷ 3 ∷ 3 ∷ 3 ∷ 3 ∷ 3 ∷ 3 ∷ 3 ∷ 3 ∷ 3 ∷ 3 ∷ 3 ∷ 3
-    ∷ 3 ∷ 3 ∷ 3 ∷ 3 ∷ 3 ∷ 3 ∷ 3 ∷ 3 ∷ 3 ∷ 3 ∷ 3 ∷ 3 ∷ 3 ∷ 3 ∷ 3 ∷ 3 ∷ 3 ∷ 3 ∷ 3 ∷ 3 ∷ 3 ∷ 3 ∷ 3 ∷ 3 ∷ 3 ∷ 3 ∷ 3 ∷ 3 ∷ 3 ∷ 3
-    ∷ 3 ∷ 3 ∷ 3 ∷ 3 ∷ 3 ∷ 3 ∷ 3 ∷ 3 ∷ 3 ∷ 3 ∷ 3 ∷ 3 ∷ 3 ∷ 3 ∷ 3 ∷ 3 ∷ 3 ∷ 3 ∷ 3 ∷ 3 ∷ 3 ∷ 3 ∷ 3 ∷ 3 ∷ 3 ∷ 3 ∷ 3 ∷ 3 ∷ 3 ∷ 3
-    ∷ 3 ∷ 3 ∷ 3 ∷ 3 ∷ 3 ∷ 3 ∷ 3 ∷ 3 ∷ 3 ∷ 3 ∷ 3 ∷ 3 ∷ 3 ∷ 3 ∷ 3 ∷ 3 ∷ []
-
 -- The stage that each part leads to from each stage.
 unfoldable pub modes : List (List ℕ)
 modes =
@@ -82,14 +70,6 @@ modes =
     ∷ (18 ∷ 18 ∷ 2 ∷ 18 ∷ 18 ∷ [])
     ∷ (18 ∷ 18 ∷ 18 ∷ 18 ∷ 18 ∷ [])
     ∷ (18 ∷ 18 ∷ 18 ∷ 18 ∷ 18 ∷ []) ∷ []
-
--- The same, one row behind the other.
-unfoldable pub flatModes : List ℕ
-flatModes =
-    1 ∷ 2 ∷ 18 ∷ 18 ∷ 18 ∷ 18 ∷ 2 ∷ 18 ∷ 18 ∷ 18 ∷ 18 ∷ 3 ∷ 17 ∷ 18 ∷ 18 ∷ 18 ∷ 18 ∷ 18 ∷ 18 ∷ 4 ∷ 18 ∷ 5 ∷ 18 ∷ 18 ∷ 18
-    ∷ 18 ∷ 18 ∷ 6 ∷ 18 ∷ 5 ∷ 18 ∷ 7 ∷ 18 ∷ 18 ∷ 18 ∷ 18 ∷ 18 ∷ 8 ∷ 18 ∷ 7 ∷ 18 ∷ 9 ∷ 18 ∷ 18 ∷ 18 ∷ 18 ∷ 10 ∷ 16 ∷ 18 ∷ 18
-    ∷ 18 ∷ 11 ∷ 18 ∷ 18 ∷ 18 ∷ 18 ∷ 18 ∷ 12 ∷ 18 ∷ 11 ∷ 18 ∷ 13 ∷ 18 ∷ 18 ∷ 18 ∷ 18 ∷ 18 ∷ 18 ∷ 18 ∷ 14 ∷ 18 ∷ 18 ∷ 15 ∷ 18 ∷ 14
-    ∷ 18 ∷ 18 ∷ 9 ∷ 18 ∷ 18 ∷ 18 ∷ 18 ∷ 2 ∷ 18 ∷ 18 ∷ 18 ∷ 18 ∷ 18 ∷ 18 ∷ 18 ∷ 18 ∷ 18 ∷ 18 ∷ 18 ∷ 18 ∷ []
 
 -- The mode that a part leads to.
 unfoldable pub modeAfter : (mode part : ℕ) → ℕ

@@ -1,19 +1,19 @@
--- The tables do what the reader does.
-use Prim.Native.Nat.{ℕ, zero, suc, _+_, _*_, _<_}
+-- The table does what the reader does; and tests of every number in a range, by which the code is held to it.
+use Prim.Native.Nat.{ℕ, zero, suc, _+_, _-_, _≤_, _<_}
 use native.Mathlib.Decide.{ℕ-discrete}
 use native.Mathlib.Omega.{arith}
-use mathlib.Core.Path.{_≡_, refl, sym, _∙_, ap}
-use mathlib.Core.Bool.{Bool, true, false, _&&_}
+use mathlib.Core.Path.{_≡_, refl, sym, subst}
+use mathlib.Core.Bool.{Bool, true, false, _&&_, _||_}
 use mathlib.Core.List.{List, [], _∷_}
 use lib.Dec.{eqb, leb}
 use lib.ListN.{getD}
 use borrow.Author.Tests.{eqb-true}
 use Rattle.listform.specs.ListForm.{Name, Sign, mark, opening, closing, stray, kindOf, Part, sign, atom}
 use Rattle.listform.specs.ListReader.{Stage, listDue, modules, nameDue, inputsDue, inputs, outputsDue, outputs, bodyDue, body, drivesDue, drives, callDue, refersDue, takes, occurrenceEnd, moduleEnd, Stand, start, at, finished, astray, row, next, step, isAstray}
-use Rattle.text_modes.specs.Modes.{signCode, partCode, kindCode, modeOf, kinds, modes, flatModes, modeAfter, isFinished}
+use Rattle.text_modes.specs.Modes.{signCode, partCode, kindCode, modeOf, modes, modeAfter, isFinished}
 
 -- A test of every number below a bound.
-allBelow : (n : ℕ) → (ℕ → Bool) → Bool
+unfoldable pub allBelow : (n : ℕ) → (ℕ → Bool) → Bool
 allBelow zero p = true
 allBelow (suc n) p = p n && allBelow n p
 
@@ -34,9 +34,23 @@ below (suc n) p e i l = go (ℕ-discrete i n) (below n p (both-second (p n) (all
     go (yes same) rest = rw same (both-first (p n) (allBelow n p) e)
     go (no other) rest = rest (omega arith)
 
-pub kind-right : (b : ℕ) → b < 256 → getD kinds b 0 ≡ kindCode (kindOf b)
-unfolding allBelow kinds kindOf
-kind-right b l = eqb-true (getD kinds b 0) (kindCode (kindOf b)) (below 256 (λ b. eqb (getD kinds b 0) (kindCode (kindOf b))) refl b l)
+-- A test that holds of so many numbers from one on holds of each of them.
+pub in-range : (low count : ℕ) (p : ℕ → Bool) → allBelow count (λ i. p (low + i)) ≡ true → (b : ℕ) → low ≤ b → b < low + count → p b ≡ true
+in-range low count p e b from to =
+    let same : low + (b - low) ≡ b = omega arith in
+    subst (λ (k : ℕ). p k ≡ true) same (below count (λ i. p (low + i)) e (b - low) (omega arith))
+
+-- So does one that holds of every number below a bound but some, of any other.
+unfoldable pub among : List ℕ → ℕ → Bool
+among [] n = false
+among (x ∷ xs) n = eqb n x || among xs n
+
+pub but-for : (xs : List ℕ) (bound : ℕ) (p : ℕ → Bool) → allBelow bound (λ n. among xs n || p n) ≡ true → (n : ℕ) → n < bound → among xs n ≡ false → p n ≡ true
+but-for xs bound p e n low none = let either = below bound (λ n. among xs n || p n) e n low in rw none at either
+
+-- The kind of each byte in a range.
+pub kind-within : (code low count : ℕ) → allBelow count (λ i. eqb code (kindCode (kindOf (low + i)))) ≡ true → {b : ℕ} → low ≤ b → b < low + count → code ≡ kindCode (kindOf b)
+kind-within code low count e {b} from to = eqb-true code (kindCode (kindOf b)) (in-range low count (λ b. eqb code (kindCode (kindOf b))) e b from to)
 
 -- A row of the table of stages.
 abbrev rowOf : (q l r a : ℕ) → List ℕ
@@ -143,16 +157,10 @@ finished-mode (at (moduleEnd ms n i o cs)) e = refl
 finished-mode (finished ms) e = refl
 finished-mode astray e = sym e
 
--- The flat table holds the rows.
-flat-row : (mode : ℕ) → mode < 19 → allBelow 5 (λ part. eqb (getD flatModes (mode * 5 + part) 0) (modeAfter mode part)) ≡ true
-unfolding allBelow flatModes modeAfter modes
-flat-row mode l =
-    below 19 (λ mode. allBelow 5 (λ part. eqb (getD flatModes (mode * 5 + part) 0) (modeAfter mode part))) refl mode l
-
-pub flat-right : (mode part : ℕ) → mode < 19 → part < 5 → getD flatModes (mode * 5 + part) 0 ≡ modeAfter mode part
-flat-right mode part l m =
-    eqb-true (getD flatModes (mode * 5 + part) 0) (modeAfter mode part)
-    (below 5 (λ part. eqb (getD flatModes (mode * 5 + part) 0) (modeAfter mode part)) (flat-row mode l) part m)
+-- A part leads nowhere from any stage but some.
+pub else-astray : (part : ℕ) (xs : List ℕ) → allBelow 19 (λ mode. among xs mode || eqb 18 (modeAfter mode part)) ≡ true → (mode : ℕ) → mode < 19 → among xs mode ≡ false
+    → 18 ≡ modeAfter mode part
+else-astray part xs e mode low none = eqb-true 18 (modeAfter mode part) (but-for xs 19 (λ mode. eqb 18 (modeAfter mode part)) e mode low none)
 
 -- Nothing goes on at a byte that is none of these; and no quote mark stands behind a module.
 pub stray-mode : (mode : ℕ) → mode < 19 → modeAfter mode 3 ≡ 18

@@ -1,20 +1,20 @@
+-- Each range of bytes is of one kind.
 use native.Mathlib.Omega.{arith}
-use borrow.Author.Needs.{needs}
-use Rattle.text_modes.specs.Modes.{kinds}
-use Rattle.text_modes.specs.Right.{kind-right}
+use mathlib.Core.Path.{refl}
+use Rattle.listform.specs.ListForm.{kindOf}
+use Rattle.text_modes.specs.Right.{allBelow, kind-within}
 use Rattle.text_modes.proofs.kind.Statement.{statement}
 use Rattle.text_modes.proofs.kind.Tie as tie
-use Rattle.text_modes.proofs.kind.Reads as reads
-use Rattle.text_modes.proofs.kind.Lts as lts
-
--- src/lib.rt:371:5
-array-read-result : tie.Need-array-read-result
-array-read-result c = search needs
-
--- src/lib.rt:368:1
-returns : tie.Need-returns
-unfolding kinds
-returns c = kind-right (c .args .b) (omega arith)
 
 pub kind-spec : {M : Type 1} → statement M
-kind-spec = tie.close (tie.spec array-read-result returns)
+kind-spec =
+    tie.close
+    (tie.spec
+    (λ c κs. c .if1 .taken)
+    (λ c. c .kind-below .ensures)
+    (λ c. kind-within 4 48 10 (unfold kindOf allBelow in refl) (omega arith) (omega arith))
+    (λ c. kind-within 3 58 7 (unfold kindOf allBelow in refl) (omega arith) (omega arith))
+    (λ c. kind-within 4 65 26 (unfold kindOf allBelow in refl) (omega arith) (omega arith))
+    (λ c. kind-within 3 91 6 (unfold kindOf allBelow in refl) (omega arith) (omega arith))
+    (λ c. kind-within 4 97 26 (unfold kindOf allBelow in refl) (omega arith) (omega arith))
+    (λ c. kind-within 3 123 133 (unfold kindOf allBelow in refl) (omega arith) (omega arith)))
