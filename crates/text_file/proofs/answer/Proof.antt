@@ -10,29 +10,39 @@ use Rattle.text_file.proofs.answer.Reads as reads
 use Rattle.text_file.proofs.answer.Lts as lts
 use Rattle.text_file.proofs.filing.file.Reads as file-reads
 
--- src/lib.rt:17:9
 returns : tie.Need-returns
-returns c = read-refused _ _ (c .before .before .before .before .before .before .args .extent) (c .before .before .before .before .before .before .pre .reads) (c .if1 .taken) (length (c .before .before .before .before .before .before .args .out .now)) (c .before .before .before .before .before .before .args .out .now)
+returns c =
+    let half = c .before .before .before .before in
+    let start = half .before .before in
+    read-refused _ _ (start .args .extent) (start .pre .reads) (c .if1 .taken) (length (start .args .out .now)) (start .args .out .now)
 
--- src/lib.rt:23:10
 slice-aggregate-file : tie.Need-slice-aggregate-file
-slice-aggregate-file c = sym (length-take-le _ _ (was _ _ (c .before .before .before .before .before .before .before .args .extent) (c .before .before .before .before .before .before .before .pre .reads) (c .before .if1 .left) .few))
+slice-aggregate-file c =
+    let decided = c .before in
+    let half = decided .before .before .before .before in
+    let start = half .before .before in
+    sym (length-take-le _ _ (was _ _ (start .args .extent) (start .pre .reads) (decided .if1 .left) .few))
 
--- src/lib.rt:23:5
 file-requires : tie.Need-file-requires
-file-requires c κs = filed _ _ _ (c .before .before .before .before .before .before .before .before .before .args .extent) (c .before .before .before .before .before .before .before .before .before .pre) (c .before .before .before .if1 .left)
+file-requires c κs =
+    let decided = c .before .before .before in
+    let half = decided .before .before .before .before in
+    let start = half .before .before in
+    filed _ _ _ (start .args .extent) (start .pre) (decided .if1 .left)
 
--- src/lib.rt:12:1
 same-length : tie.Need-same-length
 same-length c = search needs
 
--- src/lib.rt:12:1
 same-length-2 : tie.Need-same-length-2
 same-length-2 c = search needs
 
--- src/lib.rt:12:1
 returns-2 : tie.Need-returns-2
-returns-2 c = answered _ _ _ (c .before .before .before .before .before .before .before .before .before .before .before .before .before .before .args .extent) (c .before .before .before .before .before .before .before .before .before .before .before .before .before .before .pre) (c .before .before .before .before .before .before .before .before .if1 .left) (length (c .before .before .before .before .before .before .before .before .before .before .before .before .before .before .args .out .now)) (c .before .before .before .before .before .before .before .before .before .before .before .before .before .before .args .out .now) _ _ (c .before .before .before .before .file .ensures (filed _ _ _ (c .before .before .before .before .before .before .before .before .before .before .before .before .before .before .args .extent) (c .before .before .before .before .before .before .before .before .before .before .before .before .before .before .pre) (c .before .before .before .before .before .before .before .before .if1 .left)))
+returns-2 c =
+    let at-file = c .before .before .before .before in
+    let decided = at-file .before .before .before .before in
+    let half = decided .before .before .before .before in
+    let start = half .before .before in
+    answered _ _ _ (start .args .extent) (start .pre) (decided .if1 .left) (length (start .args .out .now)) (start .args .out .now) _ _ (at-file .file .ensures (filed _ _ _ (start .args .extent) (start .pre) (decided .if1 .left)))
 
 pub answer-spec : {M : Type 1} → statement M
 answer-spec =

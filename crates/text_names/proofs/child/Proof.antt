@@ -48,10 +48,9 @@ shared-slice-read-if1 c = omega arith
 
 returns : tie.Need-returns Inv-loop μ-loop
 returns c =
-    along-found _ _ _ _ (c .before .before .before .before .before .before .before .before .pre) (c .before .before .before .loop .u)
-    (c .if1 .taken ∙ c .before .before .before .before .before .before .letter .ensures)
-    (omega arith)
-    (c .before .before .before .loop .inv)
+    let turn = c .before .before .before in
+    let begun = turn .before .before .before in
+    along-found _ _ _ _ (begun .before .before .pre) (turn .loop .u) (c .if1 .taken ∙ begun .letter .ensures) (omega arith) (turn .loop .inv)
 
 mul-wide-3 : tie.Need-mul-wide-3 Inv-loop μ-loop
 mul-wide-3 c = omega arith
@@ -70,20 +69,27 @@ wide-requires-2 c κs = search needs
 
 loop-less : tie.Need-loop-less Inv-loop μ-loop
 loop-less c =
-    let l : _ = along-falls _ _ _ _ (c .before .before .before .before .before .before .before .before .before .before .pre)
-    (c .before .before .before .before .before .loop .u) (omega arith) (c .before .before .before .before .before .loop .inv) in
+    let tested = c .before .before in
+    let turn = tested .before .before .before in
+    let begun = turn .before .before .before in
+    let l : _ = along-falls _ _ _ _ (begun .before .before .pre) (turn .loop .u) (omega arith) (turn .loop .inv) in
     omega (arith, l, c .wide2 .ensures)
 
 loop-again : tie.Need-loop-again Inv-loop μ-loop
 loop-again c =
-    along-next _ _ _ _ (c .before .before .before .before .before .before .before .before .before .before .pre)
-    (c .before .before .before .before .before .loop .u) _ (omega arith)
-    (λ e. c .before .before .if1 .left (e ∙ sym (c .before .before .before .before .before .before .before .before .letter .ensures)))
+    let tested = c .before .before in
+    let turn = tested .before .before .before in
+    let begun = turn .before .before .before in
+    along-next _ _ _ _ (begun .before .before .pre) (turn .loop .u) _ (omega arith)
+    (λ e. tested .if1 .left (e ∙ sym (begun .letter .ensures)))
     (c .wide2 .ensures)
-    (c .before .before .before .before .before .loop .inv)
+    (turn .loop .inv)
 
 returns-2 : tie.Need-returns-2 Inv-loop μ-loop
-returns-2 c = along-none _ _ _ _ (c .before .before .before .before .before .before .pre) (c .before .loop .u) (c .loop-test .left) (c .before .loop .inv)
+returns-2 c =
+    let end = c .before in
+    let begun = end .before .before .before in
+    along-none _ _ _ _ (begun .before .before .pre) (end .loop .u) (c .loop-test .left) (end .loop .inv)
 
 pub child-spec : {M : Type 1} → statement M
 child-spec =

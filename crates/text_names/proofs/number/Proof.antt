@@ -8,81 +8,78 @@ use Rattle.text_names.proofs.number.Lts as lts
 use Rattle.text_names.proofs.walk.Reads as walk-reads
 use Rattle.text_names.proofs.wide.Reads as wide-reads
 
--- src/lib.rt:112:9
+-- The function's entry from where the letters were walked, and that from where the name's number was read.
+abbrev start : tie.After-walk → tie.Start
+start w = w .before .before .before .before
+
+abbrev walked : tie.After-wide → tie.After-walk
+walked k = k .before .before .before .before
+
 walk-requires : tie.Need-walk-requires
 walk-requires c κs = walkable _ _ _ _ _ (c .before .before .before .pre)
 
--- src/lib.rt:114:27
 mul-wide : tie.Need-mul-wide
-mul-wide c = let l : _ = ended _ _ _ _ _ (c .before .before .before .before .before .before .pre) _ _ _ (c .before .before .walk .ensures) .room in omega arith
+mul-wide c = let w = c .before .before in let l : _ = ended _ _ _ _ _ (start w .pre) _ _ _ (w .walk .ensures) .room in omega arith
 
--- src/lib.rt:114:27
 add-wide : tie.Need-add-wide
-add-wide c = let l : _ = ended _ _ _ _ _ (c .before .before .before .before .before .before .pre) _ _ _ (c .before .before .walk .ensures) .room in omega arith
+add-wide c = let w = c .before .before in let l : _ = ended _ _ _ _ _ (start w .pre) _ _ _ (w .walk .ensures) .room in omega arith
 
--- src/lib.rt:114:22
 mul-wide-2 : tie.Need-mul-wide-2
-mul-wide-2 c = let l : _ = ended _ _ _ _ _ (c .before .before .before .before .before .before .pre) _ _ _ (c .before .before .walk .ensures) .room in omega arith
+mul-wide-2 c = let w = c .before .before in let l : _ = ended _ _ _ _ _ (start w .pre) _ _ _ (w .walk .ensures) .room in omega arith
 
--- src/lib.rt:114:22
 slice-read-wide : tie.Need-slice-read-wide
-slice-read-wide c = let l : _ = ended _ _ _ _ _ (c .before .before .before .before .before .before .before .pre) _ _ _ (c .before .before .before .walk .ensures) .room in omega arith
+slice-read-wide c = let w = c .before .before .before in let l : _ = ended _ _ _ _ _ (start w .pre) _ _ _ (w .walk .ensures) .room in omega arith
 
--- src/lib.rt:114:9
 wide-requires : tie.Need-wide-requires
 wide-requires c κs = search needs
 
--- src/lib.rt:117:21
 sub-t17 : tie.Need-sub-t17
 sub-t17 c = search needs
 
--- src/lib.rt:116:9
 same-length : tie.Need-same-length
 same-length c = search needs
 
--- src/lib.rt:116:9
 returns : tie.Need-returns
-returns c = was-known _ _ _ _ _ (c .before .before .before .before .before .before .before .before .before .pre) _ _ _ (c .before .before .before .before .before .walk .ensures) (c .before .wide .result) (c .before .wide .ensures) (omega arith)
+returns c =
+    let known = c .before in
+    let w = walked known in
+    was-known _ _ _ _ _ (start w .pre) _ _ _ (w .walk .ensures) (known .wide .result) (known .wide .ensures) (omega arith)
 
--- src/lib.rt:122:9
 same-length-2 : tie.Need-same-length-2
 same-length-2 c = search needs
 
--- src/lib.rt:122:9
 returns-2 : tie.Need-returns-2
-returns-2 c = none-left _ _ _ _ _ (c .before .before .before .before .before .before .before .before .before .before .pre) _ _ _ (c .before .before .before .before .before .before .walk .ensures) (c .before .before .wide .result) (c .before .before .wide .ensures) (c .before .if1 .left) (omega arith)
+returns-2 c =
+    let known = c .before .before in
+    let w = walked known in
+    none-left _ _ _ _ _ (start w .pre) _ _ _ (w .walk .ensures) (known .wide .result) (known .wide .ensures) (c .before .if1 .left) (omega arith)
 
--- src/lib.rt:127:27
 add-tree : tie.Need-add-tree
 add-tree c = search needs
 
--- src/lib.rt:127:26
 cast-tree : tie.Need-cast-tree
 cast-tree c = search needs
 
--- src/lib.rt:127:10
 mul-tree : tie.Need-mul-tree
-mul-tree c = let l : _ = ended _ _ _ _ _ (c .before .before .before .before .before .before .before .before .before .before .pre) _ _ _ (c .before .before .before .before .before .before .walk .ensures) .room in omega arith
+mul-tree c = let w = walked (c .before .before) in let l : _ = ended _ _ _ _ _ (start w .pre) _ _ _ (w .walk .ensures) .room in omega arith
 
--- src/lib.rt:127:10
 add-tree-2 : tie.Need-add-tree-2
-add-tree-2 c = let l : _ = ended _ _ _ _ _ (c .before .before .before .before .before .before .before .before .before .before .pre) _ _ _ (c .before .before .before .before .before .before .walk .ensures) .room in omega arith
+add-tree-2 c = let w = walked (c .before .before) in let l : _ = ended _ _ _ _ _ (start w .pre) _ _ _ (w .walk .ensures) .room in omega arith
 
--- src/lib.rt:127:5
 mul-tree-2 : tie.Need-mul-tree-2
-mul-tree-2 c = let l : _ = ended _ _ _ _ _ (c .before .before .before .before .before .before .before .before .before .before .pre) _ _ _ (c .before .before .before .before .before .before .walk .ensures) .room in omega arith
+mul-tree-2 c = let w = walked (c .before .before) in let l : _ = ended _ _ _ _ _ (start w .pre) _ _ _ (w .walk .ensures) .room in omega arith
 
--- src/lib.rt:127:5
 slice-write-tree : tie.Need-slice-write-tree
-slice-write-tree c = let l : _ = ended _ _ _ _ _ (c .before .before .before .before .before .before .before .before .before .before .pre) _ _ _ (c .before .before .before .before .before .before .walk .ensures) .room in omega arith
+slice-write-tree c = let w = walked (c .before .before) in let l : _ = ended _ _ _ _ _ (start w .pre) _ _ _ (w .walk .ensures) .room in omega arith
 
--- src/lib.rt:108:1
 same-length-3 : tie.Need-same-length-3
 same-length-3 c = search needs
 
--- src/lib.rt:108:1
 returns-3 : tie.Need-returns-3
-returns-3 c = next-given _ _ _ _ _ (c .before .before .before .before .before .before .before .before .before .before .pre) _ _ _ (c .before .before .before .before .before .before .walk .ensures) (c .before .before .wide .result) (c .before .before .wide .ensures) (c .before .if1 .left) (omega arith)
+returns-3 c =
+    let known = c .before .before in
+    let w = walked known in
+    next-given _ _ _ _ _ (start w .pre) _ _ _ (w .walk .ensures) (known .wide .result) (known .wide .ensures) (c .before .if1 .left) (omega arith)
 
 pub number-spec : {M : Type 1} → statement M
 number-spec =

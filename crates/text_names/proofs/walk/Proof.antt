@@ -18,45 +18,44 @@ Inv-loop name tree₀ root count node₀ all₀ i₀ tree node all i = Stepping 
 abbrev μ-loop : tie.MeasureT-loop
 μ-loop name tree₀ root count node₀ all₀ i₀ tree node all i = length name - i
 
--- src/lib.rt:93:5
 loop-holds : tie.Need-loop-holds Inv-loop μ-loop
 loop-holds c = stepping-first _ _ _ _ (c .before .before .pre)
 
--- src/lib.rt:94:46
 shared-slice-read-capital : tie.Need-shared-slice-read-capital Inv-loop μ-loop
 shared-slice-read-capital c = omega arith
 
--- src/lib.rt:94:38
 capital-requires : tie.Need-capital-requires Inv-loop μ-loop
 capital-requires c κs = search needs
 
--- src/lib.rt:94:9
 step-requires : tie.Need-step-requires Inv-loop μ-loop
-step-requires c κs = steppable _ _ _ _ (c .before .before .before .before .before .before .before .pre) _ _ _ (c .before .before .before .before .loop .i) (omega arith) (c .before .before .before .before .loop .inv)
+step-requires c κs =
+    let turn = c .before .before .before .before in
+    steppable _ _ _ _ (turn .before .before .before .pre) _ _ _ (turn .loop .i) (omega arith) (turn .loop .inv)
 
--- src/lib.rt:95:9
 grown-requires : tie.Need-grown-requires Inv-loop μ-loop
-grown-requires c κs = steppable _ _ _ _ (c .before .before .before .before .before .before .before .before .before .before .pre) _ _ _ (c .before .before .before .before .before .before .before .loop .i) (omega arith) (c .before .before .before .before .before .before .before .loop .inv) .few
+grown-requires c κs =
+    let stepped = c .before .before .before in
+    let turn = stepped .before .before .before .before in
+    steppable _ _ _ _ (turn .before .before .before .pre) _ _ _ (turn .loop .i) (omega arith) (turn .loop .inv) .few
 
--- src/lib.rt:96:9
 add-i : tie.Need-add-i Inv-loop μ-loop
 add-i c = omega arith
 
--- src/lib.rt:93:5
 loop-less : tie.Need-loop-less Inv-loop μ-loop
 loop-less c = omega arith
 
--- src/lib.rt:93:5
 loop-again : tie.Need-loop-again Inv-loop μ-loop
 loop-again c =
-    stepping-next _ _ _ _ (c .before .before .before .before .before .before .before .before .before .before .before .pre) _ _ _ (c .before .before .before .before .before .before .before .before .loop .i) _ _ _ _ (omega arith) (c .before .before .before .before .capital .ensures) (c .grown .ensures) (c .before .before .before .step .ensures)
-    (c .before .before .before .before .before .before .before .before .loop .inv)
+    let stepped = c .before .before .before in
+    let read = stepped .before in
+    let turn = read .before .before .before .before in
+    stepping-next _ _ _ _ (turn .before .before .before .pre) _ _ _ (turn .loop .i) _ _ _ _ (omega arith) (read .capital .ensures) (c .grown .ensures)
+    (stepped .step .ensures)
+    (turn .loop .inv)
 
--- src/lib.rt:86:1
 same-length : tie.Need-same-length Inv-loop μ-loop
 same-length c = c .before .loop .inv .reached (c .before .before .before .before .pre .book) .room
 
--- src/lib.rt:86:1
 returns : tie.Need-returns Inv-loop μ-loop
 returns c = stepping-last _ _ _ _ (c .before .before .before .before .pre) _ _ _ (c .before .loop .i) (omega arith) (c .before .loop .inv)
 

@@ -16,59 +16,76 @@ Inv-loop text numbers₀ tree₀ count state₀ i₀ numbers tree state i = Loop
 abbrev μ-loop : tie.MeasureT-loop
 μ-loop text numbers₀ tree₀ count state₀ i₀ numbers tree state i = length text - i
 
--- src/lib.rt:21:9
 enter-requires : tie.Need-enter-requires Inv-loop μ-loop
 enter-requires c κs = blank-of _ _ _ (c .before .before .before .before .pre)
 
--- src/lib.rt:35:5
 loop-holds : tie.Need-loop-holds Inv-loop μ-loop
-loop-holds c = looping-first _ _ _ _ _ (c .before .before .before .before .before .before .before .pre) (c .before .before .enter .kept .0) (c .before .before .enter .ensures)
+loop-holds c =
+    let at-enter = c .before .before in
+    let half = at-enter .before .before .before .before in
+    let start = half .before in
+    looping-first _ _ _ _ _ (start .pre) (at-enter .enter .kept .0) (at-enter .enter .ensures)
 
--- src/lib.rt:36:13
 take-requires : tie.Need-take-requires Inv-loop μ-loop
 take-requires c κs = record { reading = c .before .before .before .loop .inv .reading; inside = omega arith }
 
--- src/lib.rt:38:13
 same-length : tie.Need-same-length Inv-loop μ-loop
-same-length c = c .before .before .before .before .before .before .take .kept .1 .1 .1 .0 ∙ c .before .before .before .before .before .before .before .before .before .before .loop .inv .same-numbers
+same-length c =
+    let half = c .before .before .before .before in
+    let at-take = half .before .before in
+    let turn = at-take .before .before .before .before in
+    at-take .take .kept .1 .1 .1 .0 ∙ turn .loop .inv .same-numbers
 
--- src/lib.rt:38:13
 same-length-2 : tie.Need-same-length-2 Inv-loop μ-loop
-same-length-2 c = c .before .before .before .before .before .before .take .kept .1 .1 .1 .1 .0 ∙ c .before .before .before .before .before .before .before .before .before .before .loop .inv .same-tree ∙ c .before .before .before .before .before .before .before .before .before .before .before .before .before .enter .kept .0
+same-length-2 c =
+    let half = c .before .before .before .before in
+    let at-take = half .before .before in
+    let turn = at-take .before .before .before .before in
+    let at-enter = turn .before .before .before in
+    at-take .take .kept .1 .1 .1 .1 .0 ∙ turn .loop .inv .same-tree ∙ at-enter .enter .kept .0
 
--- src/lib.rt:38:13
 returns : tie.Need-returns Inv-loop μ-loop
-returns c = turn-refused _ _ _ _ _ (c .before .before .before .before .before .before .take .ensures) (c .if1 .taken)
+returns c =
+    let half = c .before .before .before .before in
+    let at-take = half .before .before in
+    turn-refused _ _ _ _ _ (at-take .take .ensures) (c .if1 .taken)
 
--- src/lib.rt:35:5
 loop-less : tie.Need-loop-less Inv-loop μ-loop
-loop-less c = let l : _ = c .before .before .before .before .before .before .before .take .ensures .further (c .before .if1 .left) in omega arith
+loop-less c =
+    let decided = c .before in
+    let half = decided .before .before .before .before in
+    let at-take = half .before .before in
+    let l : _ = at-take .take .ensures .further (decided .if1 .left) in omega arith
 
--- src/lib.rt:35:5
 loop-again : tie.Need-loop-again Inv-loop μ-loop
-loop-again c = record { reading = c .before .before .before .before .before .before .before .take .ensures .on (c .before .if1 .left); same-numbers = c .before .before .before .before .before .before .before .take .kept .1 .1 .1 .0 ∙ c .before .before .before .before .before .before .before .before .before .before .before .loop .inv .same-numbers; same-tree = c .before .before .before .before .before .before .before .take .kept .1 .1 .1 .1 .0 ∙ c .before .before .before .before .before .before .before .before .before .before .before .loop .inv .same-tree }
+loop-again c =
+    let decided = c .before in
+    let half = decided .before .before .before .before in
+    let at-take = half .before .before in
+    let turn = at-take .before .before .before .before in
+    record { reading = at-take .take .ensures .on (decided .if1 .left); same-numbers = at-take .take .kept .1 .1 .1 .0 ∙ turn .loop .inv .same-numbers; same-tree = at-take .take .kept .1 .1 .1 .1 .0 ∙ turn .loop .inv .same-tree }
 
--- src/lib.rt:48:9
 same-length-3 : tie.Need-same-length-3 Inv-loop μ-loop
 same-length-3 c = c .before .before .before .loop .inv .same-numbers
 
--- src/lib.rt:48:9
 same-length-4 : tie.Need-same-length-4 Inv-loop μ-loop
-same-length-4 c = c .before .before .before .loop .inv .same-tree ∙ c .before .before .before .before .before .before .enter .kept .0
+same-length-4 c =
+    let turn = c .before .before .before in
+    let at-enter = turn .before .before .before in
+    turn .loop .inv .same-tree ∙ at-enter .enter .kept .0
 
--- src/lib.rt:48:9
 returns-2 : tie.Need-returns-2 Inv-loop μ-loop
 returns-2 c = short-reads _ _ _ _ _ _ _ (c .before .before .before .loop .inv) (omega arith) (omega arith)
 
--- src/lib.rt:17:1
 same-length-5 : tie.Need-same-length-5 Inv-loop μ-loop
 same-length-5 c = c .before .before .before .loop .inv .same-numbers
 
--- src/lib.rt:17:1
 same-length-6 : tie.Need-same-length-6 Inv-loop μ-loop
-same-length-6 c = c .before .before .before .loop .inv .same-tree ∙ c .before .before .before .before .before .before .enter .kept .0
+same-length-6 c =
+    let turn = c .before .before .before in
+    let at-enter = turn .before .before .before in
+    turn .loop .inv .same-tree ∙ at-enter .enter .kept .0
 
--- src/lib.rt:17:1
 returns-3 : tie.Need-returns-3 Inv-loop μ-loop
 returns-3 c = whole-reads _ _ _ _ _ _ _ (c .before .before .before .loop .inv) (omega arith) (omega arith)
 

@@ -7,13 +7,22 @@ use Rattle.ndl_text.proofs.file.put_file.Tie as tie
 
 -- The places behind the first lines and behind the blocks.
 abbrev start : tie.After-copy → tie.Start
-start c = c .before .before .before .before .before .before
+start c =
+    let half = c .before .before .before .before in
+    let here = half .before .before in
+    here
 
 abbrev fronted : tie.After-put-blocks → tie.After-copy
-fronted c = c .before .before .before .before .before
+fronted c =
+    let half = c .before .before .before .before in
+    let here = half .before in
+    here
 
 copy-requires : tie.Need-copy-requires
-copy-requires c κs = omega (arith, front-room (c .before .before .before .before .before .pre))
+copy-requires c κs =
+    let half = c .before .before .before .before in
+    let start = half .before in
+    omega (arith, front-room (start .pre))
 
 put-blocks-requires : tie.Need-put-blocks-requires
 put-blocks-requires c κs =

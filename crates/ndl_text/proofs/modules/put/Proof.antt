@@ -27,7 +27,10 @@ abbrev start : tie.After-module-at → tie.Start
 start c = c .before .before .before .before
 
 abbrev parts : tie.After-put-head → tie.After-module-at
-parts c = c .before .before .before .before .before .before
+parts c =
+    let half = c .before .before .before .before in
+    let here = half .before .before in
+    here
 
 abbrev behind-head : tie.After-put-all → tie.After-put-head
 behind-head c = c .before .before .before .before
@@ -105,7 +108,9 @@ told c t =
 
 put-head-requires : tie.Need-put-head-requires
 put-head-requires c κs =
-    let p = c .before .before .before .before .before in
+    let half = c .before .before .before .before in
+    let here = half .before in
+    let p = here in
     let t = start p .pre in
     headable _ _ (module-at (t .m) (t .stands) .number) (inputs-part p t) (outputs-part p t)
     (t .within .number, t .within .inputs .numbers, t .within .outputs .numbers, room-first (rest _ (t .m)) (room-of-parts t))

@@ -19,13 +19,22 @@ fromInputs inputs outputs = keywordLine inputsWord inputs ++ fromOutputs outputs
 
 -- The places behind the title, the inputs and the outputs.
 abbrev start : tie.After-put-title → tie.Start
-start c = c .before .before .before .before .before
+start c =
+    let half = c .before .before .before .before in
+    let here = half .before in
+    here
 
 abbrev behind-title : tie.After-put-line → tie.After-put-title
-behind-title c = c .before .before .before .before .before
+behind-title c =
+    let half = c .before .before .before .before in
+    let here = half .before in
+    here
 
 abbrev behind-inputs : tie.After-put-line2 → tie.After-put-line
-behind-inputs c = c .before .before .before .before .before
+behind-inputs c =
+    let half = c .before .before .before .before in
+    let here = half .before in
+    here
 
 titled : (c : tie.After-put-title)
     → let a = start c .args in

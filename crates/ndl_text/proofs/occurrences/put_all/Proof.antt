@@ -16,7 +16,10 @@ abbrev μ-loop : tie.MeasureT-loop
 μ-loop names numbers from count out₀ at pen₀ i₀ out pen i = count - i
 
 abbrev start : tie.In-loop Inv-loop μ-loop → tie.Start Inv-loop μ-loop
-start c = c .before .before .before .before .before
+start c =
+    let half = c .before .before .before .before in
+    let here = half .before in
+    here
 
 put-requires : tie.Need-put-requires Inv-loop μ-loop
 put-requires c κs =

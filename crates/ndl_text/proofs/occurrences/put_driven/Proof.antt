@@ -23,7 +23,10 @@ abbrev start : tie.After-put-named → tie.Start
 start c = c .before .before .before .before
 
 abbrev behind-name : tie.After-copy → tie.After-put-named
-behind-name c = c .before .before .before .before .before
+behind-name c =
+    let half = c .before .before .before .before in
+    let here = half .before in
+    here
 
 abbrev behind-bracket : tie.After-put → tie.After-copy
 behind-bracket c = c .before .before .before .before

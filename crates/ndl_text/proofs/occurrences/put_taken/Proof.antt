@@ -19,10 +19,16 @@ bracketed takes = (40 ∷ []) ++ (netsText takes ++ close)
 
 -- The places behind the name, the bracket and the nets.
 abbrev start : tie.After-put → tie.Start
-start c = c .before .before .before .before .before
+start c =
+    let half = c .before .before .before .before in
+    let here = half .before in
+    here
 
 abbrev behind-name : tie.After-copy → tie.After-put
-behind-name c = c .before .before .before .before .before
+behind-name c =
+    let half = c .before .before .before .before in
+    let here = half .before in
+    here
 
 abbrev behind-bracket : tie.After-put2 → tie.After-copy
 behind-bracket c = c .before .before .before .before

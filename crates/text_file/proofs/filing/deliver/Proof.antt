@@ -9,33 +9,35 @@ use Rattle.text_file.proofs.filing.deliver.Lts as lts
 use Rattle.call_door.proofs.modules.Reads as modules-reads
 use Rattle.write_order.proofs.answer.answer.Reads as answer-reads
 
--- src/filing.rt:42:11
 modules-requires : tie.Need-modules-requires
 modules-requires c κs = search needs
 
--- src/filing.rt:43:27
 enum-known-number : tie.Need-enum-known-number
 enum-known-number c = search needs
 
--- src/filing.rt:44:65
 enum-told : tie.Need-enum-told
 enum-told c = search needs
 
--- src/filing.rt:44:31
 answer-requires : tie.Need-answer-requires
 answer-requires c κs = search needs
 
--- src/filing.rt:36:1
 returns : tie.Need-returns
-returns c = λ w. delivers-refused w (length (c .before .before .before .before .before .before .args .out .now)) (c .before .before .before .before .before .before .args .out .now) (sym (c .before .number .given .1) ∙ c .before .before .before .modules .ensures)
+returns c =
+    let at-number = c .before in
+    let at-modules = at-number .before .before in
+    let start = at-modules .before .before .before in
+    λ w. delivers-refused w (length (start .args .out .now)) (start .args .out .now) (sym (at-number .number .given .1) ∙ at-modules .modules .ensures)
 
--- src/filing.rt:36:1
 same-length : tie.Need-same-length
 same-length c = search needs
 
--- src/filing.rt:36:1
 returns-2 : tie.Need-returns-2
-returns-2 c = λ w. delivers w (length (c .before .before .before .before .before .before .before .before .before .args .out .now)) (c .before .before .before .before .before .before .before .before .before .args .out .now) (sym (c .before .before .before .before .enum-told .given .1) ∙ c .before .before .before .before .before .before .modules .ensures) (c .before .before .answer .ensures)
+returns-2 c =
+    let at-answer = c .before .before in
+    let at-enum-told = at-answer .before .before in
+    let at-modules = at-enum-told .before .before in
+    let start = at-modules .before .before .before in
+    λ w. delivers w (length (start .args .out .now)) (start .args .out .now) (sym (at-enum-told .enum-told .given .1) ∙ at-modules .modules .ensures) (at-answer .answer .ensures)
 
 pub deliver-spec : {M : Type 1} → statement M
 deliver-spec =

@@ -12,41 +12,52 @@ use Rattle.text_file.proofs.filing.deliver.Reads as deliver-reads
 use Rattle.text_file.proofs.filing.size.Reads as size-reads
 use Rattle.write_pieces.proofs.numbers.put_list.Reads as put-list-reads
 
--- src/filing.rt:55:16
 size-requires : tie.Need-size-requires
 size-requires c κs = c .before .before .before .pre .few
 
--- src/filing.rt:56:9
 returns : tie.Need-returns
-returns c = λ f. too-long f (c .before .size .result) (c .before .size .ensures) (omega arith) (length (c .before .before .before .before .before .args .out .now)) (c .before .before .before .before .before .args .out .now)
+returns c =
+    let at-size = c .before in
+    let start = at-size .before .before .before .before in
+    λ f. too-long f (at-size .size .result) (at-size .size .ensures) (omega arith) (length (start .args .out .now)) (start .args .out .now)
 
--- src/filing.rt:61:9
 put-list-requires : tie.Need-put-list-requires
-put-list-requires c κs = puttable (c .before .before .before .before .before .before .pre) (c .before .before .size .result) (c .before .before .size .ensures) (omega arith)
+put-list-requires c κs =
+    let at-size = c .before .before in
+    let start = at-size .before .before .before .before in
+    puttable (start .pre) (at-size .size .result) (at-size .size .ensures) (omega arith)
 
--- src/filing.rt:62:13
 slice-reshare-prefix-deliver : tie.Need-slice-reshare-prefix-deliver
-slice-reshare-prefix-deliver c = let p : _ = c .before .before .put-list .ensures .place in let k : _ = c .before .before .put-list .kept .1 .0 in let f : _ = puttable (c .before .before .before .before .before .before .before .before .before .pre) (c .before .before .before .before .before .size .result) (c .before .before .before .before .before .size .ensures) (omega arith) .1 .fits in omega (arith, p, k, f)
+slice-reshare-prefix-deliver c =
+    let at-put-list = c .before .before in
+    let at-size = at-put-list .before .before .before in
+    let start = at-size .before .before .before .before in
+    let p : _ = at-put-list .put-list .ensures .place in let k : _ = at-put-list .put-list .kept .1 .0 in let f : _ = puttable (start .pre) (at-size .size .result) (at-size .size .ensures) (omega arith) .1 .fits in omega (arith, p, k, f)
 
--- src/filing.rt:62:13
 slice-aggregate-deliver : tie.Need-slice-aggregate-deliver
 slice-aggregate-deliver c = sym (length-take-le _ _ (slice-reshare-prefix-deliver (c .before)))
 
--- src/filing.rt:62:5
 deliver-requires : tie.Need-deliver-requires
-deliver-requires c κs = whole (c .before .before .before .before .before .before .before .before .before .before .before .pre) (c .before .before .before .before .before .before .before .size .result) (c .before .before .before .before .before .before .before .size .ensures) (omega arith) _ _ (c .before .before .before .before .put-list .ensures)
+deliver-requires c κs =
+    let at-put-list = c .before .before .before .before in
+    let at-size = at-put-list .before .before .before in
+    let start = at-size .before .before .before .before in
+    whole (start .pre) (at-size .size .result) (at-size .size .ensures) (omega arith) _ _ (at-put-list .put-list .ensures)
 
--- src/filing.rt:49:1
 same-length : tie.Need-same-length
 same-length c = search needs
 
--- src/filing.rt:49:1
 same-length-2 : tie.Need-same-length-2
 same-length-2 c = search needs
 
--- src/filing.rt:49:1
 returns-2 : tie.Need-returns-2
-returns-2 c = λ f. shelved-whole f (c .before .before .before .before .before .before .before .before .before .before .size .result) (c .before .before .before .before .before .before .before .before .before .before .size .ensures) (omega arith) _ _ (c .before .before .before .before .before .before .before .put-list .ensures) (length (c .before .before .before .before .before .before .before .before .before .before .before .before .before .before .args .out .now)) (c .before .before .before .before .before .before .before .before .before .before .before .before .before .before .args .out .now) _ _ (c .before .before .deliver .ensures)
+returns-2 c =
+    let at-deliver = c .before .before in
+    let half = at-deliver .before .before .before .before in
+    let at-put-list = half .before in
+    let at-size = at-put-list .before .before .before in
+    let start = at-size .before .before .before .before in
+    λ f. shelved-whole f (at-size .size .result) (at-size .size .ensures) (omega arith) _ _ (at-put-list .put-list .ensures) (length (start .args .out .now)) (start .args .out .now) _ _ (at-deliver .deliver .ensures)
 
 pub file-spec : {M : Type 1} → statement M
 file-spec =

@@ -16,39 +16,33 @@ Inv-loop numbers all₀ i₀ all i = Sizing numbers all i
 abbrev μ-loop : tie.MeasureT-loop
 μ-loop numbers all₀ i₀ all i = length numbers - i
 
--- src/filing.rt:28:5
 loop-holds : tie.Need-loop-holds Inv-loop μ-loop
 loop-holds c = sizing-first _
 
--- src/filing.rt:29:22
 mul-width : tie.Need-mul-width Inv-loop μ-loop
 mul-width c = omega arith
 
--- src/filing.rt:29:22
 shared-slice-read-width : tie.Need-shared-slice-read-width Inv-loop μ-loop
 shared-slice-read-width c = omega arith
 
--- src/filing.rt:29:16
 width-requires : tie.Need-width-requires Inv-loop μ-loop
 width-requires c κs = search needs
 
--- src/filing.rt:29:9
 add-all : tie.Need-add-all Inv-loop μ-loop
-add-all c = let w : _ = width-few (getD (c .before .before .before .before .before .args .numbers .now) (c .before .before .before .loop .i) 0) _ (c .width .ensures) in omega arith
+add-all c =
+    let turn = c .before .before .before in
+    let start = turn .before .before in
+    let w : _ = width-few (getD (start .args .numbers .now) (turn .loop .i) 0) _ (c .width .ensures) in omega arith
 
--- src/filing.rt:30:9
 add-i : tie.Need-add-i Inv-loop μ-loop
 add-i c = omega arith
 
--- src/filing.rt:28:5
 loop-less : tie.Need-loop-less Inv-loop μ-loop
 loop-less c = omega arith
 
--- src/filing.rt:28:5
 loop-again : tie.Need-loop-again Inv-loop μ-loop
 loop-again c = sizing-next _ _ (c .before .before .before .loop .i) _ (omega arith) (c .width .ensures) (c .before .before .before .loop .inv)
 
--- src/filing.rt:22:1
 returns : tie.Need-returns Inv-loop μ-loop
 returns c = sizing-last _ _ (c .before .loop .i) (omega arith) (c .before .loop .inv)
 

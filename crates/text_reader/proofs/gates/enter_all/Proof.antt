@@ -15,68 +15,60 @@ Inv-loop names tree₀ starts count₀ g₀ tree count g = Gating tree₀ tree c
 abbrev μ-loop : tie.MeasureT-loop
 μ-loop names tree₀ starts count₀ g₀ tree count g = 16 - g
 
--- src/gates.rt:16:5
 loop-holds : tie.Need-loop-holds Inv-loop μ-loop
 loop-holds c = gating-first _ (c .before .before .pre .1)
 
--- src/gates.rt:17:20
 mul-from : tie.Need-mul-from Inv-loop μ-loop
 mul-from c = omega arith
 
--- src/gates.rt:17:20
 array-read-from : tie.Need-array-read-from Inv-loop μ-loop
 array-read-from c = omega arith
 
--- src/gates.rt:18:25
 add-to : tie.Need-add-to Inv-loop μ-loop
 add-to c = omega arith
 
--- src/gates.rt:18:18
 mul-to : tie.Need-mul-to Inv-loop μ-loop
 mul-to c = omega arith
 
--- src/gates.rt:18:18
 array-read-to : tie.Need-array-read-to Inv-loop μ-loop
 array-read-to c = omega arith
 
--- src/gates.rt:19:40
 sub-number : tie.Need-sub-number Inv-loop μ-loop
 unfolding gateStarts
 sub-number c = starts-order (c .before .loop .g) (omega arith)
 
--- src/gates.rt:19:40
 part-number-start : tie.Need-part-number-start Inv-loop μ-loop
 unfolding gateStarts
 part-number-start c = starts-order (c .before .loop .g) (omega arith)
 
--- src/gates.rt:19:40
 part-number-end : tie.Need-part-number-end Inv-loop μ-loop
 unfolding gateStarts
 part-number-end c = let w : _ = starts-within (c .before .loop .g) (omega arith) in let l : _ = bytes-long (c .before .before .before .before .args .names .now) (c .before .before .before .before .pre .0) in omega (arith, w, l)
 
--- src/gates.rt:19:13
 number-requires : tie.Need-number-requires Inv-loop μ-loop
 unfolding gateStarts
-number-requires c κs = gating-need _ _ _ (c .before .before .before .loop .g) _ (c .before .before .before .before .before .before .pre .1) (omega arith) (cut-gate (c .before .before .before .before .before .before .args .names .now) (c .before .before .before .loop .g) (c .before .before .before .before .before .before .pre .0)) (c .before .before .before .loop .inv)
+number-requires c κs =
+    let turn = c .before .before .before in
+    let start = turn .before .before .before in
+    gating-need _ _ _ (turn .loop .g) _ (start .pre .1) (omega arith) (cut-gate (start .args .names .now) (turn .loop .g) (start .pre .0)) (turn .loop .inv)
 
--- src/gates.rt:21:9
 add-g : tie.Need-add-g Inv-loop μ-loop
 add-g c = omega arith
 
--- src/gates.rt:16:5
 loop-less : tie.Need-loop-less Inv-loop μ-loop
 loop-less c = omega arith
 
--- src/gates.rt:16:5
 loop-again : tie.Need-loop-again Inv-loop μ-loop
 unfolding gateStarts
-loop-again c = gating-next _ _ _ (c .before .before .before .before .before .before .loop .g) _ _ _ _ (omega arith) (cut-gate (c .before .before .before .before .before .before .before .before .before .args .names .now) (c .before .before .before .before .before .before .loop .g) (c .before .before .before .before .before .before .before .before .before .pre .0)) (c .before .before .number .kept .1 .0) (c .before .before .number .ensures) (c .before .before .before .before .before .before .loop .inv)
+loop-again c =
+    let at-number = c .before .before in
+    let turn = at-number .before .before .before .before in
+    let start = turn .before .before .before in
+    gating-next _ _ _ (turn .loop .g) _ _ _ _ (omega arith) (cut-gate (start .args .names .now) (turn .loop .g) (start .pre .0)) (at-number .number .kept .1 .0) (at-number .number .ensures) (turn .loop .inv)
 
--- src/gates.rt:6:1
 same-length : tie.Need-same-length Inv-loop μ-loop
 same-length c = c .before .loop .inv .same
 
--- src/gates.rt:6:1
 returns : tie.Need-returns Inv-loop μ-loop
 returns c = gating-last _ _ _ (c .before .loop .g) (omega arith) (c .before .loop .inv)
 

@@ -12,55 +12,62 @@ use Rattle.text_modes.proofs.atom_end.Reads as atom-end-reads
 use Rattle.text_reader.proofs.turns.turn_name.Reads as turn-name-reads
 use Rattle.text_reader.proofs.turns.turn_net.Reads as turn-net-reads
 
--- src/turns.rt:177:9
 after-requires : tie.Need-after-requires
 after-requires c κs = (state-mode _ _ _ _ _ (c .before .before .before .pre .here .reading), omega arith)
 
--- src/turns.rt:179:9
 returns : tie.Need-returns
-returns c = atom-lost _ _ _ _ _ (c .before .before .before .before .before .pre) _ (c .before .after .ensures) (omega arith)
+returns c =
+    let at-after = c .before in
+    let start = at-after .before .before .before .before in
+    atom-lost _ _ _ _ _ (start .pre) _ (at-after .after .ensures) (omega arith)
 
--- src/turns.rt:185:9
 atom-end-requires : tie.Need-atom-end-requires
-atom-end-requires c κs = let l : _ = c .before .before .before .before .before .pre .here .inside in omega arith
+atom-end-requires c κs =
+    let half = c .before .before .before .before in
+    let start = half .before in
+    let l : _ = start .pre .here .inside in omega arith
 
--- src/turns.rt:186:13
 sub-if2 : tie.Need-sub-if2
 sub-if2 c = omega (arith, c .atom-end .ensures)
 
--- src/turns.rt:187:9
 returns-2 : tie.Need-returns-2
-returns-2 c = atom-long _ _ _ _ _ (c .before .before .before .before .before .before .before .pre) _ _ (c .before .before .before .after .ensures) (omega arith) (c .before .atom-end .ensures) (omega arith)
+returns-2 c =
+    let at-atom-end = c .before in
+    let at-after = at-atom-end .before .before in
+    let start = at-after .before .before .before .before in
+    atom-long _ _ _ _ _ (start .pre) _ _ (at-after .after .ensures) (omega arith) (at-atom-end .atom-end .ensures) (omega arith)
 
--- src/turns.rt:195:19
 turn-name-requires : tie.Need-turn-name-requires
-turn-name-requires c κs = record { short = record { atom = c .before .before .before .before .before .before .before .before .before .before .pre; ends = c .before .before .before .before .atom-end .ensures; short = omega (arith, c .before .before .before .before .atom-end .ensures); leads = c .before .before .before .before .before .before .after .ensures; fine = omega arith }; named = named-mode _ (c .before .before .match .keys1) }
+turn-name-requires c κs =
+    let told = c .before .before in
+    let at-atom-end = told .before .before in
+    let at-after = at-atom-end .before .before in
+    let start = at-after .before .before .before .before in
+    record { short = record { atom = start .pre; ends = at-atom-end .atom-end .ensures; short = omega (arith, at-atom-end .atom-end .ensures); leads = at-after .after .ensures; fine = omega arith }; named = named-mode _ (told .match .keys1) }
 
--- src/turns.rt:196:14
 turn-net-requires : tie.Need-turn-net-requires
-turn-net-requires c κs = record { short = record { atom = c .before .before .before .before .before .before .before .before .before .before .pre; ends = c .before .before .before .before .atom-end .ensures; short = omega (arith, c .before .before .before .before .atom-end .ensures); leads = c .before .before .before .before .before .before .after .ensures; fine = omega arith }; netted = netted-mode _ (c .before .before .match .rest .1) }
+turn-net-requires c κs =
+    let told = c .before .before in
+    let at-atom-end = told .before .before in
+    let at-after = at-atom-end .before .before in
+    let start = at-after .before .before .before .before in
+    record { short = record { atom = start .pre; ends = at-atom-end .atom-end .ensures; short = omega (arith, at-atom-end .atom-end .ensures); leads = at-after .after .ensures; fine = omega arith }; netted = netted-mode _ (told .match .rest .1) }
 
--- src/turns.rt:173:1
 same-length : tie.Need-same-length
 same-length c = search needs
 
--- src/turns.rt:173:1
 same-length-2 : tie.Need-same-length-2
 same-length-2 c = search needs
 
--- src/turns.rt:173:1
 returns-3 : tie.Need-returns-3
 returns-3 c = c .before .before .before .before .turn-name .ensures
 
--- src/turns.rt:173:1
 same-length-3 : tie.Need-same-length-3
 same-length-3 c = search needs
 
--- src/turns.rt:173:1
 same-length-4 : tie.Need-same-length-4
 same-length-4 c = search needs
 
--- src/turns.rt:173:1
 returns-4 : tie.Need-returns-4
 returns-4 c = c .before .before .before .before .turn-net .ensures
 

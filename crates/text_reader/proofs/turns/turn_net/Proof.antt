@@ -10,65 +10,90 @@ use Rattle.text_desk.proofs.put_net.Reads as put-net-reads
 use Rattle.text_names.proofs.grown.Reads as grown-reads
 use Rattle.text_names.proofs.number.Reads as number-reads
 
--- src/turns.rt:141:15
 mul-if1 : tie.Need-mul-if1
 mul-if1 c = let l : _ = net-there _ _ _ _ _ _ _ (c .before .before .before .before .pre .short) _ refl (c .before .before .before .before .pre .netted) in omega arith
 
--- src/turns.rt:141:15
 slice-read-if1 : tie.Need-slice-read-if1
-slice-read-if1 c = net-there _ _ _ _ _ _ _ (c .before .before .before .before .before .pre .short) _ refl (c .before .before .before .before .before .pre .netted)
+slice-read-if1 c =
+    let half = c .before .before .before .before in
+    let start = half .before in
+    net-there _ _ _ _ _ _ _ (start .pre .short) _ refl (start .pre .netted)
 
--- src/turns.rt:142:9
 returns : tie.Need-returns
-returns c = net-full _ _ _ _ _ _ _ (c .before .before .before .before .before .before .pre .short) _ refl (c .before .before .before .before .before .before .pre .netted) (c .if1 .taken)
+returns c =
+    let half = c .before .before .before .before in
+    let start = half .before .before in
+    net-full _ _ _ _ _ _ _ (start .pre .short) _ refl (start .pre .netted) (c .if1 .taken)
 
--- src/turns.rt:148:24
 sub-number : tie.Need-sub-number
-sub-number c = let l : _ = atom-some _ _ _ _ _ _ _ (c .before .before .before .before .before .before .pre .short) in omega arith
+sub-number c =
+    let half = c .before .before .before .before in
+    let start = half .before .before in
+    let l : _ = atom-some _ _ _ _ _ _ _ (start .pre .short) in omega arith
 
--- src/turns.rt:148:24
 part-number-start : tie.Need-part-number-start
-part-number-start c = let l : _ = atom-some _ _ _ _ _ _ _ (c .before .before .before .before .before .before .pre .short) in omega arith
+part-number-start c =
+    let half = c .before .before .before .before in
+    let start = half .before .before in
+    let l : _ = atom-some _ _ _ _ _ _ _ (start .pre .short) in omega arith
 
--- src/turns.rt:148:24
 part-number-end : tie.Need-part-number-end
-part-number-end c = atom-within _ _ _ _ _ _ _ (c .before .before .before .before .before .before .pre .short)
+part-number-end c =
+    let half = c .before .before .before .before in
+    let start = half .before .before in
+    atom-within _ _ _ _ _ _ _ (start .pre .short)
 
--- src/turns.rt:148:9
 number-requires : tie.Need-number-requires
-number-requires c κs = net-numberable _ _ _ _ _ _ _ (c .before .before .before .before .before .before .before .before .pre .short) _ refl
+number-requires c κs =
+    let half = c .before .before .before .before in
+    let start = half .before .before .before .before in
+    net-numberable _ _ _ _ _ _ _ (start .pre .short) _ refl
 
--- src/turns.rt:151:9
 same-length : tie.Need-same-length
 same-length c = search needs
 
--- src/turns.rt:151:9
 returns-2 : tie.Need-returns-2
-returns-2 c = net-refused _ _ _ _ _ _ _ (c .before .before .before .before .before .before .before .before .before .before .before .before .pre .short) _ refl (c .before .before .before .before .before .before .before .before .before .before .before .before .pre .netted) _ _ _ (c .before .before .before .number .ensures) (omega arith)
+returns-2 c =
+    let at-number = c .before .before .before in
+    let half = at-number .before .before .before .before in
+    let half-2 = half .before .before .before .before in
+    let start = half-2 .before in
+    net-refused _ _ _ _ _ _ _ (start .pre .short) _ refl (start .pre .netted) _ _ _ (at-number .number .ensures) (omega arith)
 
--- src/turns.rt:157:23
 cast-put-net : tie.Need-cast-put-net
 cast-put-net c = search needs
 
--- src/turns.rt:157:9
 put-net-requires : tie.Need-put-net-requires
-put-net-requires c κs = net-netting _ _ _ _ _ _ _ (c .before .before .before .before .before .before .before .before .before .before .before .before .before .pre .short) _ refl (c .before .before .before .before .before .before .before .before .before .before .before .before .before .pre .netted) (omega arith)
+put-net-requires c κs =
+    let half = c .before .before .before .before in
+    let half-2 = half .before .before .before .before in
+    let half-3 = half-2 .before .before .before .before in
+    let start = half-3 .before in
+    net-netting _ _ _ _ _ _ _ (start .pre .short) _ refl (start .pre .netted) (omega arith)
 
--- src/turns.rt:165:19
 grown-requires : tie.Need-grown-requires
-grown-requires c κs = let l : _ = c .before .before .before .before .before .before .before .before .before .before .before .before .before .before .before .before .pre .short .atom .here .reading .dict .nets-most in omega arith
+grown-requires c κs =
+    let half = c .before .before .before .before in
+    let half-2 = half .before .before .before .before in
+    let half-3 = half-2 .before .before .before .before in
+    let start = half-3 .before .before .before .before in
+    let l : _ = start .pre .short .atom .here .reading .dict .nets-most in omega arith
 
--- src/turns.rt:127:1
 same-length-2 : tie.Need-same-length-2
 same-length-2 c = search needs
 
--- src/turns.rt:127:1
 same-length-3 : tie.Need-same-length-3
 same-length-3 c = search needs
 
--- src/turns.rt:127:1
 returns-3 : tie.Need-returns-3
-returns-3 c = net-turned _ _ _ _ _ _ _ (c .before .before .before .before .before .before .before .before .before .before .before .before .before .before .before .before .before .pre .short) _ refl (c .before .before .before .before .before .before .before .before .before .before .before .before .before .before .before .before .before .pre .netted) _ _ _ (c .before .before .before .before .before .before .before .before .number .ensures) (omega arith) (omega arith) _ _ _ (c .before .before .before .put-net .kept .1 .0) (c .before .before .before .put-net .ensures) (c .grown .ensures)
+returns-3 c =
+    let at-put-net = c .before .before .before in
+    let half = at-put-net .before .before .before .before in
+    let at-number = half .before in
+    let half-2 = at-number .before .before .before .before in
+    let half-3 = half-2 .before .before .before .before in
+    let start = half-3 .before in
+    net-turned _ _ _ _ _ _ _ (start .pre .short) _ refl (start .pre .netted) _ _ _ (at-number .number .ensures) (omega arith) (omega arith) _ _ _ (at-put-net .put-net .kept .1 .0) (at-put-net .put-net .ensures) (c .grown .ensures)
 
 pub turn-net-spec : {M : Type 1} → statement M
 turn-net-spec =
