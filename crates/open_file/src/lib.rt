@@ -11,7 +11,7 @@ pub enum Prepared {
 }
 
 // What the check of its modules says of the file.
-fn judged(found: Found, modules: usize) -> Prepared
+pub fn judged(found: Found, modules: usize) -> Prepared
     ensures { λ r. ⌜ r ≡ preparedOf found modules ⌝ }
 {
     match found {

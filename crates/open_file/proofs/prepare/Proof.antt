@@ -3,11 +3,11 @@ use Prim.Native.Nat.{ℕ, _≤_}
 use mathlib.Core.Path.{sym}
 use native.Mathlib.Omega.{arith}
 use borrow.Author.Needs.{needs}
-use lib.ListN.{length}
+use lib.ListN.{length, drop}
 use lib.Seq.{length-take-le}
 use Rattle.meaning.specs.Ceilings.{Bytes}
 use Rattle.read_parts.specs.Exact.{bytes-all}
-use Rattle.open_file.proofs.ReadyFile.{read-refused, count-long, file-ready, answered}
+use Rattle.open_file.specs.ReadyFile.{read-refused, count-long, file-ready, answered}
 use Rattle.open_file.proofs.prepare.Statement.{statement}
 use Rattle.open_file.proofs.prepare.Tie as tie
 
@@ -63,7 +63,7 @@ returns-2 c =
     let d = reading k .read in
     let kept = e .check-modules .kept .1 .1 .1 .1 .1 .1 in
     answered (bytes k) (d .ensures) (modules k) (count k) (k .before .modules .given .1) (entered k .pre) (d .kept .1 .1 .0)
-    (kept .0) (kept .1 .0) (kept .1 .1 .0) (e .check-modules .ensures) (c .judged .ensures)
+    (drop (count k) (d .last .1 .0)) (kept .0) (kept .1 .0) (kept .1 .1 .0) (e .check-modules .ensures) (c .judged .ensures)
 
 pub prepare-spec : {M : Type 1} → statement M
 prepare-spec =

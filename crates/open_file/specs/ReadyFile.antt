@@ -104,7 +104,7 @@ module _ {file numbers numbers′ starts starts′ offsets offsets′ : List ℕ
         }
 
     module _
-        {names nets sizes rooms first slots : List ℕ} (s : Space file numbers starts names nets sizes rooms first slots)
+        {image names nets sizes rooms first slots : List ℕ} (s : Space file image starts names nets sizes rooms first slots)
         (startsKept : length starts′ ≡ length starts) where
       -- The check can begin.
       pub file-ready : FileReady (take count numbers′) starts′ modules first slots names nets sizes rooms
@@ -133,11 +133,11 @@ module _ {file numbers numbers′ starts starts′ offsets offsets′ : List ℕ
             lowRooms = s .lowRooms;
           }
 
-      -- What it found is the answer on the file.
-      module _ {image names′ nets′ sizes′ rooms′ : List ℕ} (netsKept : length nets′ ≡ length nets) (sizesKept : length sizes′ ≡ length sizes)
-          (roomsKept : length rooms′ ≡ length rooms) where
-        answer : (r : Found) → FileFound r ms image names′ nets′ sizes′ rooms′
-            → Prepares (preparedOf r modules) file (image ++ drop count numbers′) starts′ names′ nets′ sizes′ rooms′
+      -- What it found is the answer on the file, whatever stands behind the image.
+      module _ {image′ names′ nets′ sizes′ rooms′ : List ℕ} (behind : List ℕ) (netsKept : length nets′ ≡ length nets)
+          (sizesKept : length sizes′ ≡ length sizes) (roomsKept : length rooms′ ≡ length rooms) where
+        answer : (r : Found) → FileFound r ms image′ names′ nets′ sizes′ rooms′
+            → Prepares (preparedOf r modules) file (image′ ++ behind) starts′ names′ nets′ sizes′ rooms′
         unfolding verdict
         answer (Broken rule place) f = ap verdictOf reads ∙ f .outcome
         answer (Over place) f = ap verdictOf reads ∙ f .outcome
@@ -155,7 +155,7 @@ module _ {file numbers numbers′ starts starts′ offsets offsets′ : List ℕ
                     shelved =
                         record {
                           standing = λ k e.
-                              stands-before (drop count numbers′)
+                              stands-before behind
                               (stands-resolved ms (o .image) k (starts-are k (omega (arith, ap length e, length-drop k ms))) e);
                           counted = λ k {m} {later} e. o .counted .count k m later e;
                           started = omega (arith, s .startsLong);
@@ -172,7 +172,7 @@ module _ {file numbers numbers′ starts starts′ offsets offsets′ : List ℕ
 
         pub answered :
             {r : Found} {prepared : Prepared}
-            → ((ms : List Module) → Laidout (take count numbers′) starts′ modules ms → FileFound r ms image names′ nets′ sizes′ rooms′)
+            → ((ms : List Module) → Laidout (take count numbers′) starts′ modules ms → FileFound r ms image′ names′ nets′ sizes′ rooms′)
             → prepared ≡ preparedOf r modules
-            → Prepares prepared file (image ++ drop count numbers′) starts′ names′ nets′ sizes′ rooms′
+            → Prepares prepared file (image′ ++ behind) starts′ names′ nets′ sizes′ rooms′
         answered {r} found same = rw same (answer r (found ms (laidout (omega (arith, s .startsLong)))))

@@ -1,2 +1,0 @@
--- Facts that the proof cites.
-pub mod ReadyFile
