@@ -1,8 +1,9 @@
 -- A file made ready for calls, whose own numbers and places are kept beside its image.
 use Prim.Native.Nat.{ℕ, _≤_, min}
-use mathlib.Core.Path.{_≡_, subst}
+use mathlib.Core.Path.{_≡_, ap, subst, _∙_}
 use mathlib.Core.List.{List}
-use lib.ListN.{length}
+use native.Mathlib.Omega.{arith}
+use lib.ListN.{length, take, length-take}
 use Rattle.meaning.specs.Layout.{fileNumbers}
 use Rattle.meaning.specs.Reading.{mostBytes, mostModules}
 use Rattle.meaning.specs.Verdict.{refused, verdict}
@@ -34,6 +35,15 @@ abbrev pub PreparesBeside : Beside → (file numbers offsets image starts names 
 PreparesBeside (Ready modules count) file numbers offsets image starts names nets sizes rooms =
     OpenedBeside file modules count numbers offsets image starts names nets sizes rooms
 PreparesBeside (Refused number place) file numbers offsets image starts names nets sizes rooms = verdict file ≡ refused number place
+
+-- The list begins with the file's numbers.
+module _ {file : List ℕ} {modules count : ℕ} {numbers offsets image starts names nets sizes rooms : List ℕ}
+    (o : OpenedBeside file modules count numbers offsets image starts names nets sizes rooms) where
+  pub numbers-are : take count numbers ≡ fileNumbers (o .opened .ms)
+  numbers-are = ap (λ (n : ℕ). take n numbers) (o .many) ∙ o .kept .numbersAre
+
+  pub numbers-inside : count ≤ length numbers
+  numbers-inside = omega (arith, ap length numbers-are, o .many, length-take count numbers)
 
 -- What preparing says of its answer.
 module _ (file numbers offsets image starts names nets sizes rooms : List ℕ) (r : Beside)

@@ -2,12 +2,10 @@
 use Prim.Native.Nat.{ℕ, _≤_, _<_}
 use mathlib.Core.Path.{_≡_, sym, ap, _∙_}
 use mathlib.Core.List.{List, _∷_, _++_}
-use native.Mathlib.Decide.{decLt}
 use native.Mathlib.Omega.{arith}
 use lib.ListN.{length, getD, set, drop, length-append, length-set, length-drop, List·getD-append, take-append-drop}
-use lib.Seq.{take-length, getD-set-same, getD-set-other}
 use Rattle.meaning.specs.Syntax.{Module}
-use Rattle.meaning.specs.Layout.{each, numberBytes, moduleNumbers, fileNumbers, encode}
+use Rattle.meaning.specs.Layout.{fileNumbers}
 use Rattle.meaning.specs.Ceilings.{Bytes, Encodes}
 use Rattle.meaning.specs.Reading.{read}
 use Rattle.laws.specs.Exactness.{exactness}
@@ -15,9 +13,10 @@ use Rattle.image.specs.Pieces.{ModuleAt, module-at}
 use Rattle.image.specs.ResolvedLayout.{startOf, stands-at-start}
 use Rattle.open_finding.specs.Here.{here-at}
 use Rattle.read_file.specs.Answer.{Decoded}
-use Rattle.read_file.specs.Held.{inFront, Held, held, IsRead, is-read}
+use Rattle.read_file.specs.Held.{Held, held, IsRead, is-read}
 use Rattle.read_file.specs.declared.Reading.{Reading}
 use Rattle.open_places.specs.Places.{Headed, Named, Shelved}
+use Rattle.open_places.specs.Ends.{begins-with-end}
 
 -- A module's number stands at its start.
 module _ {file numbers starts places : List ℕ} {ms : List Module} (held : Held file ms numbers starts places) (k : ℕ) {m : Module}
@@ -43,33 +42,6 @@ module _ {file numbers starts places : List ℕ} {ms : List Module} (held : Held
       ∙ ap (λ (i : ℕ). getD (fileNumbers ms ++ drop (length (fileNumbers ms)) numbers) i 0) start
       ∙ List·getD-append (fileNumbers ms) (drop (length (fileNumbers ms)) numbers) 0 (startOf ms k) (at-start .inside)
       ∙ at-start .number
-
--- Where each module begins, and behind the last the file's length.
-begins-with-end :
-    {file numbers starts places : List ℕ} {ms : List Module} {modules : ℕ}
-    → Held file ms numbers starts places
-    → Encodes file ms
-    → modules ≡ length ms
-    → modules < length places
-    → (k : ℕ)
-    → k ≤ length ms
-    → getD (set places modules (length file)) k 0 ≡ length (each numberBytes (inFront ms k))
-unfolding encode fileNumbers
-begins-with-end {file} {places = places} {ms} {modules} held encodes all room k within = go (decLt k modules)
-  where
-    ends : length file ≡ length (each numberBytes (inFront ms (length ms)))
-    ends =
-        ap length (sym (encodes .encoded))
-        ∙ ap (λ (l : List Module). length (each numberBytes (length ms ∷ each moduleNumbers l))) (sym (take-length ms))
-
-    go : Dec (k < modules) → getD (set places modules (length file)) k 0 ≡ length (each numberBytes (inFront ms k))
-    go (yes h) = getD-set-other places modules k (length file) 0 (λ same. omega arith) ∙ held .offsetsAre k (omega arith)
-    go (no h) =
-        let last : k ≡ length ms = omega arith in
-        ap (λ (i : ℕ). getD (set places modules (length file)) i 0) (last ∙ sym all)
-        ∙ getD-set-same places modules (length file) 0 room
-        ∙ ends
-        ∙ ap (λ (i : ℕ). length (each numberBytes (inFront ms i))) (sym last)
 
 module _ {file numbers numbers′ starts starts′ places places′ : List ℕ} {reading : Reading} (bytes : Bytes file)
     (d : Decoded file numbers numbers′ starts starts′ places places′ reading) (modules count : ℕ) (e : reading ≡ Reading.Read modules count)
@@ -115,5 +87,5 @@ module _ {file numbers numbers′ starts starts′ places places′ : List ℕ} 
           listed = omega (arith, few, it .modulesAre);
           marked = omega (arith, few, it .modulesAre, length-set places′ modules (length file));
           named = named (headed started listed);
-          begins = begins-with-end kept encodes (it .modulesAre) (omega (arith, few));
+          begins = begins-with-end places′ (kept .offsetsAre) encodes (it .modulesAre) (omega (arith, few));
         }

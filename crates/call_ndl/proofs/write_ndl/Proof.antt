@@ -1,8 +1,5 @@
--- `write_ndl` meets its contract: a short list serves for a short file, and a long one for any. Assumes nothing.
-use Prim.Native.Nat.{ℕ}
-use native.Mathlib.Omega.{arith}
+-- `write_ndl` meets its contract: a file that goes the short way is short.
 use borrow.Author.Needs.{needs}
-use lib.ListN.{length-replicate}
 use Rattle.call_ndl.proofs.write_ndl.Statement.{statement}
 use Rattle.call_ndl.proofs.write_ndl.Tie as tie
 
@@ -10,11 +7,13 @@ pub write-ndl-spec : {M : Type 1} → statement M
 write-ndl-spec =
     tie.close
     (tie.spec
+    (λ c κs. search needs)
     (λ c. search needs)
-    (λ c κs. omega (arith, length-replicate {A = ℕ} 1024 0, c .before .before .if1 .taken))
     (λ c. search needs)
-    (λ c. c .before .before .before .write-with .ensures)
+    (λ c κs. search needs)
+    (λ c κs. c .before .before .is-short .ensures (c .before .if2 .taken))
+    (λ c κs. search needs)
     (λ c. search needs)
-    (λ c κs. omega (arith, length-replicate {A = ℕ} 65535 0))
     (λ c. search needs)
-    (λ c. c .before .before .before .write-with2 .ensures))
+    (λ c. search needs)
+    (λ c. search needs))

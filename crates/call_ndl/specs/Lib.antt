@@ -1,2 +1,0 @@
--- What stands in the list of the call.
-pub mod ReadTo
