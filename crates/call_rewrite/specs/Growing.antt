@@ -1,20 +1,22 @@
 -- What the rewriting rests on: the ceilings of the new file, and the file's own numbers.
-use Prim.Native.Nat.{ℕ, _*_, _≤_, min}
+use Prim.Native.Nat.{ℕ, _*_, _≤_, _<_, min}
 use mathlib.Core.Path.{_≡_}
 use mathlib.Core.Bool.{true}
 use mathlib.Core.List.{List}
 use lib.Dec.{leb}
-use lib.ListN.{length}
+use lib.ListN.{length, getD}
 use Rattle.meaning.specs.Syntax.{Module}
 use Rattle.meaning.specs.Limits.{bodySize, expandedSize}
-use Rattle.meaning.specs.Layout.{encode}
+use Rattle.meaning.specs.Layout.{each, numberBytes, fileNumbers, encode}
 use Rattle.meaning.specs.Reading.{holds, read, mostBytes, mostModules}
 use Rattle.meaning.specs.Calls.{Decision, refusal, demand, Written, fitting}
 use Rattle.meaning.specs.Verdict.{good}
 use Rattle.meaning.specs.Withdrawn.{withdrawnVerdict, rewriteFile, occurrencesOk, rewritten}
 use Rattle.laws.specs.WellFormed.{Accepted}
 use Rattle.laws.specs.Withdrawn.Suits.{fours}
+use Rattle.read_file.specs.Held.{inFront}
 use Rattle.open_finding.specs.Standing.{Held}
+use Rattle.open_beside.specs.Beside.{OpenedBeside}
 use Rattle.rewrite_counts.specs.Ceilings.{Entry}
 use Rattle.call_rewrite.specs.declared.deciding.Decided.{Decided}
 use Rattle.call_rewrite.specs.declared.deciding.Decided.the-variants.{Stays, Go, Refused}
@@ -42,14 +44,27 @@ pub record Decides (ms : List Module) (own : List ℕ) (r : Decided) : Type 0 wh
   pub says : decidedOf ms r
   pub owned : Entry ms own (λ m later. fours (m .occurrences))
 
--- An accepted file whose new one keeps these ceilings; lists for its numbers, for the count of the four gates in each module, and for the
--- bytes of the new file, at most three for one.
-pub record Keeping (file : List ℕ) (numbers : ℕ) (own : List ℕ) (new : ℕ) : Type 0 where
+-- An accepted file whose new one keeps these ceilings: its numbers, where its modules begin in them and in its bytes, how many of the four
+-- gates each has, and room for the bytes of the new file, at most three for one.
+pub record Keeping (file numbers starts offsets : List ℕ) (modules : ℕ) (own : List ℕ) (new : ℕ) : Type 0 where
   pub ms : List Module
   pub reads : read file ≡ holds ms
+  pub all : modules ≡ length ms
   pub accepted : Accepted ms
   pub few : occurrencesOk (rewriteFile ms) ≡ true
+  pub numbersAre : numbers ≡ fileNumbers ms
+  pub startsAre : (j : ℕ) → j < length ms → getD starts j 0 ≡ length (inFront ms j)
+  pub offsetsAre : (j : ℕ) → j < length ms → getD offsets j 0 ≡ length (each numberBytes (inFront ms j))
   pub owned : Entry ms own (λ m later. fours (m .occurrences))
+  pub startsLong : length ms ≤ length starts
+  pub offsetsLong : mostModules < length offsets
   pub ownLong : mostModules ≤ length own
-  pub numbersLong : min (length file) mostBytes ≤ numbers
+  pub newLong : 3 * min (length file) mostBytes ≤ new
+
+-- A file that was made ready, its numbers beside the image, with a place more than there are modules and room for the new file.
+pub record Readied (file numbers : List ℕ) (count : ℕ) (offsets image starts nets sizes : List ℕ) (modules new : ℕ) : Type 0 where
+  pub names : List ℕ
+  pub rooms : List ℕ
+  pub beside : OpenedBeside file modules count numbers offsets image starts names nets sizes rooms
+  pub offsetsLong : mostModules < length offsets
   pub newLong : 3 * min (length file) mostBytes ≤ new

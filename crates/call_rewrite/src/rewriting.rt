@@ -3,8 +3,7 @@
 use crate::deciding::Decided;
 use crate::deciding::decide;
 use answers::Writing;
-use open_file::Prepared;
-use read_file::Reading;
+use open_beside::Beside;
 ghost use Prim.Native.Nat.{_*_, _≤_, min};
 ghost use lib.ListN.{length};
 ghost use Rattle.meaning.specs.Reading.{mostBytes};
@@ -12,8 +11,8 @@ ghost use Rattle.meaning.specs.Withdrawn.{rewriteFile, rewriting};
 ghost use Rattle.answers.specs.Answers.{Answers};
 ghost use Rattle.open_shortness.specs.Shortness.{Short};
 ghost use Rattle.rewrite_bytes.specs.Modules.{Rewritable};
-ghost use Rattle.call_rewrite.specs.Standing.{Workable};
-ghost use Rattle.call_rewrite.specs.Growing.{finished, Keeping};
+ghost use Rattle.open_beside.specs.Rooms.{Workable};
+ghost use Rattle.call_rewrite.specs.Growing.{finished, Keeping, Readied};
 
 // The bytes of the new file, from the file's own numbers and bytes: 1, then 22, and then what is lent is written.
 fn finish(
@@ -40,61 +39,83 @@ fn finish(
     write_order::answer::answer(&new[..long], out)
 }
 
-// A file that keeps the ceilings 4, 16 and 17. The image is done with, and the file's own numbers take its place.
+// A file that keeps the ceilings 4, 16 and 17. Behind the last module the file ends.
 fn write_new(
     file: &[u8],
-    numbers: &mut [u16],
+    numbers: &[u16],
+    starts: &[usize],
+    offsets: &mut [usize],
+    modules: usize,
     own: &[u32],
     new: &mut [u8],
     out: &mut [u8],
 ) -> Writing
-    requires { ⌜ Keeping (now file) (length (now numbers)) (now own) (length (now new)) ⌝ }
-    ensures { λ r. ⌜ ((k : Keeping (now (file .entry)) (length (now (numbers .entry))) (now (own .entry)) (length (now (new .entry))))
+    requires { ⌜ Keeping (now file) (now numbers) (now starts) (now offsets) modules (now own) (length (now new)) ⌝ }
+    ensures { λ r. ⌜ ((k : Keeping (now (file .entry)) (now (numbers .entry)) (now (starts .entry)) (now (offsets .entry)) modules (now (own .entry)) (length (now (new .entry))))
         → Answers (finished (rewriteFile (k .ms)) (length (now (out .entry)))) (now (out .entry)) (now (out .exit)) r) ⌝ }
 {
-    let mut starts = [0usize; 128];
-    let mut offsets = [0usize; 129];
-    match read_file::read(file, numbers, &mut starts, &mut offsets) {
-        Reading::Refused { number, place } => Writing::Refused { number, place },
-        Reading::Read {
+    offsets[modules] = file.len();
+    finish(file, numbers, starts, offsets, modules, own, new, out)
+}
+
+// A file that was made ready, with its own numbers beside the image.
+fn rewrite_ready(
+    file: &[u8],
+    numbers: &[u16],
+    count: usize,
+    offsets: &mut [usize],
+    image: &[u16],
+    starts: &[usize],
+    nets: &[usize],
+    sizes: &[u32],
+    modules: usize,
+    new: &mut [u8],
+    out: &mut [u8],
+) -> Writing
+    requires { ⌜ Readied (now file) (now numbers) count (now offsets) (now image) (now starts) (now nets) (now sizes) modules (length (now new)) ⌝ }
+    ensures { λ r. ⌜ Answers (rewriting (now (file .entry)) (length (now (out .entry)))) (now (out .entry)) (now (out .exit)) r ⌝ }
+{
+    let mut own = [0u32; 128];
+    match decide(image, starts, nets, sizes, modules, &mut own) {
+        Decided::Refused { number, place } => Writing::Refused { number, place },
+        Decided::Stays => write_order::answer::answer(file, out),
+        Decided::Go => write_new(
+            file,
+            &numbers[..count],
+            starts,
+            offsets,
             modules,
-            numbers: count,
-        } => {
-            offsets[modules] = file.len();
-            finish(
-                file,
-                &numbers[..count],
-                &starts,
-                &offsets,
-                modules,
-                own,
-                new,
-                out,
-            )
-        }
+            &own,
+            new,
+            out,
+        ),
     }
 }
 
 // In lists that are long enough.
 fn rewrite_in(
     file: &[u8],
+    numbers: &mut [u16],
     image: &mut [u16],
     first: &mut [u16],
     slots: &mut [u32],
     new: &mut [u8],
     out: &mut [u8],
 ) -> Writing
-    requires { ⌜ Workable (now file) (now image) (now first) (now slots) ⌝ }
+    requires { ⌜ Workable (now file) (now numbers) (now image) (now first) (now slots) ⌝ }
     requires { ⌜ 3 * min (length (now file)) mostBytes ≤ length (now new) ⌝ }
     ensures { λ r. ⌜ Answers (rewriting (now (file .entry)) (length (now (out .entry)))) (now (out .entry)) (now (out .exit)) r ⌝ }
 {
+    let mut offsets = [0usize; 129];
     let mut starts = [0usize; 128];
     let mut names = [0u16; 128];
     let mut nets = [0usize; 128];
     let mut sizes = [0u32; 128];
     let mut rooms = [0u32; 128];
-    match open_file::prepare(
+    match open_beside::prepare(
         file,
+        numbers,
+        &mut offsets,
         image,
         &mut starts,
         &mut names,
@@ -104,15 +125,23 @@ fn rewrite_in(
         first,
         slots,
     ) {
-        Prepared::Refused { number, place } => Writing::Refused { number, place },
-        Prepared::Ready(modules) => {
-            let mut own = [0u32; 128];
-            match decide(image, &starts, &nets, &sizes, modules, &mut own) {
-                Decided::Refused { number, place } => Writing::Refused { number, place },
-                Decided::Stays => write_order::answer::answer(file, out),
-                Decided::Go => write_new(file, image, &own, new, out),
-            }
-        }
+        Beside::Refused { number, place } => Writing::Refused { number, place },
+        Beside::Ready {
+            modules,
+            numbers: count,
+        } => rewrite_ready(
+            file,
+            numbers,
+            count,
+            &mut offsets,
+            image,
+            &starts,
+            &nets,
+            &sizes,
+            modules,
+            new,
+            out,
+        ),
     }
 }
 
@@ -120,21 +149,39 @@ fn rewrite_short(file: &[u8], out: &mut [u8]) -> Writing
     requires { ⌜ Short (now file) ⌝ }
     ensures { λ r. ⌜ Answers (rewriting (now (file .entry)) (length (now (out .entry)))) (now (out .entry)) (now (out .exit)) r ⌝ }
 {
+    let mut numbers = [0u16; 1024];
     let mut image = [0u16; 1024];
     let mut first = [0u16; 512];
     let mut slots = [0u32; 512];
     let mut new = [0u8; 3072];
-    rewrite_in(file, &mut image, &mut first, &mut slots, &mut new, out)
+    rewrite_in(
+        file,
+        &mut numbers,
+        &mut image,
+        &mut first,
+        &mut slots,
+        &mut new,
+        out,
+    )
 }
 
 fn rewrite_long(file: &[u8], out: &mut [u8]) -> Writing
     ensures { λ r. ⌜ Answers (rewriting (now (file .entry)) (length (now (out .entry)))) (now (out .entry)) (now (out .exit)) r ⌝ }
 {
+    let mut numbers = [0u16; 65535];
     let mut image = [0u16; 65535];
     let mut first = [0u16; 16384];
     let mut slots = [0u32; 16384];
     let mut new = [0u8; 196605];
-    rewrite_in(file, &mut image, &mut first, &mut slots, &mut new, out)
+    rewrite_in(
+        file,
+        &mut numbers,
+        &mut image,
+        &mut first,
+        &mut slots,
+        &mut new,
+        out,
+    )
 }
 
 // A short file should not pay for clearing long lists. Called from two places the long way stays a function of its own.
