@@ -1,6 +1,6 @@
 -- The modules of an accepted file can be rewritten where the new file has few occurrences; and from the file's numbers and places the new file
 -- can be written.
-use Prim.Native.Nat.{ℕ, _≤_, zero, suc, _<_}
+use Prim.Native.Nat.{ℕ, _*_, _≤_, zero, suc, _<_}
 use mathlib.Core.Path.{_≡_, sym, ap}
 use mathlib.Core.Bool.{true, false, true≢false}
 use mathlib.Core.List.{List, _∷_, [], map}
@@ -10,7 +10,7 @@ use lib.Dec.{leb}
 use lib.ListN.{length, getD, drop, length-drop, set, length-map, length-set}
 use Rattle.meaning.specs.Lists.{All, none, more}
 use Rattle.meaning.specs.Syntax.{Occurrence, Module}
-use Rattle.meaning.specs.Layout.{moduleNumbers}
+use Rattle.meaning.specs.Layout.{moduleNumbers, encode}
 use Rattle.meaning.specs.Ceilings.{Bytes, Encodes}
 use Rattle.meaning.specs.Reading.{mostOccurrences}
 use Rattle.meaning.specs.Withdrawn.{rewriteBody, unused, rewriteModule, rewriteFile, occurrencesOk}
@@ -63,7 +63,7 @@ named-at [] j e = absurd (nothing-at j e)
 named-at (first ∷ ms) zero {m} e = let same : first ≡ m = cc in ap (λ (n : Module). n .number) same
 named-at (first ∷ ms) (suc j) e = named-at ms j e
 
-module _ {file numbers starts offsets own : List ℕ} {modules new : ℕ} (bytes : Bytes file) (k : Keeping file numbers starts offsets modules own new) where
+module _ {file numbers starts offsets own : List ℕ} {modules : ℕ} (bytes : Bytes file) (k : Keeping file numbers starts offsets modules own) where
   pub encodes : Encodes file (k .ms)
   encodes = exactness file bytes (k .ms) (k .reads)
 
@@ -93,8 +93,15 @@ module _ {file numbers starts offsets own : List ℕ} {modules new : ℕ} (bytes
   unfolding shelved
   parts j m later here = record { stands = part-stands shelved j here; next = part-next shelved j here }
 
-  abbrev pub rewritable : Rewritable file numbers starts (set offsets modules (length file)) modules own new
-  rewritable =
+  -- The new file has at most three bytes for one of the file, so these are enough for it.
+  pub new-fits : (new : ℕ) → 3 * length file ≤ new → length (encode (rewriteFile (k .ms))) ≤ new
+  new-fits new enough = omega (arith, file-long (k .accepted), ap length (encodes .encoded))
+
+  pub file-short : length file ≤ 65535
+  file-short = omega (arith, ap length (encodes .encoded), encodes .within .bytes)
+
+  abbrev pub rewritable : (new : ℕ) → 3 * length file ≤ new → Rewritable file numbers starts (set offsets modules (length file)) modules own new
+  rewritable new enough =
       record {
         ms = k .ms;
         all = k .all;
@@ -107,5 +114,5 @@ module _ {file numbers starts offsets own : List ℕ} {modules new : ℕ} (bytes
         parts = parts;
         owned = k .owned;
         suited = suited-all (k .accepted) (k .few);
-        room = omega (arith, file-long (k .accepted), ap length (encodes .encoded), encodes .within .bytes, k .newLong);
+        room = new-fits new enough;
       }

@@ -1,5 +1,5 @@
 -- What the rewriting rests on: the ceilings of the new file, and the file's own numbers.
-use Prim.Native.Nat.{ℕ, _*_, _≤_, _<_, min}
+use Prim.Native.Nat.{ℕ, _≤_, _<_}
 use mathlib.Core.Path.{_≡_}
 use mathlib.Core.Bool.{true}
 use mathlib.Core.List.{List}
@@ -44,9 +44,9 @@ pub record Decides (ms : List Module) (own : List ℕ) (r : Decided) : Type 0 wh
   pub says : decidedOf ms r
   pub owned : Entry ms own (λ m later. fours (m .occurrences))
 
--- An accepted file whose new one keeps these ceilings: its numbers, where its modules begin in them and in its bytes, how many of the four
--- gates each has, and room for the bytes of the new file, at most three for one.
-pub record Keeping (file numbers starts offsets : List ℕ) (modules : ℕ) (own : List ℕ) (new : ℕ) : Type 0 where
+-- An accepted file whose new one keeps these ceilings: its numbers, where its modules begin in them and in its bytes, and how many of the
+-- four gates each has.
+pub record Keeping (file numbers starts offsets : List ℕ) (modules : ℕ) (own : List ℕ) : Type 0 where
   pub ms : List Module
   pub reads : read file ≡ holds ms
   pub all : modules ≡ length ms
@@ -59,12 +59,10 @@ pub record Keeping (file numbers starts offsets : List ℕ) (modules : ℕ) (own
   pub startsLong : length ms ≤ length starts
   pub offsetsLong : mostModules < length offsets
   pub ownLong : mostModules ≤ length own
-  pub newLong : 3 * min (length file) mostBytes ≤ new
 
--- A file that was made ready, its numbers beside the image, with a place more than there are modules and room for the new file.
-pub record Readied (file numbers : List ℕ) (count : ℕ) (offsets image starts nets sizes : List ℕ) (modules new : ℕ) : Type 0 where
+-- A file that was made ready, its numbers beside the image, with a place more than there are modules.
+pub record Readied (file numbers : List ℕ) (count : ℕ) (offsets image starts nets sizes : List ℕ) (modules : ℕ) : Type 0 where
   pub names : List ℕ
   pub rooms : List ℕ
   pub beside : OpenedBeside file modules count numbers offsets image starts names nets sizes rooms
   pub offsetsLong : mostModules < length offsets
-  pub newLong : 3 * min (length file) mostBytes ≤ new

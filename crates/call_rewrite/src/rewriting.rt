@@ -4,9 +4,7 @@ use crate::deciding::Decided;
 use crate::deciding::decide;
 use answers::Writing;
 use open_beside::Beside;
-ghost use Prim.Native.Nat.{_*_, _≤_, min};
 ghost use lib.ListN.{length};
-ghost use Rattle.meaning.specs.Reading.{mostBytes};
 ghost use Rattle.meaning.specs.Withdrawn.{rewriteFile, rewriting};
 ghost use Rattle.answers.specs.Answers.{Answers};
 ghost use Rattle.open_shortness.specs.Shortness.{Short};
@@ -39,7 +37,8 @@ fn finish(
     write_order::answer::answer(&new[..long], out)
 }
 
-// A file that keeps the ceilings 4, 16 and 17. Behind the last module the file ends.
+// A file that keeps the ceilings 4, 16 and 17. Behind the last module the file ends. A file that stays as it is makes no list for a new one, and a
+// short file a short one.
 fn write_new(
     file: &[u8],
     numbers: &[u16],
@@ -47,15 +46,19 @@ fn write_new(
     offsets: &mut [usize],
     modules: usize,
     own: &[u32],
-    new: &mut [u8],
     out: &mut [u8],
 ) -> Writing
-    requires { ⌜ Keeping (now file) (now numbers) (now starts) (now offsets) modules (now own) (length (now new)) ⌝ }
-    ensures { λ r. ⌜ ((k : Keeping (now (file .entry)) (now (numbers .entry)) (now (starts .entry)) (now (offsets .entry)) modules (now (own .entry)) (length (now (new .entry))))
+    requires { ⌜ Keeping (now file) (now numbers) (now starts) (now offsets) modules (now own) ⌝ }
+    ensures { λ r. ⌜ ((k : Keeping (now (file .entry)) (now (numbers .entry)) (now (starts .entry)) (now (offsets .entry)) modules (now (own .entry)))
         → Answers (finished (rewriteFile (k .ms)) (length (now (out .entry)))) (now (out .entry)) (now (out .exit)) r) ⌝ }
 {
     offsets[modules] = file.len();
-    finish(file, numbers, starts, offsets, modules, own, new, out)
+    if file.len() <= 1024 {
+        let mut new = [0u8; 3072];
+        return finish(file, numbers, starts, offsets, modules, own, &mut new, out);
+    }
+    let mut new = [0u8; 196605];
+    finish(file, numbers, starts, offsets, modules, own, &mut new, out)
 }
 
 // A file that was made ready, with its own numbers beside the image.
@@ -69,26 +72,16 @@ fn rewrite_ready(
     nets: &[usize],
     sizes: &[u32],
     modules: usize,
-    new: &mut [u8],
     out: &mut [u8],
 ) -> Writing
-    requires { ⌜ Readied (now file) (now numbers) count (now offsets) (now image) (now starts) (now nets) (now sizes) modules (length (now new)) ⌝ }
+    requires { ⌜ Readied (now file) (now numbers) count (now offsets) (now image) (now starts) (now nets) (now sizes) modules ⌝ }
     ensures { λ r. ⌜ Answers (rewriting (now (file .entry)) (length (now (out .entry)))) (now (out .entry)) (now (out .exit)) r ⌝ }
 {
     let mut own = [0u32; 128];
     match decide(image, starts, nets, sizes, modules, &mut own) {
         Decided::Refused { number, place } => Writing::Refused { number, place },
         Decided::Stays => write_order::answer::answer(file, out),
-        Decided::Go => write_new(
-            file,
-            &numbers[..count],
-            starts,
-            offsets,
-            modules,
-            &own,
-            new,
-            out,
-        ),
+        Decided::Go => write_new(file, &numbers[..count], starts, offsets, modules, &own, out),
     }
 }
 
@@ -99,11 +92,9 @@ fn rewrite_in(
     image: &mut [u16],
     first: &mut [u16],
     slots: &mut [u32],
-    new: &mut [u8],
     out: &mut [u8],
 ) -> Writing
     requires { ⌜ Workable (now file) (now numbers) (now image) (now first) (now slots) ⌝ }
-    requires { ⌜ 3 * min (length (now file)) mostBytes ≤ length (now new) ⌝ }
     ensures { λ r. ⌜ Answers (rewriting (now (file .entry)) (length (now (out .entry)))) (now (out .entry)) (now (out .exit)) r ⌝ }
 {
     let mut offsets = [0usize; 129];
@@ -139,7 +130,6 @@ fn rewrite_in(
             &nets,
             &sizes,
             modules,
-            new,
             out,
         ),
     }
@@ -153,16 +143,7 @@ fn rewrite_short(file: &[u8], out: &mut [u8]) -> Writing
     let mut image = [0u16; 1024];
     let mut first = [0u16; 512];
     let mut slots = [0u32; 512];
-    let mut new = [0u8; 3072];
-    rewrite_in(
-        file,
-        &mut numbers,
-        &mut image,
-        &mut first,
-        &mut slots,
-        &mut new,
-        out,
-    )
+    rewrite_in(file, &mut numbers, &mut image, &mut first, &mut slots, out)
 }
 
 fn rewrite_long(file: &[u8], out: &mut [u8]) -> Writing
@@ -172,16 +153,7 @@ fn rewrite_long(file: &[u8], out: &mut [u8]) -> Writing
     let mut image = [0u16; 65535];
     let mut first = [0u16; 16384];
     let mut slots = [0u32; 16384];
-    let mut new = [0u8; 196605];
-    rewrite_in(
-        file,
-        &mut numbers,
-        &mut image,
-        &mut first,
-        &mut slots,
-        &mut new,
-        out,
-    )
+    rewrite_in(file, &mut numbers, &mut image, &mut first, &mut slots, out)
 }
 
 // A short file should not pay for clearing long lists. Called from two places the long way stays a function of its own.

@@ -9,18 +9,18 @@ use Rattle.call_rewrite.proofs.rewriting.rewrite_in.Statement.{statemen
 use Rattle.call_rewrite.proofs.rewriting.rewrite_in.Tie as tie
 
 -- The preparing from where the lists are back, and the function's entry from there.
-abbrev prepared : tie.After-slice-known10 → tie.After-prepare
+abbrev prepared : tie.After-slice-known9 → tie.After-prepare
 prepared c = let half = c .before .before .before .before .before .before .before in half .before .before .before .before .before .before .before
 
 abbrev entered : tie.After-prepare → tie.Start
 entered p =
     let lists = p .before .before .before .before .before .before .before .before in
-    let slices = lists .before .before .before .before .before in
+    let slices = lists .before .before .before .before in
     slices .before .before .before .before .before
 
 -- From where all is lent on to where the file is known to be ready.
-abbrev ready : tie.After-rewrite-ready-arg4 → tie.After-modules
-ready c = let lists = c .before .before .before .before .before in lists .before .before .before .before
+abbrev ready : tie.After-rewrite-ready-arg3 → tie.After-modules
+ready c = let lists = c .before .before .before .before in lists .before .before .before .before
 
 rewrite-ready-requires : tie.Need-rewrite-ready-requires
 rewrite-ready-requires c κs =
@@ -32,7 +32,6 @@ rewrite-ready-requires c κs =
       rooms = p .last .1 .1 .1 .1 .1 .1 .1 .1 .0;
       beside = opened-beside _ _ _ _ _ _ _ _ _ (p .result) (p .ensures) _ _ (k .modules .given .1);
       offsetsLong = omega (arith, p .kept .1 .1 .0, length-replicate {A = ℕ} 129 0);
-      newLong = entered q .pre .1;
     }
 
 returns : tie.Need-returns
@@ -70,5 +69,4 @@ rewrite-in-spec =
     (λ c. search needs)
     (λ c. search needs)
     (λ c. search needs)
-    (λ c. search needs)
-    (λ c. c .before .before .before .before .before .rewrite-ready .ensures))
+    (λ c. c .before .before .before .rewrite-ready .ensures))

@@ -16,7 +16,7 @@ use Rattle.call_rewrite.proofs.rewriting.rewrite_ready.Tie as tie
 
 -- Back from where the table is made to where the bytes are known, and to the function's entry.
 abbrev known : tie.After-own → tie.After-shared-slice-known
-known c = let lists = c .before .before .before .before in lists .before .before .before .before .before
+known c = c .before .before .before .before .before .before .before .before
 
 abbrev entered : tie.After-own → tie.Start
 entered c = known c .before
@@ -58,8 +58,8 @@ returns-2 c =
     (a .answer .ensures)
 
 -- Where it is known that the new file is to be written.
-abbrev going : tie.After-write-new-arg4 → tie.After-enum-told2
-going c = c .before .before .before .before .before
+abbrev going : tie.After-write-new-arg3 → tie.After-enum-told2
+going c = c .before .before .before .before
 
 write-new-requires : tie.Need-write-new-requires
 unfolding decide-requires
@@ -82,13 +82,12 @@ write-new-requires c κs =
       startsLong = o .held .shelved .started;
       offsetsLong = r .offsetsLong;
       ownLong = omega (arith, d .decide .kept .1 .1 .1 .1 .1 .0, length-replicate {A = ℕ} 128 0);
-      newLong = r .newLong;
     }
 
 returns-3 : tie.Need-returns-3
 unfolding write-new-requires decide-requires
 returns-3 c =
-    let w = c .before .before .before .before .before .before in
+    let w = c .before .before .before .before in
     let told = going (w .before) in
     let d = told .before .before .before in
     let s = entered (d .before) in
@@ -112,7 +111,6 @@ rewrite-ready-spec =
     returns
     (λ c. search needs)
     returns-2
-    (λ c. search needs)
     (λ c. search needs)
     (λ c. search needs)
     returns-3)

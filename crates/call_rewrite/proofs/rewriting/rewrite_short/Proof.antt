@@ -1,14 +1,11 @@
 -- `call_rewrite::rewriting::rewrite_short` meets its contract: short lists serve for a short file.
-use Prim.Native.Nat.{ℕ}
-use native.Mathlib.Omega.{arith}
 use borrow.Author.Needs.{needs}
-use lib.ListN.{length-replicate}
 use Rattle.open_beside.specs.Rooms.{short-beside}
 use Rattle.call_rewrite.proofs.rewriting.rewrite_short.Statement.{statement}
 use Rattle.call_rewrite.proofs.rewriting.rewrite_short.Tie as tie
 
 abbrev entered : tie.After-rewrite-in-arg → tie.Start
-entered c = c .before .before .before .before .before .before .before .before
+entered c = c .before .before .before .before .before .before .before
 
 pub rewrite-short-spec : {M : Type 1} → statement M
 rewrite-short-spec =
@@ -18,7 +15,6 @@ rewrite-short-spec =
     (λ c. search needs)
     (λ c. search needs)
     (λ c. search needs)
-    (λ c. search needs)
-    (λ c κs. let short = entered c .pre in (short-beside _ short, omega (arith, short .few, length-replicate {A = ℕ} 3072 0)))
+    (λ c κs. short-beside _ (entered c .pre))
     (λ c. search needs)
     (λ c. search needs))
