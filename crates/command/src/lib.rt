@@ -5,6 +5,7 @@ mod counted; // counted.rt: the figures of a module
 mod files; // files.rt: bytes in, bytes out
 mod listing; // listing.rt: a listing for a board maker
 mod making; // making.rt: rewrite, flatten, the adders, the ALU and counter
+mod placing; // placing.rt: file and file-sequence
 mod refusing; // refusing.rt: refusals in words
 mod rows; // rows.rt: rows
 mod saying; // saying.rt: lines, what could not be carried out, and the help
@@ -65,6 +66,8 @@ fn with_one(name: &[u8], first: &[u8]) {
         asking::strict(first);
     } else if is(name, b"list") {
         asking::list(first);
+    } else if is(name, b"file") {
+        placing::file(first);
     } else {
         saying::usage();
     }
@@ -87,6 +90,8 @@ fn with_two(name: &[u8], first: &[u8], second: &[u8]) {
         listing::ndl(first, second, b"");
     } else if is(name, b"read") {
         making::read(first, second);
+    } else if is(name, b"file-sequence") {
+        placing::file_sequence(first, second);
     } else {
         saying::usage();
     }

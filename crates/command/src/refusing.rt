@@ -9,13 +9,18 @@ pub(crate) fn refuse(number: u16, place: usize) {
 
 // With words in front that say whose file it is about.
 pub(crate) fn refuse_of(whose: &[u8], number: u16, place: usize) {
+    say_refused(number, place as u64);
+    say(whose);
+    say_words(number, place as u64);
+}
+
+// The first line of a refusal.
+pub(crate) fn say_refused(number: u16, place: u64) {
     say(b"refused ");
     say_number(number as u64);
     say(b" ");
-    say_number(place as u64);
+    say_number(place);
     end_line();
-    say(whose);
-    say_words(number, place as u64);
 }
 
 pub(crate) fn say_words(number: u16, place: u64) {
@@ -24,7 +29,7 @@ pub(crate) fn say_words(number: u16, place: u64) {
     end_line();
 }
 
-// Where it is: refusals 2 to 5 name a byte, 25 and 26 one of a text, 6 to 17 and 28 a module by its position, 20 a value, 29 a gate's name.
+// Where it is: refusals 2 to 5 name a byte, 25 and 26 one of a text, 6 to 17 and 28 a module by its position, 20 a value, 29 a gate's name, 31 a base.
 fn say_place(number: u16, place: u64) {
     match number {
         2..=5 | 25 | 26 => say_at(b"byte ", place),
@@ -32,6 +37,7 @@ fn say_place(number: u16, place: u64) {
         20 => say_at(b"value ", place),
         29 => say_at(b"gate name ", place),
         28 => say_at(b"module at position ", place),
+        31 => say_at(b"base ", place),
         _ => {}
     }
 }
@@ -42,7 +48,8 @@ fn say_at(what: &[u8], place: u64) {
     say(b": ");
 }
 
-// Which rule it is: of the bytes, of what a module begins with, of its occurrences, of all of it, of a call, or of what is made.
+// Which rule it is: of the bytes, of what a module begins with, of its occurrences, of all of it, of a call, of filing, or of what is
+// made.
 fn say_rule(number: u16) {
     match number {
         1..=5 => say_rule_of_bytes(number),
@@ -50,6 +57,7 @@ fn say_rule(number: u16) {
         11..=14 => say_rule_of_occurrences(number),
         15..=17 => say_rule_of_modules(number),
         18..=22 => say_rule_of_calls(number),
+        30..=32 => say_rule_of_filing(number),
         _ => say_rule_of_making(number),
     }
 }
@@ -117,6 +125,15 @@ fn say_rule_of_making(number: u16) {
         25 => say(b"no list of modules goes on so"),
         26 => say(b"an atom, a list or a count of names is over its ceiling"),
         33 => say(b"the text is longer than 262,144 bytes"),
+        _ => {}
+    }
+}
+
+fn say_rule_of_filing(number: u16) {
+    match number {
+        30 => say(b"the word length is not from 1 to 16"),
+        31 => say(b"it is none of A, C, G and T"),
+        32 => say(b"the sequence is longer than 65,535 bases"),
         _ => {}
     }
 }

@@ -77,9 +77,14 @@ gimlet alu WIDTH OUT             writes an arithmetic unit of sixteen operations
 gimlet counter WIDTH OUT         writes a leading-zero counter, width 1 to 64; its
                                  module is 32
 gimlet read TEXT OUT             makes the file OUT from a text in the published list form
+gimlet file WORD                 the shelf of a word of 1 to 16 bases A, C, G and T: the
+                                 leading zeros of its 32 bits, 0 to 32
+gimlet file-sequence FILE LENGTH how many words of that length go to each shelf, a line
+                                 with a bar for each, and the total. FILE holds bases,
+                                 or is FASTA: each record is a sequence of its own
 gimlet help                      this text
 FILE or ROWS may be -, for standard input. MODULE is a module's number. An answer is one line,
-and with --work a last one more.
+and with --work a last one more; a listing and file-sequence have more lines.
 A refusal is a line with its number and place, and a line that says them in words.
 What could not be carried out at all is a line that begins with failed.
 ",

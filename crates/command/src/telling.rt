@@ -74,11 +74,7 @@ fn tell_long(before: u64, from: &[u8]) {
 
 // The place of a value that is none is its index in the whole text, and in words its line and its index there.
 fn tell_refused(number: u16, place: usize, rows: u64, values: u64, inputs: usize) {
-    say(b"refused ");
-    say_number(number as u64);
-    say(b" ");
-    say_number(wrapping_add_u64(values, place as u64));
-    end_line();
+    crate::refusing::say_refused(number, wrapping_add_u64(values, place as u64));
     if 0 < inputs {
         say_line(wrapping_add_u64(rows, (place / inputs) as u64));
         say(b": ");
