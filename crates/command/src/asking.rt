@@ -46,8 +46,8 @@ fn list_accepted(file: &[u8]) {
 }
 
 pub(crate) fn count(path: &[u8], number: &[u8]) {
-    match crate::words::parse(number) {
-        Parsed::Other => crate::saying::not_a_number(number),
+    match crate::texts::module(path, number) {
+        Parsed::Other => crate::texts::no_module(path, number),
         Parsed::Number(n) => count_module(path, n),
     }
 }
@@ -75,8 +75,8 @@ pub(crate) fn run(work: bool, path: &[u8], number: &[u8], values: &[u8]) {
         crate::saying::fail(b"not a word of 0, 1, 2 and 3, or x and z: ", values);
         return;
     }
-    match crate::words::parse(number) {
-        Parsed::Other => crate::saying::not_a_number(number),
+    match crate::texts::module(path, number) {
+        Parsed::Other => crate::texts::no_module(path, number),
         Parsed::Number(n) => run_module(work, path, n, values),
     }
 }

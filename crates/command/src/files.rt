@@ -18,8 +18,16 @@ pub(crate) fn close(path: &[u8], descriptor: i32) {
     }
 }
 
-// Reads a file.
+// Reads a file, or a text of lists as the file that it makes.
 pub(crate) fn load(path: &[u8], buffer: &mut [u8]) -> Loaded {
+    if crate::texts::is_text(path) {
+        return crate::texts::load(path, buffer);
+    }
+    load_bytes(path, buffer)
+}
+
+// Reads the bytes of a file as they are.
+pub(crate) fn load_bytes(path: &[u8], buffer: &mut [u8]) -> Loaded {
     let descriptor = open(path);
     if descriptor < 0 {
         return Loaded::Failed;

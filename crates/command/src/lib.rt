@@ -11,6 +11,7 @@ mod rows; // rows.rt: rows
 mod saying; // saying.rt: lines, what could not be carried out, and the help
 mod shelves; // shelves.rt: find and join
 mod telling; // telling.rt: rows, how it ended
+mod texts; // texts.rt: texts in the place of files
 mod words; // words.rt: the words of a command line
 
 use making::Order;

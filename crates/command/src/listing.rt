@@ -22,8 +22,8 @@ fn ndl_of(file: &[u8], to: &[u8], names: &[u8]) {
         return;
     }
     let mut lent = io::large_buffer();
-    match crate::files::load(names, &mut lent) {
-        Loaded::Failed => crate::saying::cannot_read(names),
+    match crate::files::load_bytes(names, &mut lent) {
+        Loaded::Failed => crate::saying::missing(names),
         Loaded::Bytes(count) => ndl_under(file, front(count, &lent), to),
     }
 }

@@ -79,8 +79,8 @@ fn rewrite_into(file: &[u8], to: &[u8]) {
 }
 
 pub(crate) fn flatten(path: &[u8], number: &[u8], to: &[u8]) {
-    match crate::words::parse(number) {
-        Parsed::Other => crate::saying::not_a_number(number),
+    match crate::texts::module(path, number) {
+        Parsed::Other => crate::texts::no_module(path, number),
         Parsed::Number(n) => flatten_module(path, n, to),
     }
 }
@@ -105,14 +105,16 @@ fn flatten_in(file: &[u8], number: u16, scratch: &mut [u32; 40960], to: &[u8]) {
 // Makes a file from a text in the published list form. One byte more than a text may have is read, so that 33 can be told.
 pub(crate) fn read(path: &[u8], to: &[u8]) {
     let mut text = [0u8; 262145];
-    match crate::files::load(path, &mut text) {
-        Loaded::Failed => crate::saying::cannot_read(path),
+    match crate::files::load_bytes(path, &mut text) {
+        Loaded::Failed => crate::saying::missing(path),
         Loaded::Bytes(count) => read_in(front(count, &text), to),
     }
 }
 
 fn read_in(text: &[u8], to: &[u8]) {
     let mut bytes = io::large_buffer();
-    let made = shelf::read_text(text, &mut bytes);
-    keep(made, &bytes, to);
+    match shelf::read_text(text, &mut bytes) {
+        Writing::Refused { number, place } => crate::texts::refuse(text, number, place),
+        Writing::Wrote(count) => write(front(count, &bytes), to),
+    }
 }

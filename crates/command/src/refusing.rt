@@ -14,7 +14,7 @@ pub(crate) fn refuse_of(whose: &[u8], number: u16, place: usize) {
     say_words(number, place as u64);
 }
 
-// The first line of a refusal.
+// The line that every refusal begins with.
 pub(crate) fn say_refused(number: u16, place: u64) {
     say(b"refused ");
     say_number(number as u64);
@@ -29,10 +29,10 @@ pub(crate) fn say_words(number: u16, place: u64) {
     end_line();
 }
 
-// Where it is: refusals 2 to 5 name a byte, 25 and 26 one of a text, 6 to 17 and 28 a module by its position, 20 a value, 29 a gate's name, 31 a base.
+// Where it is: refusals 2 to 5 name a byte, 6 to 17 and 28 a module by its position, 20 a value, 29 a gate's name, 31 a base.
 fn say_place(number: u16, place: u64) {
     match number {
-        2..=5 | 25 | 26 => say_at(b"byte ", place),
+        2..=5 => say_at(b"byte ", place),
         6..=17 => say_at(b"module at position ", place),
         20 => say_at(b"value ", place),
         29 => say_at(b"gate name ", place),
@@ -50,7 +50,7 @@ fn say_at(what: &[u8], place: u64) {
 
 // Which rule it is: of the bytes, of what a module begins with, of its occurrences, of all of it, of a call, of filing, or of what is
 // made.
-fn say_rule(number: u16) {
+pub(crate) fn say_rule(number: u16) {
     match number {
         1..=5 => say_rule_of_bytes(number),
         6..=10 => say_rule_of_heads(number),

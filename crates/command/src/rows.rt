@@ -11,8 +11,8 @@ pub(crate) fn rows(work: bool, path: &[u8], number: &[u8], from: &[u8], to: &[u8
         crate::saying::fail(b"FILE and ROWS cannot both be ", path);
         return;
     }
-    match crate::words::parse(number) {
-        Parsed::Other => crate::saying::not_a_number(number),
+    match crate::texts::module(path, number) {
+        Parsed::Other => crate::texts::no_module(path, number),
         Parsed::Number(n) => rows_of(work, path, n, from, to),
     }
 }
@@ -50,7 +50,7 @@ fn rows_in(work: bool, file: &[u8], number: u16, from: &[u8], to: &[u8]) {
 fn rows_from(work: bool, file: &[u8], task: Task, from: &[u8], to: &[u8]) {
     let text = crate::files::open(from);
     if text < 0 {
-        crate::saying::cannot_read(from);
+        crate::saying::missing(from);
         return;
     }
     let mut name = io::buffer();

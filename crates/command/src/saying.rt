@@ -27,8 +27,16 @@ pub(crate) fn fail(why: &[u8], what: &[u8]) {
     end_line();
 }
 
-// A file that should be there.
+// A file that should be there; of a text it is said why it was not read.
 pub(crate) fn cannot_read(path: &[u8]) {
+    if crate::texts::is_text(path) {
+        crate::texts::explain(path);
+        return;
+    }
+    missing(path);
+}
+
+pub(crate) fn missing(path: &[u8]) {
     fail(b"cannot read ", path);
 }
 
@@ -83,9 +91,11 @@ gimlet file-sequence FILE LENGTH how many words of that length go to each shelf,
                                  with a bar for each, and the total. FILE holds bases,
                                  or is FASTA: each record is a sequence of its own
 gimlet help                      this text
-FILE or ROWS may be -, for standard input. MODULE is a module's number. An answer is one line,
-and with --work a last one more; a listing and file-sequence have more lines.
-A refusal is a line with its number and place, and a line that says them in words.
+FILE or ROWS may be -, for standard input. FILE, GROUP and HOUSE may be texts in the
+published list form where their names end in .lisp, .list or .lsp. MODULE is a module's
+number; of a FILE that is a text it may be a name.
+An answer is one line, and with --work a last one more; a listing and file-sequence have more lines.
+A refusal is a line with its number and place, and lines that say them in words.
 What could not be carried out at all is a line that begins with failed.
 ",
     );

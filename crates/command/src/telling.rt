@@ -9,7 +9,7 @@ use std::num::wrapping_add_u64;
 pub(crate) fn tell(told: bool, ended: Ended, inputs: usize, from: &[u8], to: &[u8]) {
     match ended {
         Ended::Rows(rows, work) => tell_rows(rows, told, work),
-        Ended::Unread => crate::saying::cannot_read(from),
+        Ended::Unread => crate::saying::missing(from),
         Ended::Unwritten => crate::saying::fail(b"cannot write ", to),
         Ended::Bad(before, line) => tell_bad(before, line, inputs, from),
         Ended::Long(before) => tell_long(before, from),

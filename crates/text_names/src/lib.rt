@@ -8,7 +8,7 @@ ghost use Rattle.text_names.specs.Walking.{grownBy};
 ghost use Rattle.text_names.specs.Needs.{Seekable, Steppable, Walkable, Walked, Numberable, Numbered};
 
 // Either case alike.
-fn capital(b: u8) -> u8
+pub fn capital(b: u8) -> u8
     ensures { λ r. ⌜ r ≡ capital b ⌝ }
 {
     if b < 97 {

@@ -1,0 +1,5 @@
+((FULL-ADDER (A B) (SUM CARRY)
+  (((SUM CARRY REST) (HALF-ADDER A B))))
+ (HALF-ADDER (A B) (SUM CARRY)
+  (((SUM) (B-XOR A B))
+   ((CARRY) (B-AND A B)))))

@@ -1,0 +1,3 @@
+((HALF-ADDER (A B) (SUM)
+  (((SUM) (B-XOR A B))
+   ((CARRY) (B-EQUV A B)))))

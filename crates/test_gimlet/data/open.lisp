@@ -1,0 +1,3 @@
+((HALF-ADDER (A B) (SUM CARRY)
+  (((SUM) (B-XOR A B))
+   ((CARRY) B-AND A B))))

@@ -1,0 +1,6 @@
+((TWICE (A B) (S C)
+  (((S) (B-XOR A B))
+   ((C s) (HALF-ADDER A B))))
+ (HALF-ADDER (A B) (SUM CARRY)
+  (((SUM) (B-XOR A B))
+   ((CARRY) (B-AND A B)))))
