@@ -148,6 +148,17 @@ uint16_t shelf_write_ndl(const uint8_t *file, size_t file_len, const uint8_t *na
 uint16_t shelf_read_text(const uint8_t *text, size_t text_len, uint8_t *out, size_t out_len, size_t *written,
                          size_t *place);
 
+/* What a printed text has at most: 6 bytes for each of the file's, so this for any file. */
+#define SHELF_TEXT_MOST 393210
+
+/* Prints the file as a text in the published list form: modules in file order as M and their number, nets as N and theirs, gates by
+ * their names, an occurrence a line; docs/LISTS.md shows it. The text comes in the first *written bytes of out, at most
+ * 6 * file_len. A shorter out that the text fits in serves too. shelf_read_text makes of it a file that differs from this one in
+ * its numbers only, wherever the text has at most 262,144 bytes and that file at most 65,535; both hold for a file of up to 32,767
+ * bytes. It takes about a megabyte of stack. Refusals 1 to 17, then 22. */
+uint16_t shelf_print_text(const uint8_t *file, size_t file_len, uint8_t *out, size_t out_len, size_t *written,
+                          size_t *place);
+
 /* Writes the file of the ripple adder of that width: module 18, inputs carry, a, b, outputs sum, carry, low bits
  * first. The file comes in the first *written bytes of out, at most 1,019. Refusals 23, 22. */
 uint16_t shelf_adder(size_t width, uint8_t *out, size_t out_len, size_t *written, size_t *place);

@@ -1,4 +1,5 @@
-"""Texts in the published list form (request M-100), read once more, plainly, and held against `shelf_read_text`.
+"""Texts in the published list form (request M-100), read and printed once more, plainly, and held against `shelf_read_text` and
+`shelf_print_text`; and what is printed is read back.
 
     judge.py PROGRAM [CASES [SEED]]     PROGRAM is tests/lists/main.c, linked with the library
 
@@ -163,6 +164,83 @@ def expected(text, out):
         return refused.number, refused.place, b""
 
 
+# Printing.
+
+
+def net_names(nets):
+    return " ".join(f"N{net}" for net in nets)
+
+
+def occurrence_list(occurrence):
+    drives, refers, takes = occurrence
+    name = GATES[refers] if refers < 16 else f"M{refers}"
+    return f"(({net_names(drives)}) ({' '.join([name] + [f'N{net}' for net in takes])}))"
+
+
+def module_list(module):
+    number, inputs, outputs, occurrences = module
+    lines = "\n   ".join(occurrence_list(o) for o in occurrences)
+    return f"(M{number} ({net_names(inputs)}) ({net_names(outputs)})\n  ({lines}))"
+
+
+def list_text(modules):
+    return ("(" + "\n ".join(module_list(m) for m in modules) + ")\n").encode()
+
+
+def printed(data, out):
+    """What printing comes to: number, place, and the bytes it writes."""
+    try:
+        text = list_text(reference.check(data))
+        if out < len(text):
+            raise reference.Refused(22, 0)
+        return 0, 0, text
+    except reference.Refused as refused:
+        return refused.number, refused.place, b""
+
+
+def same_answers(rng, data, back):
+    """Each module of the file that comes back has the figures, the outputs and, but for its number, the flattened bytes of the one printed."""
+    for one, other in zip(reference.read(data), reference.read(back), strict=True):
+        if reference.count(data, one[0], 65536) != reference.count(back, other[0], 65536):
+            return False
+        for _ in range(3):
+            values = [rng.randrange(4) for _ in one[1]]
+            if reference.evaluate(data, one[0], values, 65536, 192) != reference.evaluate(back, other[0], values, 65536, 192):
+                return False
+        flat, flat_back = (reference.read(bytes(reference.flatten(d, m[0], 65536, 65536)))[0][1:] for d, m in ((data, one), (back, other)))
+        if flat != flat_back:
+            return False
+    return True
+
+
+def renumbered(rng, modules):
+    """The same modules under other numbers."""
+    numbers = {m[0]: n for m, n in zip(modules, rng.sample(range(16, rng.choice([200, 16384])), len(modules)))}
+    number = lambda n: numbers.get(n, n)
+    for n, inputs, outputs, occurrences in modules:
+        count = 1 + max([0] + inputs + outputs + [net for o in occurrences for net in o[0] + o[2]])
+        net = rng.sample(range(rng.choice([count, 200 + count, 16384])), count)
+        nets = lambda xs: [net[x] for x in xs]
+        yield number(n), nets(inputs), nets(outputs), [(nets(d), number(r), nets(t)) for d, r, t in occurrences]
+
+
+def file_case(rng):
+    modules = Reader(spell(rng, draft(rng))).read()
+    data = bytes(reference.encode(list(renumbered(rng, modules))))
+    if rng.random() < 0.3:
+        data = spoil(rng, data)
+    return data, rng.choice([0, 100, 400000, 400000, 400000])
+
+
+def large_files():
+    """One whose text is over 262,144 bytes, and one that is over 65,535 bytes when it comes back."""
+    small = [([net], 3, [0, 1, 2]) for net in range(3, 128)]
+    yield bytes(reference.encode([(16 + k, [0, 1, 2], [3], small) for k in range(73)])), 400000
+    late = lambda count: [([320 + i], 7, [i % 100] * 4) if i >= 100 else ([i], 0, [128]) for i in range(count)]
+    yield bytes(reference.encode([(20, list(range(128, 320)), [0], late(3700)), (21, list(range(128, 320)), [0], late(3500))])), 400000
+    yield bytes(65536), 400000
+
+
 # Texts.
 
 
@@ -269,31 +347,53 @@ def ceilings():
     yield b"((b-or () () ()))", 70000
 
 
-def batches(cases, seed):
-    rng = random.Random(seed)
-    yield list(ceilings())
+def batches(rng, cases, special, one):
+    yield list(special)
     for start in range(0, cases, 500):
-        yield [case(rng) for _ in range(min(500, cases - start))]
+        yield [one(rng) for _ in range(min(500, cases - start))]
+
+
+def judge(program, kind, plain, batch, met):
+    """Runs a batch through the program and holds each answer against the plain one; gives the answers."""
+    stream = b"".join(struct.pack("<III", kind, len(given), out) + given for given, out in batch)
+    lines = subprocess.run(program, input=stream, stdout=subprocess.PIPE, check=True).stdout.decode().split("\n")
+    answers = []
+    for (given, out), line in zip(batch, lines):
+        number, place, data = plain(given, out)
+        want = f"{number} {place} {data.hex()}"
+        met[number] = met.get(number, 0) + 1
+        if line != want:
+            print(f"lists: DIFFERENT on {given[:400]!r}, {len(given)} bytes, buffer {out}\n ours  {line[:200]}\n plain {want[:200]}")
+            sys.exit(1)
+        answers.append((number, data))
+    return answers
+
+
+def say_met(met, what):
+    print(f"lists: {what}, numbers met " + ", ".join(f"{n}: {met[n]}" for n in sorted(met)))
 
 
 def main():
     program = sys.argv[1].split()
     cases = int(sys.argv[2]) if len(sys.argv) > 2 else 20000
-    seed = int(sys.argv[3]) if len(sys.argv) > 3 else 1
-    met, total = {}, 0
-    for batch in batches(cases, seed):
-        stream = b"".join(struct.pack("<II", len(text), out) + text for text, out in batch)
-        lines = subprocess.run(program, input=stream, stdout=subprocess.PIPE, check=True).stdout.decode().split("\n")
-        for (text, out), line in zip(batch, lines):
-            number, place, data = expected(text, out)
-            want = f"{number} {place} {data.hex()}"
-            met[number] = met.get(number, 0) + 1
-            total += 1
-            if line != want:
-                print(f"lists: DIFFERENT on {text[:400]!r}, {len(text)} bytes, buffer {out}\n ours  {line[:200]}\n plain {want[:200]}")
+    rng = random.Random(int(sys.argv[3]) if len(sys.argv) > 3 else 1)
+    read, shown, back, total, alike = {}, {}, {}, 0, 0
+    for batch in batches(rng, cases, ceilings(), case):
+        total += len(judge(program, 0, expected, batch, read))
+    say_met(read, "read")
+    for batch in batches(rng, cases // 4, large_files(), file_case):
+        answers = judge(program, 1, printed, batch, shown)
+        total += len(answers)
+        pairs = [(data, text) for (data, _), (number, text) in zip(batch, answers) if number == 0]
+        again = judge(program, 0, expected, [(text, 70000) for _, text in pairs], back)
+        for (data, _), (number, file) in zip(pairs, again):
+            if number == 0 and not same_answers(rng, data, file):
+                print(f"lists: OTHER ANSWERS when read back: {data.hex()}")
                 sys.exit(1)
-    print("lists: numbers met " + ", ".join(f"{n}: {met[n]}" for n in sorted(met)))
-    print(f"lists: {total} texts, no difference")
+            alike += number == 0
+    say_met(shown, "printed")
+    say_met(back, "read back")
+    print(f"lists: {total} texts and files, no difference; {alike} files printed and read back answer alike")
 
 
 main()

@@ -6,6 +6,7 @@ mod files; // files.rt: bytes in, bytes out
 mod listing; // listing.rt: a listing for a board maker
 mod making; // making.rt: rewrite, flatten, the adders, the ALU and counter
 mod placing; // placing.rt: file and file-sequence
+mod printing; // printing.rt: a file as a text
 mod refusing; // refusing.rt: refusals in words
 mod rows; // rows.rt: rows
 mod saying; // saying.rt: lines, what could not be carried out, and the help
@@ -69,6 +70,8 @@ fn with_one(name: &[u8], first: &[u8]) {
         asking::list(first);
     } else if is(name, b"file") {
         placing::file(first);
+    } else if is(name, b"print") {
+        printing::print(first);
     } else {
         saying::usage();
     }
@@ -93,6 +96,8 @@ fn with_two(name: &[u8], first: &[u8], second: &[u8]) {
         making::read(first, second);
     } else if is(name, b"file-sequence") {
         placing::file_sequence(first, second);
+    } else if is(name, b"print") {
+        printing::print_module(first, second);
     } else {
         saying::usage();
     }

@@ -85,6 +85,8 @@ gimlet alu WIDTH OUT             writes an arithmetic unit of sixteen operations
 gimlet counter WIDTH OUT         writes a leading-zero counter, width 1 to 64; its
                                  module is 32
 gimlet read TEXT OUT             makes the file OUT from a text in the published list form
+gimlet print FILE                the file as such a text; with a word MODULE more, the
+                                 module alone, as a list of one
 gimlet file WORD                 the shelf of a word of 1 to 16 bases A, C, G and T: the
                                  leading zeros of its 32 bits, 0 to 32
 gimlet file-sequence FILE LENGTH how many words of that length go to each shelf, a line

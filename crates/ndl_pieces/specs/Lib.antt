@@ -1,2 +1,3 @@
 -- What the contracts cite, beside `meaning`.
 pub mod Digits
+pub mod Apart

@@ -20,6 +20,7 @@ pub use call_look_up::Looked;
 pub use call_look_up::look_up;
 pub use call_look_up::which_shelf;
 pub use call_ndl::write_ndl;
+pub use call_print::print_text;
 pub use call_rewrite::rewrite;
 pub use call_rewrite::strict_check;
 pub use call_text::read_text;

@@ -1,38 +1,16 @@
 -- The table does what the reader does; and tests of every number in a range, by which the code is held to it.
-use Prim.Native.Nat.{ℕ, zero, suc, _+_, _-_, _≤_, _<_}
-use native.Mathlib.Decide.{ℕ-discrete}
+use Prim.Native.Nat.{ℕ, _+_, _-_, _≤_, _<_}
 use native.Mathlib.Omega.{arith}
 use mathlib.Core.Path.{_≡_, refl, sym, subst}
-use mathlib.Core.Bool.{Bool, true, false, _&&_, _||_}
+use mathlib.Core.Bool.{Bool, true, false, _||_}
 use mathlib.Core.List.{List, [], _∷_}
 use lib.Dec.{eqb, leb}
 use lib.ListN.{getD}
 use borrow.Author.Tests.{eqb-true}
+use Rattle.listform.specs.Below.{allBelow, below}
 use Rattle.listform.specs.ListForm.{Name, Sign, mark, opening, closing, stray, kindOf, Part, sign, atom}
 use Rattle.listform.specs.ListReader.{Stage, listDue, modules, nameDue, inputsDue, inputs, outputsDue, outputs, bodyDue, body, drivesDue, drives, callDue, refersDue, takes, occurrenceEnd, moduleEnd, Stand, start, at, finished, astray, row, next, step, isAstray}
 use Rattle.text_modes.specs.Modes.{signCode, partCode, kindCode, modeOf, modes, modeAfter, isFinished}
-
--- A test of every number below a bound.
-unfoldable pub allBelow : (n : ℕ) → (ℕ → Bool) → Bool
-allBelow zero p = true
-allBelow (suc n) p = p n && allBelow n p
-
-both-first : (t u : Bool) → (t && u) ≡ true → t ≡ true
-both-first true u e = refl
-both-first false u e = e
-
-both-second : (t u : Bool) → (t && u) ≡ true → u ≡ true
-both-second true u e = e
-both-second false u e = absurd (let z : _≡_ {A = ℕ} 0 1 = cc in omega arith)
-
-below : (n : ℕ) (p : ℕ → Bool) → allBelow n p ≡ true → (i : ℕ) → i < n → p i ≡ true
-unfolding allBelow
-below zero p e i l = absurd (omega arith)
-below (suc n) p e i l = go (ℕ-discrete i n) (below n p (both-second (p n) (allBelow n p) e) i)
-  where
-    go : Dec (i ≡ n) → (i < n → p i ≡ true) → p i ≡ true
-    go (yes same) rest = rw same (both-first (p n) (allBelow n p) e)
-    go (no other) rest = rest (omega arith)
 
 -- A test that holds of so many numbers from one on holds of each of them.
 pub in-range : (low count : ℕ) (p : ℕ → Bool) → allBelow count (λ i. p (low + i)) ≡ true → (b : ℕ) → low ≤ b → b < low + count → p b ≡ true

@@ -1,7 +1,6 @@
 -- The gates' names are entered before all others.
-use Prim.Native.Nat.{ℕ, zero, suc, _+_, _*_, _-_, _≤_, _<_}
+use Prim.Native.Nat.{ℕ, _+_, _*_, _-_, _≤_, _<_}
 use native.Mathlib.Numerals.{add-one}
-use native.Mathlib.Decide.{ℕ-discrete}
 use native.Mathlib.Omega.{arith}
 use mathlib.Core.Path.{_≡_, refl, sym, _∙_, ap}
 use mathlib.Core.Bool.{Bool, true, false, not, _&&_}
@@ -10,6 +9,7 @@ use lib.Dec.{eqb, leb}
 use lib.ListN.{length, take, drop, getD}
 use lib.Seq.{take-suc}
 use borrow.Author.Tests.{eqb-true, leb-true, lt-leb}
+use Rattle.listform.specs.Below.{allBelow, below}
 use Rattle.listform.specs.ListForm.{Name, capital}
 use Rattle.listform.specs.ListNumbers.{spelling, sameName, among, gateNames, entered}
 use Rattle.listform.specs.Numbering.{same-name, entered-append}
@@ -37,28 +37,6 @@ gateStarts = 0 ∷ 5 ∷ 10 ∷ 16 ∷ 23 ∷ 30 ∷ 34 ∷ 39 ∷ 44 ∷ 49 ∷
 
 abbrev gateAt : ℕ → List ℕ
 gateAt g = take (getD gateStarts (g + 1) 0 - getD gateStarts g 0) (drop (getD gateStarts g 0) gateBytes)
-
--- One computed test of all sixteen.
-allBelow : (n : ℕ) → (ℕ → Bool) → Bool
-allBelow zero p = true
-allBelow (suc n) p = p n && allBelow n p
-
-both-first : (t u : Bool) → (t && u) ≡ true → t ≡ true
-both-first true u e = refl
-both-first false u e = e
-
-both-second : (t u : Bool) → (t && u) ≡ true → u ≡ true
-both-second true u e = e
-both-second false u e = absurd (let z : _≡_ {A = ℕ} 0 1 = cc in omega arith)
-
-below : (n : ℕ) (p : ℕ → Bool) → allBelow n p ≡ true → (i : ℕ) → i < n → p i ≡ true
-unfolding allBelow
-below zero p e i l = absurd (omega arith)
-below (suc n) p e i l = go (ℕ-discrete i n) (below n p (both-second (p n) (allBelow n p) e) i)
-  where
-    go : Dec (i ≡ n) → (i < n → p i ≡ true) → p i ≡ true
-    go (yes same) rest = rw same (both-first (p n) (allBelow n p) e)
-    go (no other) rest = rest (omega arith)
 
 gate-name : (g : ℕ) → g < 16 → nameOf (gateAt g) ≡ getD gateNames g []
 unfolding allBelow gateBytes gateStarts gateNames spelling sameName capital

@@ -2,7 +2,8 @@
 use native.Mathlib.Omega.{arith}
 use mathlib.Core.Path.{refl}
 use Rattle.listform.specs.ListForm.{kindOf}
-use Rattle.text_modes.specs.Right.{allBelow, kind-within}
+use Rattle.listform.specs.Below.{allBelow}
+use Rattle.text_modes.specs.Right.{kind-within}
 use Rattle.text_modes.proofs.kind.Statement.{statement}
 use Rattle.text_modes.proofs.kind.Tie as tie
 

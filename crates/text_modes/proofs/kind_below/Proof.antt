@@ -5,7 +5,8 @@ use lib.Dec.{eqb}
 use borrow.Author.Tests.{ne-eqb, eqb-true}
 use Rattle.listform.specs.ListForm.{kindOf}
 use Rattle.text_modes.specs.Modes.{kindCode}
-use Rattle.text_modes.specs.Right.{allBelow, among, but-for}
+use Rattle.listform.specs.Below.{allBelow}
+use Rattle.text_modes.specs.Right.{among, but-for}
 use Rattle.text_modes.proofs.kind_below.Statement.{statement}
 use Rattle.text_modes.proofs.kind_below.Tie as tie
 

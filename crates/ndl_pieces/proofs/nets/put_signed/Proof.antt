@@ -1,10 +1,10 @@
--- `nets::put_after_comma` meets its contract: the comma, and the net behind it. Assumes nothing.
+-- `nets::put_signed` meets its contract: the sign, and the net behind it. Assumes nothing.
 use native.Mathlib.Omega.{arith}
 use mathlib.Core.Path.{refl, _∙_}
 use lib.ListN.{length-set}
 use Rattle.write_pieces.specs.Laying.{laying-start, laying-store, laying-left, laying-last}
-use Rattle.ndl_pieces.proofs.nets.put_after_comma.Statement.{statement}
-use Rattle.ndl_pieces.proofs.nets.put_after_comma.Tie as tie
+use Rattle.ndl_pieces.proofs.nets.put_signed.Statement.{statement}
+use Rattle.ndl_pieces.proofs.nets.put_signed.Tie as tie
 
 put-named-requires : tie.Need-put-named-requires
 put-named-requires c κs =
@@ -17,8 +17,8 @@ returns c =
     let s = p .before .before .before in
     laying-last (p .put-named .ensures) (laying-store (laying-start (s .pre .1)) refl)
 
-pub put-after-comma-spec : {M : Type 1} → statement M
-put-after-comma-spec =
+pub put-signed-spec : {M : Type 1} → statement M
+put-signed-spec =
     tie.close
     (tie.spec
     (λ c. omega (arith, c .before .pre .1 .fits))

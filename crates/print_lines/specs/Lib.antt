@@ -1,0 +1,3 @@
+-- What the contracts cite, beside the definitions.
+pub mod Parts
+pub mod Standing

@@ -1,0 +1,2 @@
+-- Facts that the proofs cite.
+pub mod Naming
