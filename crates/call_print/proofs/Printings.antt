@@ -4,7 +4,7 @@ use mathlib.Core.Path.{_≡_, refl}
 use mathlib.Core.List.{List}
 use lib.ListN.{length}
 use Rattle.meaning.specs.Verdict.{refused, verdict}
-use Rattle.listform.specs.ListPrint.{printingOf, listPrinting}
+use Rattle.meaning.specs.ListPrint.{printingOf, listPrinting}
 use Rattle.answers.specs.Answers.{Answers}
 use Rattle.answers.specs.declared.Writing.{Writing}
 use Rattle.answers.specs.declared.Writing.the-variants.{Refused}

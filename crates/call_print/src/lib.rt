@@ -3,7 +3,7 @@ use answers::Writing;
 use open_beside::Beside;
 use print_answer::tell;
 ghost use lib.ListN.{length};
-ghost use Rattle.listform.specs.ListPrint.{listPrinting};
+ghost use Rattle.meaning.specs.ListPrint.{listPrinting};
 ghost use Rattle.answers.specs.Answers.{Answers};
 ghost use Rattle.open_shortness.specs.Shortness.{Short};
 ghost use Rattle.open_beside.specs.Rooms.{Workable};
@@ -55,14 +55,7 @@ fn print_short(file: &[u8], out: &mut [u8]) -> Writing
     let mut image = [0u16; 1024];
     let mut first = [0u16; 512];
     let mut slots = [0u32; 512];
-    print_in(
-        file,
-        &mut numbers,
-        &mut image,
-        &mut first,
-        &mut slots,
-        out,
-    )
+    print_in(file, &mut numbers, &mut image, &mut first, &mut slots, out)
 }
 
 fn print_long(file: &[u8], out: &mut [u8]) -> Writing
@@ -72,14 +65,7 @@ fn print_long(file: &[u8], out: &mut [u8]) -> Writing
     let mut image = [0u16; 65535];
     let mut first = [0u16; 16384];
     let mut slots = [0u32; 16384];
-    print_in(
-        file,
-        &mut numbers,
-        &mut image,
-        &mut first,
-        &mut slots,
-        out,
-    )
+    print_in(file, &mut numbers, &mut image, &mut first, &mut slots, out)
 }
 
 // A short file should not pay for clearing long lists. Called from two places the long way stays a function of its own.

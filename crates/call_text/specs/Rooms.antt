@@ -5,7 +5,7 @@ use mathlib.Core.Path.{_≡_, refl}
 use mathlib.Core.List.{List}
 use lib.ListN.{length, getD, replicate, length-replicate}
 use borrow.Author.Tests.{le-leb, lt-leb}
-use Rattle.listform.specs.ListCall.{listReading}
+use Rattle.meaning.specs.ListCall.{listReading}
 use Rattle.answers.specs.Answers.{Answers}
 use Rattle.answers.specs.declared.Writing.{Writing}
 use Rattle.answers.specs.declared.Writing.the-variants.{Refused}

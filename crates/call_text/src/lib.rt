@@ -6,7 +6,7 @@ use text_reader::Extent;
 use text_reader::read;
 ghost use Prim.Native.Nat.{_≤_};
 ghost use lib.ListN.{length};
-ghost use Rattle.listform.specs.ListCall.{listReading};
+ghost use Rattle.meaning.specs.ListCall.{listReading};
 ghost use Rattle.answers.specs.Answers.{Answers};
 ghost use Rattle.text_reader.specs.Reading.{Reads};
 ghost use Rattle.text_file.specs.Filing.{afterReading};

@@ -65,3 +65,4 @@ pub mod Work
 pub mod Ndl
 pub mod Withdrawn
 pub mod Filing
+pub mod Texts

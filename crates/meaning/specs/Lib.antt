@@ -35,3 +35,9 @@ pub mod Shelves
 pub mod Ndl
 pub mod Withdrawn
 pub mod Filing
+pub mod ListForm
+pub mod ListReader
+pub mod ListNumbers
+pub mod ListCall
+pub mod ListPrint
+pub mod ListLimits

@@ -4,8 +4,8 @@ use mathlib.Core.Path.{_≡_}
 use mathlib.Core.List.{List}
 use native.Mathlib.Omega.{arith}
 use lib.ListN.{length}
-use Rattle.listform.specs.ListPrint.{listText, printingOf}
-use Rattle.listform.specs.PrintLong.{long-text}
+use Rattle.meaning.specs.ListPrint.{listText, printingOf}
+use Rattle.laws.specs.Texts.PrintLong.{long-text}
 use Rattle.answers.specs.Answers.{Answers}
 use Rattle.answers.specs.declared.Writing.the-variants.{Wrote}
 use Rattle.bytes_out.specs.Filled.{Put}

@@ -3,7 +3,7 @@
 use answers::Writing;
 use print_lines::put_file;
 ghost use lib.ListN.{length};
-ghost use Rattle.listform.specs.ListPrint.{printingOf};
+ghost use Rattle.meaning.specs.ListPrint.{printingOf};
 ghost use Rattle.answers.specs.Answers.{Answers};
 ghost use Rattle.ndl_answer.specs.Numbered.{Numbered};
 ghost use Rattle.print_lines.specs.Standing.{FileTold};

@@ -8,7 +8,7 @@ use native.Mathlib.Numerals.{add-one}
 use lib.ListN.{length, length-append}
 use Rattle.meaning.specs.Lists.{All, more}
 use Rattle.meaning.specs.Layout.{each}
-use Rattle.listform.specs.ListPrint.{parted}
+use Rattle.meaning.specs.ListPrint.{parted}
 use Rattle.bytes_out.specs.Laying.{Laying}
 use Rattle.write_pieces.specs.Laying.{laying-none, laying-left, laying-more, laying-all, room-first}
 use Rattle.image.specs.Stands.{Stands, stands-front, stands-skip}

@@ -5,7 +5,7 @@ use mathlib.Core.List.{List, [], _∷_, _++_}
 use native.Mathlib.Omega.{arith}
 use lib.ListN.{length, getD}
 use Rattle.meaning.specs.Layout.{each, moduleNumbers, fileNumbers}
-use Rattle.listform.specs.ListPrint.{parted, moduleBreak, moduleList, listText}
+use Rattle.meaning.specs.ListPrint.{parted, moduleBreak, moduleList, listText}
 use Rattle.bytes_out.specs.Filled.{Put}
 use Rattle.bytes_out.specs.Laying.{Laying}
 use Rattle.write_pieces.specs.Laying.{laying-start, laying-left, laying-put, laying-last, room-first}

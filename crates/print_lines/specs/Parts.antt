@@ -5,7 +5,7 @@ use mathlib.Core.List.{List, [], _∷_, _++_, append-assoc}
 use Rattle.meaning.specs.Syntax.{Occurrence, Module}
 use Rattle.meaning.specs.Layout.{each}
 use Rattle.meaning.specs.Listing.{decimal}
-use Rattle.listform.specs.ListPrint.{parted, netsLine, moduleName, nameOf, occurrenceBreak, occurrenceList, moduleList}
+use Rattle.meaning.specs.ListPrint.{parted, netsLine, moduleName, nameOf, occurrenceBreak, occurrenceList, moduleList}
 use Rattle.ndl_pieces.specs.Apart.{signed, apart}
 
 -- Nets are apart by spaces.

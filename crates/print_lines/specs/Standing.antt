@@ -7,7 +7,7 @@ use Rattle.meaning.specs.Lists.{All}
 use Rattle.meaning.specs.Syntax.{Module}
 use Rattle.meaning.specs.Ceilings.{OccurrenceWithin, ModuleWithin, ModulesWithin}
 use Rattle.meaning.specs.Layout.{each, occurrenceNumbers, moduleNumbers, fileNumbers}
-use Rattle.listform.specs.ListPrint.{parted, occurrenceBreak, occurrenceList, moduleBreak, moduleList, listText}
+use Rattle.meaning.specs.ListPrint.{parted, occurrenceBreak, occurrenceList, moduleBreak, moduleList, listText}
 use Rattle.bytes_out.specs.Filled.{Put}
 use Rattle.write_pieces.specs.Rooms.{Room}
 use Rattle.image.specs.Stands.{Stands}

@@ -1,5 +1,5 @@
 // The whole text of a file.
-ghost use Rattle.listform.specs.ListPrint.{listText};
+ghost use Rattle.meaning.specs.ListPrint.{listText};
 ghost use Rattle.bytes_out.specs.Filled.{Put};
 ghost use Rattle.print_lines.specs.Standing.{FileTold};
 use crate::modules::put_all;

@@ -8,10 +8,10 @@ use lib.ListN.{getD}
 use borrow.Author.Tests.{ltb-true}
 use Rattle.meaning.specs.Gates.{isGate}
 use Rattle.meaning.specs.Ndl.{nameAt, letters, referenceText}
-use Rattle.listform.specs.Below.{allBelow, below}
-use Rattle.listform.specs.Numbering.{same-name}
-use Rattle.listform.specs.ListNumbers.{spelling, gateNames, sameName}
-use Rattle.listform.specs.ListPrint.{moduleName, nameOf}
+use Rattle.laws.specs.Texts.Below.{allBelow, below}
+use Rattle.laws.specs.Texts.Numbering.{same-name}
+use Rattle.meaning.specs.ListNumbers.{spelling, gateNames, sameName}
+use Rattle.meaning.specs.ListPrint.{moduleName, nameOf}
 use Rattle.print_names.specs.Entries.{leading}
 
 unfoldable pub gateTable : List ℕ

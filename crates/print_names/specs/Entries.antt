@@ -3,7 +3,7 @@ use Prim.Native.Nat.{ℕ, zero, suc}
 use mathlib.Core.Path.{_≡_, refl, ap}
 use mathlib.Core.List.{List, [], _∷_, _++_}
 use Rattle.meaning.specs.Layout.{each}
-use Rattle.listform.specs.ListPrint.{parted}
+use Rattle.meaning.specs.ListPrint.{parted}
 
 -- What stands in front of the entry at a position: nothing in front of the first.
 abbrev pub leading : (between : List ℕ) (position : ℕ) → List ℕ

@@ -1,7 +1,7 @@
 // What an occurrence refers to, by name, and what stands between two entries of a list: pieces of a printed text, each written at a place; the answer is
 // the place behind it.
 ghost use Rattle.meaning.specs.Ceilings.{Small};
-ghost use Rattle.listform.specs.ListPrint.{nameOf};
+ghost use Rattle.meaning.specs.ListPrint.{nameOf};
 ghost use Rattle.bytes_out.specs.Filled.{Put};
 ghost use Rattle.write_pieces.specs.Rooms.{Room};
 ghost use Rattle.print_names.specs.Entries.{leading};

@@ -9,10 +9,10 @@ use lib.ListN.{length, length-map}
 use Rattle.meaning.specs.Adder.{upFrom}
 use Rattle.meaning.specs.Listing.{decimal}
 use Rattle.laws.specs.Adder.Nets.{length-upFrom}
-use Rattle.listform.specs.ListForm.{Name}
-use Rattle.listform.specs.ListNumbers.{sameName, among, entered}
-use Rattle.listform.specs.Numbering.{same-name, same-itself, among-append, among-entered}
-use Rattle.listform.specs.Shelved.{Inside, in-head, in-tail}
+use Rattle.meaning.specs.ListForm.{Name}
+use Rattle.meaning.specs.ListNumbers.{sameName, among, entered}
+use Rattle.laws.specs.Texts.Numbering.{same-name, same-itself, among-append, among-entered}
+use Rattle.laws.specs.Texts.Shelved.{Inside, in-head, in-tail}
 
 -- No name twice.
 data Once : List Name → Type 0 where

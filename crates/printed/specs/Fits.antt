@@ -13,12 +13,12 @@ use Rattle.meaning.specs.Gates.{isGate}
 use Rattle.meaning.specs.Ceilings.{Small, NetsWithin, OccurrenceWithin, ModuleWithin, ModulesWithin}
 use Rattle.meaning.specs.Ndl.{netText}
 use Rattle.laws.specs.Ndl.Long.{long-numeral}
-use Rattle.listform.specs.ListForm.{Name}
-use Rattle.listform.specs.ListNumbers.{gateNames, sameName, among, entered, eachName, occurrenceNets, netsOf, apartFromGates, mentionsOf, mentions}
-use Rattle.listform.specs.ListLimits.{Short, NamesFit, OccurrenceFits, ModuleFits, ListFits}
-use Rattle.listform.specs.ListPrint.{moduleName, nameOf}
-use Rattle.listform.specs.PrintLong.{gate-letters}
-use Rattle.listform.specs.Numbering.{or-true, same-name}
+use Rattle.meaning.specs.ListForm.{Name}
+use Rattle.meaning.specs.ListNumbers.{gateNames, sameName, among, entered, eachName, occurrenceNets, netsOf, apartFromGates, mentionsOf, mentions}
+use Rattle.meaning.specs.ListLimits.{Short, NamesFit, OccurrenceFits, ModuleFits, ListFits}
+use Rattle.meaning.specs.ListPrint.{moduleName, nameOf}
+use Rattle.laws.specs.Texts.PrintLong.{gate-letters}
+use Rattle.laws.specs.Texts.Numbering.{or-true, same-name}
 use Rattle.renaming.specs.Sizes.{few-bytes}
 use Rattle.printed.specs.Listed.{listedOccurrence, listedModule, listed}
 use Rattle.printed.specs.Few.{few-entered, calledFrom, called-in, called-count}

@@ -5,8 +5,8 @@ use mathlib.Core.List.{List, [], _∷_, _++_, map, append-assoc}
 use Rattle.meaning.specs.Syntax.{Occurrence, Module}
 use Rattle.meaning.specs.Layout.{each}
 use Rattle.meaning.specs.Ndl.{netText}
-use Rattle.listform.specs.ListForm.{Name, opening, closing, space, kindOf, Part, sign, atom, inBrackets, partsOf, netParts, occurrenceParts, moduleParts, listParts, Follows, aSign, aSpace, Written, ended, spaced, signed, named, Lists, plain}
-use Rattle.listform.specs.ListPrint.{parted, netsLine, moduleName, nameOf, occurrenceBreak, occurrenceList, moduleBreak, moduleList, listText}
+use Rattle.meaning.specs.ListForm.{Name, opening, closing, space, kindOf, Part, sign, atom, inBrackets, partsOf, netParts, occurrenceParts, moduleParts, listParts, Follows, aSign, aSpace, Written, ended, spaced, signed, named, Lists, plain}
+use Rattle.meaning.specs.ListPrint.{parted, netsLine, moduleName, nameOf, occurrenceBreak, occurrenceList, moduleBreak, moduleList, listText}
 use Rattle.printed.specs.Listed.{listedOccurrence, listedModule, listed}
 use Rattle.printed.specs.Words.{Spelled, net-spelled, module-spelled, name-spelled}
 

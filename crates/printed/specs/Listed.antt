@@ -2,8 +2,8 @@
 use mathlib.Core.List.{List, map}
 use Rattle.meaning.specs.Syntax.{Occurrence, Module}
 use Rattle.meaning.specs.Ndl.{netText}
-use Rattle.listform.specs.ListForm.{ListedOccurrence, ListedModule}
-use Rattle.listform.specs.ListPrint.{moduleName, nameOf}
+use Rattle.meaning.specs.ListForm.{ListedOccurrence, ListedModule}
+use Rattle.meaning.specs.ListPrint.{moduleName, nameOf}
 
 abbrev pub listedOccurrence : Occurrence → ListedOccurrence
 listedOccurrence o = record { drives = map netText (o .drives); refers = nameOf (o .refers); takes = map netText (o .takes) }

@@ -14,12 +14,12 @@ use Rattle.meaning.specs.Listing.{decimal}
 use Rattle.meaning.specs.Ndl.{netText}
 use Rattle.laws.specs.Ndl.Spans.{both}
 use Rattle.laws.specs.Ndl.Numerals.{equal-numerals}
-use Rattle.listform.specs.ListForm.{Name}
-use Rattle.listform.specs.ListNumbers.{spelling, gateNames, sameName, among, position, numberAmong}
-use Rattle.listform.specs.ListPrint.{moduleName, nameOf}
-use Rattle.listform.specs.Below.{allBelow, below}
-use Rattle.listform.specs.Numbering.{same-name, position-below}
-use Rattle.listform.specs.Shelved.{Inside, in-head, in-tail}
+use Rattle.meaning.specs.ListForm.{Name}
+use Rattle.meaning.specs.ListNumbers.{spelling, gateNames, sameName, among, position, numberAmong}
+use Rattle.meaning.specs.ListPrint.{moduleName, nameOf}
+use Rattle.laws.specs.Texts.Below.{allBelow, below}
+use Rattle.laws.specs.Texts.Numbering.{same-name, position-below}
+use Rattle.laws.specs.Texts.Shelved.{Inside, in-head, in-tail}
 use Rattle.printed.specs.Behind.{behindAll, behindGates, Places}
 
 -- Two names at one place are one.

@@ -10,11 +10,11 @@ use Rattle.meaning.specs.Syntax.{Occurrence, Module}
 use Rattle.meaning.specs.Gates.{isGate}
 use Rattle.meaning.specs.Ceilings.{OccurrenceWithin, ModuleWithin}
 use Rattle.meaning.specs.Ndl.{netText}
-use Rattle.listform.specs.ListForm.{Name}
-use Rattle.listform.specs.ListNumbers.{gateNames, among, position, entered, eachName, occurrenceNets, netsOf, apartFromGates, mentionsOf, mentions, numberAmong, numberedOccurrence, numberedModule, numbered}
-use Rattle.listform.specs.ListPrint.{moduleName, nameOf}
-use Rattle.listform.specs.Numbering.{among-entered}
-use Rattle.listform.specs.Shelved.{Inside, in-left, in-right, in-head, in-tail, in-apart}
+use Rattle.meaning.specs.ListForm.{Name}
+use Rattle.meaning.specs.ListNumbers.{gateNames, among, position, entered, eachName, occurrenceNets, netsOf, apartFromGates, mentionsOf, mentions, numberAmong, numberedOccurrence, numberedModule, numbered}
+use Rattle.meaning.specs.ListPrint.{moduleName, nameOf}
+use Rattle.laws.specs.Texts.Numbering.{among-entered}
+use Rattle.laws.specs.Texts.Shelved.{Inside, in-left, in-right, in-head, in-tail, in-apart}
 use Rattle.renaming.specs.Renamed.{KeepsGates, renameOccurrence, renameModule, Renamed}
 use Rattle.renaming.specs.Renamed as renaming
 use Rattle.printed.specs.Listed.{listedOccurrence, listedModule, listed}

@@ -20,13 +20,13 @@ use Rattle.laws.specs.WellFormed as accepted
 use Rattle.laws.specs.Accepted.{good-accepted}
 use Rattle.laws.specs.Exactness.{exactness}
 use Rattle.laws.specs.RoundTrip.{round-trip as reads-written}
-use Rattle.listform.specs.ListNumbers.{numbered}
-use Rattle.listform.specs.ListCall.{mostText, reading, listReading}
-use Rattle.listform.specs.ListPrint.{listText, printingOf, listPrinting}
-use Rattle.listform.specs.PrintLong.{long-text}
-use Rattle.listform.specs.Answered.{refusal-no-answer}
-use Rattle.listform.specs.Exactly.{fitting-answered}
-use Rattle.listform.specs.Shelved.{numbered-within}
+use Rattle.meaning.specs.ListNumbers.{numbered}
+use Rattle.meaning.specs.ListCall.{mostText, reading, listReading}
+use Rattle.meaning.specs.ListPrint.{listText, printingOf, listPrinting}
+use Rattle.laws.specs.Texts.PrintLong.{long-text}
+use Rattle.laws.specs.Texts.Answered.{refusal-no-answer}
+use Rattle.laws.specs.Texts.Exactly.{fitting-answered}
+use Rattle.laws.specs.Texts.Shelved.{numbered-within}
 use Rattle.renaming.specs.Renamed.{KeepsGates, Renamed}
 use Rattle.renaming.specs.Verdicts.{verdict-renamed}
 use Rattle.renaming.specs.Calls.{flatteningUnder, same-evaluation, same-counting, same-flattening}

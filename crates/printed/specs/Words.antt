@@ -12,10 +12,10 @@ use Rattle.meaning.specs.Listing.{decimal}
 use Rattle.meaning.specs.Ndl.{isDigit, every, netText}
 use Rattle.laws.specs.Ndl.Spans.{both}
 use Rattle.laws.specs.Ndl.Numerals.{digits}
-use Rattle.listform.specs.ListForm.{Name, Kind, letter, space, Kind.sign as signKind, kindOf, capital, Letters, last, then}
-use Rattle.listform.specs.ListNumbers.{spelling, gateNames}
-use Rattle.listform.specs.ListPrint.{moduleName, nameOf}
-use Rattle.listform.specs.Below.{allBelow, below}
+use Rattle.meaning.specs.ListForm.{Name, Kind, letter, space, Kind.sign as signKind, kindOf, capital, Letters, last, then}
+use Rattle.meaning.specs.ListNumbers.{spelling, gateNames}
+use Rattle.meaning.specs.ListPrint.{moduleName, nameOf}
+use Rattle.laws.specs.Texts.Below.{allBelow, below}
 
 pub record Spelled (w : Name) : Type 0 where
   pub letters : Letters w

@@ -3,8 +3,8 @@ use crate::written::report;
 ghost use mathlib.Core.Path.{_≡_};
 ghost use lib.ListN.{length};
 ghost use Rattle.meaning.specs.Calls.{outAfter};
-ghost use Rattle.listform.specs.ListCall.{listReading};
-ghost use Rattle.listform.specs.ListPrint.{listPrinting};
+ghost use Rattle.meaning.specs.ListCall.{listReading};
+ghost use Rattle.meaning.specs.ListPrint.{listPrinting};
 ghost use Rattle.shelf_c.specs.Results.{Reports};
 
 #[no_mangle]

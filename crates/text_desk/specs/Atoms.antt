@@ -7,12 +7,12 @@ use mathlib.Core.List.{List, [], _∷_, _++_, map, append-nil, append-assoc}
 use lib.Dec.{leb}
 use lib.ListN.{length, getD, set, length-append}
 use lib.Seq.{getD-append-seam}
-use Rattle.listform.specs.ListForm.{Name, ListedOccurrence, ListedModule, Part, sign, atom}
-use Rattle.listform.specs.ListReader.{Stage, listDue, modules, nameDue, inputsDue, inputs, outputsDue, outputs, bodyDue, body, drivesDue, drives, callDue, refersDue, takes, occurrenceEnd, moduleEnd, Stand, start, at, finished, astray, next, _and_, isAstray}
-use Rattle.listform.specs.ListNumbers.{gateNames, among, position, entered, eachName, occurrenceNets, mentionsOf, numberAmong}
-use Rattle.listform.specs.ListCall.{overAt, tooLong}
-use Rattle.listform.specs.Numbering.{Behind, behind-behind, entered-behind, entered-append}
-use Rattle.listform.specs.Sheets.{done, heading, ports, withNets, withBody, sheet, net-laid}
+use Rattle.meaning.specs.ListForm.{Name, ListedOccurrence, ListedModule, Part, sign, atom}
+use Rattle.meaning.specs.ListReader.{Stage, listDue, modules, nameDue, inputsDue, inputs, outputsDue, outputs, bodyDue, body, drivesDue, drives, callDue, refersDue, takes, occurrenceEnd, moduleEnd, Stand, start, at, finished, astray, next, _and_, isAstray}
+use Rattle.meaning.specs.ListNumbers.{gateNames, among, position, entered, eachName, occurrenceNets, mentionsOf, numberAmong}
+use Rattle.meaning.specs.ListCall.{overAt, tooLong}
+use Rattle.laws.specs.Texts.Numbering.{Behind, behind-behind, entered-behind, entered-append}
+use Rattle.laws.specs.Texts.Sheets.{done, heading, ports, withNets, withBody, sheet, net-laid}
 use Rattle.text_modes.specs.Modes.{modeOf}
 use Rattle.text_desk.specs.Desk.{Desk, raised, isName, withName, withNet}
 use Rattle.text_desk.specs.Known.{number-is, position-later, entered-known, nets-full, names-full}

@@ -7,13 +7,13 @@ use lib.Dec.{leb}
 use lib.ListN.{length, getD}
 use lib.Seq.{getD-append-seam}
 use Rattle.meaning.specs.Layout.{fileNumbers}
-use Rattle.listform.specs.ListForm.{Name, ListedOccurrence, ListedModule, Sign, mark, opening, closing, stray, Part, sign, atom}
-use Rattle.listform.specs.ListReader.{Stage, listDue, modules, nameDue, inputsDue, inputs, outputsDue, outputs, bodyDue, body, drivesDue, drives, callDue, refersDue, takes, occurrenceEnd, moduleEnd, Stand, start, at, finished, astray, next, step, _and_}
-use Rattle.listform.specs.ListNumbers.{gateNames, entered, eachName, netsOf, occurrenceNets, apartFromGates, mentions, mentionsOf, numbered, numberedModule}
-use Rattle.listform.specs.ListCall.{overAt, over}
-use Rattle.listform.specs.Fitting.{each-append, each-one, listed, occurs}
-use Rattle.listform.specs.Numbering.{Behind, behind-itself}
-use Rattle.listform.specs.Sheets.{done, ports, withBody, occurred, sheet, occurrence-laid, module-laid, file-laid}
+use Rattle.meaning.specs.ListForm.{Name, ListedOccurrence, ListedModule, Sign, mark, opening, closing, stray, Part, sign, atom}
+use Rattle.meaning.specs.ListReader.{Stage, listDue, modules, nameDue, inputsDue, inputs, outputsDue, outputs, bodyDue, body, drivesDue, drives, callDue, refersDue, takes, occurrenceEnd, moduleEnd, Stand, start, at, finished, astray, next, step, _and_}
+use Rattle.meaning.specs.ListNumbers.{gateNames, entered, eachName, netsOf, occurrenceNets, apartFromGates, mentions, mentionsOf, numbered, numberedModule}
+use Rattle.meaning.specs.ListCall.{overAt, over}
+use Rattle.laws.specs.Texts.Fitting.{each-append, each-one, listed, occurs}
+use Rattle.laws.specs.Texts.Numbering.{Behind, behind-itself}
+use Rattle.laws.specs.Texts.Sheets.{done, ports, withBody, occurred, sheet, occurrence-laid, module-laid, file-laid}
 use Rattle.text_modes.specs.Modes.{modeOf}
 use Rattle.text_desk.specs.Desk.{Desk, opened, openedOver}
 use Rattle.text_desk.specs.Known.{behind-gates}

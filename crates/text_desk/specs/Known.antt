@@ -7,10 +7,10 @@ use mathlib.Core.List.{List, [], _∷_, _++_, append-nil, append-assoc}
 use lib.Dec.{leb}
 use lib.ListN.{length, length-append}
 use borrow.Author.Tests.{leb-true, leb-false, le-leb, lt-leb}
-use Rattle.listform.specs.ListForm.{Name}
-use Rattle.listform.specs.ListNumbers.{spelling, gateNames, sameName, among, position, entered, apartFromGates, numberAmong}
-use Rattle.listform.specs.ListCall.{newOver, mostNetNames, mostModuleNames}
-use Rattle.listform.specs.Numbering.{or-true, same-itself, among-append, among-entered, position-front, Behind}
+use Rattle.meaning.specs.ListForm.{Name}
+use Rattle.meaning.specs.ListNumbers.{spelling, gateNames, sameName, among, position, entered, apartFromGates, numberAmong}
+use Rattle.meaning.specs.ListCall.{newOver, mostNetNames, mostModuleNames}
+use Rattle.laws.specs.Texts.Numbering.{or-true, same-itself, among-append, among-entered, position-front, Behind}
 
 -- Entered behind the gates, a name that is a gate's is no new one.
 pub behind-gates : (known xs : List Name) → entered (gateNames ++ known) xs ≡ gateNames ++ entered known (apartFromGates xs)

@@ -7,11 +7,11 @@ use mathlib.Core.List.{List, [], _∷_, _++_, map}
 use lib.Dec.{leb}
 use lib.ListN.{length, getD}
 use lib.Seq.{getD-append-seam}
-use Rattle.listform.specs.ListForm.{Name, ListedOccurrence, ListedModule, Part, sign, atom}
-use Rattle.listform.specs.ListReader.{Stage, listDue, modules, nameDue, inputsDue, inputs, outputsDue, outputs, bodyDue, body, drivesDue, drives, callDue, refersDue, takes, occurrenceEnd, moduleEnd, Stand, start, at, finished, astray, next, _and_, isAstray}
-use Rattle.listform.specs.ListNumbers.{among, position, numberAmong}
-use Rattle.listform.specs.ListCall.{overAt, tooLong}
-use Rattle.listform.specs.Sheets.{heading, ports, withNets, withBody, sheet}
+use Rattle.meaning.specs.ListForm.{Name, ListedOccurrence, ListedModule, Part, sign, atom}
+use Rattle.meaning.specs.ListReader.{Stage, listDue, modules, nameDue, inputsDue, inputs, outputsDue, outputs, bodyDue, body, drivesDue, drives, callDue, refersDue, takes, occurrenceEnd, moduleEnd, Stand, start, at, finished, astray, next, _and_, isAstray}
+use Rattle.meaning.specs.ListNumbers.{among, position, numberAmong}
+use Rattle.meaning.specs.ListCall.{overAt, tooLong}
+use Rattle.laws.specs.Texts.Sheets.{heading, ports, withNets, withBody, sheet}
 use Rattle.text_modes.specs.Modes.{modeOf}
 use Rattle.text_desk.specs.Desk.{Desk, isName}
 use Rattle.text_desk.specs.Known.{nets-full, names-full}

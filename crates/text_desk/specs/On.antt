@@ -5,11 +5,11 @@ use mathlib.Core.Path.{_≡_}
 use mathlib.Core.List.{List, [], _∷_, _++_, map}
 use lib.ListN.{length}
 use Rattle.meaning.specs.Layout.{fileNumbers}
-use Rattle.listform.specs.ListForm.{Name, ListedOccurrence, ListedModule}
-use Rattle.listform.specs.ListReader.{Stage, listDue, modules, nameDue, inputsDue, inputs, outputsDue, outputs, bodyDue, body, drivesDue, drives, callDue, refersDue, takes, occurrenceEnd, moduleEnd, Stand, start, at, finished, astray, _and_}
-use Rattle.listform.specs.ListNumbers.{gateNames, entered, eachName, occurrenceNets, mentionsOf, numberAmong, numbered}
-use Rattle.listform.specs.Numbering.{Behind}
-use Rattle.listform.specs.Sheets.{heading, ports, withNets, withBody, called, sheet}
+use Rattle.meaning.specs.ListForm.{Name, ListedOccurrence, ListedModule}
+use Rattle.meaning.specs.ListReader.{Stage, listDue, modules, nameDue, inputsDue, inputs, outputsDue, outputs, bodyDue, body, drivesDue, drives, callDue, refersDue, takes, occurrenceEnd, moduleEnd, Stand, start, at, finished, astray, _and_}
+use Rattle.meaning.specs.ListNumbers.{gateNames, entered, eachName, occurrenceNets, mentionsOf, numberAmong, numbered}
+use Rattle.laws.specs.Texts.Numbering.{Behind}
+use Rattle.laws.specs.Texts.Sheets.{heading, ports, withNets, withBody, called, sheet}
 use Rattle.text_desk.specs.Desk.{Desk}
 
 abbrev mentionedIn : List ListedModule → Name → List ListedOccurrence → List Name

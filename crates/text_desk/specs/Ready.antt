@@ -5,10 +5,10 @@ use mathlib.Core.Path.{_≡_, refl, sym, _∙_, ap}
 use mathlib.Core.Bool.{Bool, true, false}
 use mathlib.Core.List.{List, [], _∷_, _++_, map}
 use lib.ListN.{length, length-append}
-use Rattle.listform.specs.ListForm.{Name, ListedOccurrence, ListedModule, Part, sign, atom}
-use Rattle.listform.specs.ListReader.{Stage, listDue, modules, nameDue, inputsDue, inputs, outputsDue, outputs, bodyDue, body, drivesDue, drives, callDue, refersDue, takes, occurrenceEnd, moduleEnd, Stand, start, at, finished, astray, next, _and_, isAstray}
-use Rattle.listform.specs.ListNumbers.{position, numberAmong}
-use Rattle.listform.specs.Sheets.{done, heading, ports, withNets, withBody, occurred, sheet}
+use Rattle.meaning.specs.ListForm.{Name, ListedOccurrence, ListedModule, Part, sign, atom}
+use Rattle.meaning.specs.ListReader.{Stage, listDue, modules, nameDue, inputsDue, inputs, outputsDue, outputs, bodyDue, body, drivesDue, drives, callDue, refersDue, takes, occurrenceEnd, moduleEnd, Stand, start, at, finished, astray, next, _and_, isAstray}
+use Rattle.meaning.specs.ListNumbers.{position, numberAmong}
+use Rattle.laws.specs.Texts.Sheets.{done, heading, ports, withNets, withBody, occurred, sheet}
 use Rattle.text_modes.specs.Modes.{modeOf}
 use Rattle.text_desk.specs.Desk.{Desk, isName}
 use Rattle.text_desk.specs.On.{Laid, On}

@@ -9,13 +9,13 @@ use lib.Dec.{eqb, leb}
 use lib.ListN.{length, getD, set, length-append}
 use lib.Seq.{getD-append-seam}
 use Rattle.meaning.specs.Layout.{each, fileNumbers}
-use Rattle.listform.specs.ListForm.{Name, ListedOccurrence, ListedModule, Sign, mark, opening, closing, stray, Part, sign, atom}
-use Rattle.listform.specs.ListReader.{Stage, listDue, modules, nameDue, inputsDue, inputs, outputsDue, outputs, bodyDue, body, drivesDue, drives, callDue, refersDue, takes, occurrenceEnd, moduleEnd, Stand, start, at, finished, astray, next, step, _and_}
-use Rattle.listform.specs.ListNumbers.{gateNames, entered, eachName, netsOf, occurrenceNets, mentions, mentionsOf, numberAmong, numbered, numberedModule}
-use Rattle.listform.specs.ListCall.{overAt, over, full}
-use Rattle.listform.specs.Fitting.{each-append, each-one, listed, occurs}
-use Rattle.listform.specs.Numbering.{Behind, behind-itself}
-use Rattle.listform.specs.Sheets.{done, heading, ports, withNets, withBody, occurred, called, sheet, occurrence-begun, occurrence-laid, module-laid, file-laid}
+use Rattle.meaning.specs.ListForm.{Name, ListedOccurrence, ListedModule, Sign, mark, opening, closing, stray, Part, sign, atom}
+use Rattle.meaning.specs.ListReader.{Stage, listDue, modules, nameDue, inputsDue, inputs, outputsDue, outputs, bodyDue, body, drivesDue, drives, callDue, refersDue, takes, occurrenceEnd, moduleEnd, Stand, start, at, finished, astray, next, step, _and_}
+use Rattle.meaning.specs.ListNumbers.{gateNames, entered, eachName, netsOf, occurrenceNets, mentions, mentionsOf, numberAmong, numbered, numberedModule}
+use Rattle.meaning.specs.ListCall.{overAt, over, full}
+use Rattle.laws.specs.Texts.Fitting.{each-append, each-one, listed, occurs}
+use Rattle.laws.specs.Texts.Numbering.{Behind, behind-itself}
+use Rattle.laws.specs.Texts.Sheets.{done, heading, ports, withNets, withBody, occurred, called, sheet, occurrence-begun, occurrence-laid, module-laid, file-laid}
 use Rattle.text_modes.specs.Modes.{modeOf}
 use Rattle.text_desk.specs.Desk.{Desk, opened, openedOver}
 use Rattle.text_desk.specs.Known.{behind-gates}

@@ -15,11 +15,11 @@ use Rattle.meaning.specs.Ceilings.{Small, ModulesWithin, Within}
 use Rattle.meaning.specs.Verdict.{Verdict, good, refused, fileVerdict}
 use Rattle.meaning.specs.Calls.{Decision, refusal, answer, demand, ifGood, Written, fitting, onFile, moduleCount, outAfter}
 use Rattle.laws.specs.RoundTrip.{round-trip}
-use Rattle.listform.specs.ListForm.{ListedModule}
-use Rattle.listform.specs.ListNumbers.{numbered}
-use Rattle.listform.specs.ListCall.{reading, onListed, shelving}
-use Rattle.listform.specs.Answered.{answered-fits}
-use Rattle.listform.specs.Shelved.{numbered-within}
+use Rattle.meaning.specs.ListForm.{ListedModule}
+use Rattle.meaning.specs.ListNumbers.{numbered}
+use Rattle.meaning.specs.ListCall.{reading, onListed, shelving}
+use Rattle.laws.specs.Texts.Answered.{answered-fits}
+use Rattle.laws.specs.Texts.Shelved.{numbered-within}
 use Rattle.answers.specs.Answers.{writingOf, Answers}
 use Rattle.answers.specs.Contents.{listedOf}
 use Rattle.answers.specs.declared.Listed.the-variants as listed

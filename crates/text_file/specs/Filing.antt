@@ -9,8 +9,8 @@ use Rattle.meaning.specs.Syntax.{Module}
 use Rattle.meaning.specs.Layout.{each, encode, fileNumbers}
 use Rattle.meaning.specs.Ceilings.{ModulesWithin, Within}
 use Rattle.meaning.specs.Calls.{Decision, Written}
-use Rattle.listform.specs.ListNumbers.{numbered}
-use Rattle.listform.specs.ListCall.{reading, onListed, shelving}
+use Rattle.meaning.specs.ListNumbers.{numbered}
+use Rattle.meaning.specs.ListCall.{reading, onListed, shelving}
 use Rattle.text_reader.specs.declared.Extent.{Extent}
 use Rattle.text_reader.specs.Reading.{Reads}
 

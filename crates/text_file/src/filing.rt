@@ -8,7 +8,7 @@ ghost use lib.ListN.{length};
 ghost use Rattle.meaning.specs.Verdict.{fileVerdict};
 ghost use Rattle.meaning.specs.Layout.{each, numberBytes, encode};
 ghost use Rattle.meaning.specs.Calls.{ifGood, fitting};
-ghost use Rattle.listform.specs.ListCall.{shelving};
+ghost use Rattle.meaning.specs.ListCall.{shelving};
 ghost use Rattle.answers.specs.Answers.{Answers};
 ghost use Rattle.text_file.specs.Filing.{Whole, Filed, bytesIn};
 

@@ -2,7 +2,7 @@
 use Prim.Native.Nat.{ℕ, _<_}
 use native.Mathlib.Omega.{arith}
 use mathlib.Core.Path.{_≡_, refl}
-use Rattle.listform.specs.ListForm.{Sign, mark, opening, closing, stray, Kind, letter, space, Kind.sign as signKind}
+use Rattle.meaning.specs.ListForm.{Sign, mark, opening, closing, stray, Kind, letter, space, Kind.sign as signKind}
 use Rattle.text_modes.specs.Modes.{signCode, kindCode}
 
 pub code-space : (k : Kind) → kindCode k ≡ 5 → k ≡ space

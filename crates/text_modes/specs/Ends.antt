@@ -6,9 +6,9 @@ use mathlib.Core.Path.{_≡_, refl, sym, _∙_, ap}
 use mathlib.Core.List.{List, [], _∷_, map}
 use lib.ListN.{length, take, drop, getD, drop-of-length-le}
 use lib.Seq.{drop-cons}
-use Rattle.listform.specs.ListForm.{Sign, mark, opening, closing, stray, Kind, letter, space, Kind.sign as signKind, kindOf, capital}
-use Rattle.listform.specs.ListCall.{oneMore, word}
-use Rattle.listform.specs.Answered.{word-of}
+use Rattle.meaning.specs.ListForm.{Sign, mark, opening, closing, stray, Kind, letter, space, Kind.sign as signKind, kindOf, capital}
+use Rattle.meaning.specs.ListCall.{oneMore, word}
+use Rattle.laws.specs.Texts.Answered.{word-of}
 use Rattle.text_modes.specs.Modes.{signCode, kindCode}
 
 pub code-letter : (k : Kind) → kindCode k ≡ 4 → k ≡ letter

@@ -3,8 +3,8 @@ use Prim.Native.Nat.{ℕ}
 use mathlib.Core.Bool.{Bool, true, false}
 use mathlib.Core.List.{List, [], _∷_}
 use lib.ListN.{getD}
-use Rattle.listform.specs.ListForm.{Name, Sign, mark, opening, closing, stray, Kind, letter, space, Kind.sign as signKind, Part, sign, atom}
-use Rattle.listform.specs.ListReader.{Stage, listDue, modules, nameDue, inputsDue, inputs, outputsDue, outputs, bodyDue, body, drivesDue, drives, callDue, refersDue, takes, occurrenceEnd, moduleEnd, Stand, start, at, finished, astray}
+use Rattle.meaning.specs.ListForm.{Name, Sign, mark, opening, closing, stray, Kind, letter, space, Kind.sign as signKind, Part, sign, atom}
+use Rattle.meaning.specs.ListReader.{Stage, listDue, modules, nameDue, inputsDue, inputs, outputsDue, outputs, bodyDue, body, drivesDue, drives, callDue, refersDue, takes, occurrenceEnd, moduleEnd, Stand, start, at, finished, astray}
 
 abbrev pub signCode : Sign → ℕ
 signCode mark = 0

@@ -7,9 +7,9 @@ use mathlib.Core.List.{List, [], _∷_}
 use lib.Dec.{eqb, leb}
 use lib.ListN.{getD}
 use borrow.Author.Tests.{eqb-true}
-use Rattle.listform.specs.Below.{allBelow, below}
-use Rattle.listform.specs.ListForm.{Name, Sign, mark, opening, closing, stray, kindOf, Part, sign, atom}
-use Rattle.listform.specs.ListReader.{Stage, listDue, modules, nameDue, inputsDue, inputs, outputsDue, outputs, bodyDue, body, drivesDue, drives, callDue, refersDue, takes, occurrenceEnd, moduleEnd, Stand, start, at, finished, astray, row, next, step, isAstray}
+use Rattle.laws.specs.Texts.Below.{allBelow, below}
+use Rattle.meaning.specs.ListForm.{Name, Sign, mark, opening, closing, stray, kindOf, Part, sign, atom}
+use Rattle.meaning.specs.ListReader.{Stage, listDue, modules, nameDue, inputsDue, inputs, outputsDue, outputs, bodyDue, body, drivesDue, drives, callDue, refersDue, takes, occurrenceEnd, moduleEnd, Stand, start, at, finished, astray, row, next, step, isAstray}
 use Rattle.text_modes.specs.Modes.{signCode, partCode, kindCode, modeOf, modes, modeAfter, isFinished}
 
 -- A test that holds of so many numbers from one on holds of each of them.

@@ -2,8 +2,8 @@
 ghost use mathlib.Core.Path.{_≡_};
 ghost use Prim.Native.Nat.{_+_, _≤_, _<_};
 ghost use lib.ListN.{length, drop};
-ghost use Rattle.listform.specs.ListForm.{kindOf};
-ghost use Rattle.listform.specs.ListCall.{word};
+ghost use Rattle.meaning.specs.ListForm.{kindOf};
+ghost use Rattle.meaning.specs.ListCall.{word};
 ghost use Rattle.text_modes.specs.Modes.{kindCode, modeAfter};
 
 // The kind of a byte below the digits.

@@ -3,7 +3,7 @@ use Prim.Native.Nat.{ℕ, _-_, _≤_, _<_}
 use native.Mathlib.Omega.{arith}
 use mathlib.Core.Path.{_≡_}
 use borrow.Author.Tests.{le-leb, lt-leb}
-use Rattle.listform.specs.ListForm.{capital}
+use Rattle.meaning.specs.ListForm.{capital}
 
 pub capital-lower : (b : ℕ) → 97 ≤ b → b ≤ 122 → capital b ≡ b - 32
 unfolding capital

@@ -5,8 +5,8 @@ use mathlib.Core.Path.{_≡_, refl, sym, _∙_, ap}
 use mathlib.Core.Bool.{Bool, true, false, cond}
 use mathlib.Core.List.{List, [], _∷_, _++_}
 use lib.ListN.{length, set, length-set, length-append, List·getD-append}
-use Rattle.listform.specs.ListForm.{Name}
-use Rattle.listform.specs.ListNumbers.{among, position}
+use Rattle.meaning.specs.ListForm.{Name}
+use Rattle.meaning.specs.ListNumbers.{among, position}
 use Rattle.text_names.specs.Tree.{Word, root, wordAt, numberOf, Tree, Book, Reached}
 use Rattle.text_names.specs.Walking.{pushed}
 use Rattle.text_names.specs.Numbers.{numberIn, Numbers, numbers-stay, given-tree, given-other}

@@ -7,9 +7,9 @@ use mathlib.Core.Bool.{Bool, true, false, cond, _||_}
 use mathlib.Core.List.{List, [], _∷_, _++_}
 use lib.ListN.{length, getD, set}
 use lib.Seq.{getD-set-same, getD-set-other}
-use Rattle.listform.specs.ListForm.{Name}
-use Rattle.listform.specs.ListNumbers.{sameName, among, position}
-use Rattle.listform.specs.Numbering.{or-false, same-name, same-itself, among-append, position-front}
+use Rattle.meaning.specs.ListForm.{Name}
+use Rattle.meaning.specs.ListNumbers.{sameName, among, position}
+use Rattle.laws.specs.Texts.Numbering.{or-false, same-name, same-itself, among-append, position-front}
 use Rattle.text_names.specs.Tree.{Word, root, wordAt, numberOf, Tree, Book}
 use Rattle.text_names.specs.Walking.{pushed}
 use Rattle.text_names.specs.Numbers.{numberIn, Placed, Numbers, one-name}

@@ -3,7 +3,7 @@ use Prim.Native.Nat.{ℕ, _+_, _*_, _≤_, _<_}
 use mathlib.Core.Path.{_≡_}
 use mathlib.Core.List.{List, map}
 use lib.ListN.{length}
-use Rattle.listform.specs.ListForm.{Name, capital}
+use Rattle.meaning.specs.ListForm.{Name, capital}
 use Rattle.text_names.specs.Tree.{Word, root, wordAt, Book, Reached}
 use Rattle.text_names.specs.Walking.{pushed}
 use Rattle.text_names.specs.Giving.{Rooted, Entered}

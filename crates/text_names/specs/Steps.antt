@@ -8,7 +8,7 @@ use mathlib.Core.List.{List, [], _∷_, _++_, map, map-append}
 use lib.Dec.{eqb}
 use lib.ListN.{length, take, getD}
 use lib.Seq.{take-suc, take-all}
-use Rattle.listform.specs.ListForm.{capital}
+use Rattle.meaning.specs.ListForm.{capital}
 use Rattle.text_names.specs.Tree.{Word, longer, wordAt, Book, Reached}
 use Rattle.text_names.specs.Walking.{pushed, pushed-and, grownBy, reached-itself, reached-on}
 use Rattle.text_names.specs.Needs.{nameOf, Steppable, Walkable, Walked}

@@ -7,7 +7,7 @@ use mathlib.Core.List.{List, [], _∷_, _++_, map, append-nil, append-assoc}
 use lib.Dec.{eqb}
 use lib.ListN.{length, set, length-set, length-append, List·getD-append}
 use borrow.Author.Tests.{eq-eqb, ne-eqb}
-use Rattle.listform.specs.ListForm.{Name}
+use Rattle.meaning.specs.ListForm.{Name}
 use Rattle.text_names.specs.Tree.{Word, root, longer, rootOf, wordAt, firstOf, numberOf, Tree, Book, Sought, Reached}
 use Rattle.text_names.specs.Growing.{grown-length, new-word, hang}
 use Rattle.text_names.specs.Hanging.{hung-tree}

@@ -2,7 +2,7 @@
 // (specs/Tree.antt). A letter costs at most as many steps as there are letters, so there is no text that is bad for it.
 ghost use mathlib.Core.Path.{_≡_};
 ghost use Prim.Native.Nat.{_<_};
-ghost use Rattle.listform.specs.ListForm.{capital};
+ghost use Rattle.meaning.specs.ListForm.{capital};
 ghost use Rattle.text_names.specs.Tree.{longer, wordAt, Book, Sought, Reached};
 ghost use Rattle.text_names.specs.Walking.{grownBy};
 ghost use Rattle.text_names.specs.Needs.{Seekable, Steppable, Walkable, Walked, Numberable, Numbered};

@@ -10,10 +10,10 @@ use lib.ListN.{length, take, drop, getD, length-drop, length-take}
 use lib.Seq.{getD-take, length-take-le}
 use borrow.Author.Tests.{eq-eqb, ne-eqb, le-leb, lt-leb, lt-ltb, le-ltb}
 use Rattle.meaning.specs.Calls.{refusal}
-use Rattle.listform.specs.ListForm.{Name, Kind, letter, kindOf}
-use Rattle.listform.specs.ListNumbers.{entered, position}
-use Rattle.listform.specs.ListCall.{word, reading, tooLong}
-use Rattle.listform.specs.Numbering.{or-true}
+use Rattle.meaning.specs.ListForm.{Name, Kind, letter, kindOf}
+use Rattle.meaning.specs.ListNumbers.{entered, position}
+use Rattle.meaning.specs.ListCall.{word, reading, tooLong}
+use Rattle.laws.specs.Texts.Numbering.{or-true}
 use Rattle.text_names.specs.Walking.{grownBy}
 use Rattle.text_names.specs.Needs.{nameOf, Numberable, Numbered}
 use Rattle.text_modes.specs.Modes.{kindCode, modeAfter}

@@ -7,9 +7,9 @@ use mathlib.Core.List.{List, [], _∷_, _++_}
 use lib.Dec.{eqb, leb}
 use lib.ListN.{length, length-append}
 use borrow.Author.Tests.{eq-eqb, ne-eqb, le-leb, lt-leb}
-use Rattle.listform.specs.ListForm.{Name}
-use Rattle.listform.specs.ListNumbers.{among, position, entered}
-use Rattle.listform.specs.Numbering.{same-itself, position-below}
+use Rattle.meaning.specs.ListForm.{Name}
+use Rattle.meaning.specs.ListNumbers.{among, position, entered}
+use Rattle.laws.specs.Texts.Numbering.{same-itself, position-below}
 use Rattle.text_names.specs.Tree.{Word, root, wordAt, Tree, Book}
 use Rattle.text_names.specs.Growing.{grown-length, old-word, new-word}
 use Rattle.text_names.specs.Roots.{root-tree}

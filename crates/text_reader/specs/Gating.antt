@@ -9,10 +9,10 @@ use lib.Dec.{eqb, leb}
 use lib.ListN.{length, take, drop, getD}
 use lib.Seq.{take-suc}
 use borrow.Author.Tests.{eqb-true, leb-true, lt-leb}
-use Rattle.listform.specs.Below.{allBelow, below}
-use Rattle.listform.specs.ListForm.{Name, capital}
-use Rattle.listform.specs.ListNumbers.{spelling, sameName, among, gateNames, entered}
-use Rattle.listform.specs.Numbering.{same-name, entered-append}
+use Rattle.laws.specs.Texts.Below.{allBelow, below}
+use Rattle.meaning.specs.ListForm.{Name, capital}
+use Rattle.meaning.specs.ListNumbers.{spelling, sameName, among, gateNames, entered}
+use Rattle.laws.specs.Texts.Numbering.{same-name, entered-append}
 use Rattle.text_names.specs.Tree.{Word, root, wordAt, own, Tree, Book}
 use Rattle.text_names.specs.Roots.{root-tree}
 use Rattle.text_names.specs.Walking.{grownBy}

@@ -5,8 +5,8 @@ use mathlib.Core.Path.{_≡_, refl, sym, _∙_, ap}
 use mathlib.Core.List.{List, []}
 use lib.ListN.{length, take, getD}
 use Rattle.meaning.specs.Calls.{refusal, answer}
-use Rattle.listform.specs.ListNumbers.{gateNames}
-use Rattle.listform.specs.ListCall.{reading}
+use Rattle.meaning.specs.ListNumbers.{gateNames}
+use Rattle.meaning.specs.ListCall.{reading}
 use Rattle.text_desk.specs.Paper.{deskOf}
 use Rattle.text_reader.specs.declared.Extent.{Extent}
 use Rattle.text_reader.specs.declared.turns.State.{State}

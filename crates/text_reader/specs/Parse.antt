@@ -11,12 +11,12 @@ use lib.Seq.{drop-cons, drop-drop}
 use borrow.Author.Tests.{le-leb, lt-leb}
 use Rattle.meaning.specs.Layout.{fileNumbers}
 use Rattle.meaning.specs.Calls.{Decision, refusal, answer, demand}
-use Rattle.listform.specs.ListForm.{Name, ListedModule, Sign, mark, opening, closing, stray, Kind, letter, space, Kind.sign as signKind, kindOf, Part, sign, atom}
-use Rattle.listform.specs.ListReader.{Stage, Stand, start, at, finished, astray, next, step, isAstray, front}
-use Rattle.listform.specs.ListNumbers.{gateNames, entered, position, numbered}
-use Rattle.listform.specs.ListCall.{over, word, concluded, readingFrom, reading}
-use Rattle.listform.specs.Divided.{spot}
-use Rattle.listform.specs.Words.{by-kind, whole-atom}
+use Rattle.meaning.specs.ListForm.{Name, ListedModule, Sign, mark, opening, closing, stray, Kind, letter, space, Kind.sign as signKind, kindOf, Part, sign, atom}
+use Rattle.meaning.specs.ListReader.{Stage, Stand, start, at, finished, astray, next, step, isAstray, front}
+use Rattle.meaning.specs.ListNumbers.{gateNames, entered, position, numbered}
+use Rattle.meaning.specs.ListCall.{over, word, concluded, readingFrom, reading}
+use Rattle.laws.specs.Texts.Divided.{spot}
+use Rattle.laws.specs.Texts.Words.{by-kind, whole-atom}
 use Rattle.text_modes.specs.Modes.{signCode, partCode, modeOf, modeAfter}
 use Rattle.text_modes.specs.Right.{mode-step, astray-mode}
 use Rattle.text_desk.specs.Desk.{Desk, opened, openedOver, isName, withName, withNet}

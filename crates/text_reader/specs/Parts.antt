@@ -7,11 +7,11 @@ use mathlib.Core.List.{List, [], _∷_, _++_}
 use lib.ListN.{length, drop, getD, drop-of-length-le}
 use Rattle.meaning.specs.Layout.{fileNumbers}
 use Rattle.meaning.specs.Calls.{Decision, refusal, answer}
-use Rattle.listform.specs.ListForm.{Name, ListedModule, Sign, mark, opening, closing, stray, Kind, letter, space, Kind.sign as signKind, kindOf, Part, sign, atom}
-use Rattle.listform.specs.ListReader.{Stage, listDue, modules, nameDue, inputsDue, inputs, outputsDue, outputs, bodyDue, body, drivesDue, drives, callDue, refersDue, takes, occurrenceEnd, moduleEnd, Stand, start, at, finished, astray, step, isAstray}
-use Rattle.listform.specs.ListNumbers.{entered, position, numbered}
-use Rattle.listform.specs.ListCall.{over, word, concluded, readingFrom, reading}
-use Rattle.listform.specs.Divided.{spot}
+use Rattle.meaning.specs.ListForm.{Name, ListedModule, Sign, mark, opening, closing, stray, Kind, letter, space, Kind.sign as signKind, kindOf, Part, sign, atom}
+use Rattle.meaning.specs.ListReader.{Stage, listDue, modules, nameDue, inputsDue, inputs, outputsDue, outputs, bodyDue, body, drivesDue, drives, callDue, refersDue, takes, occurrenceEnd, moduleEnd, Stand, start, at, finished, astray, step, isAstray}
+use Rattle.meaning.specs.ListNumbers.{entered, position, numbered}
+use Rattle.meaning.specs.ListCall.{over, word, concluded, readingFrom, reading}
+use Rattle.laws.specs.Texts.Divided.{spot}
 use Rattle.text_modes.specs.Modes.{signCode, modeOf, modeAfter}
 use Rattle.text_desk.specs.Desk.{Desk, opened, openedOver, isName, withName, withNet}
 use Rattle.text_desk.specs.On.{Stands}

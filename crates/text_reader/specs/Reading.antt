@@ -7,9 +7,9 @@ use lib.Dec.{eqb}
 use lib.ListN.{length, drop, take, getD}
 use Rattle.meaning.specs.Layout.{fileNumbers}
 use Rattle.meaning.specs.Calls.{Decision, refusal, answer}
-use Rattle.listform.specs.ListForm.{Name, ListedModule, Kind, letter, Kind.sign as signKind, opening, kindOf}
-use Rattle.listform.specs.ListNumbers.{numbered}
-use Rattle.listform.specs.ListCall.{word, reading, mostText}
+use Rattle.meaning.specs.ListForm.{Name, ListedModule, Kind, letter, Kind.sign as signKind, opening, kindOf}
+use Rattle.meaning.specs.ListNumbers.{numbered}
+use Rattle.meaning.specs.ListCall.{word, reading, mostText}
 use Rattle.text_modes.specs.Modes.{kindCode, modeAfter}
 use Rattle.text_desk.specs.Desk.{isName}
 use Rattle.text_desk.specs.Paper.{deskOf}

@@ -6,11 +6,11 @@ use mathlib.Core.Bool.{Bool, true, false}
 use mathlib.Core.List.{List, [], _∷_, _++_}
 use lib.ListN.{length}
 use Rattle.meaning.specs.Layout.{each}
-use Rattle.listform.specs.ListForm.{Name, ListedOccurrence, ListedModule, Sign, mark, opening, closing, stray, Part, sign, atom}
-use Rattle.listform.specs.ListReader.{Stage, listDue, modules, nameDue, inputsDue, inputs, outputsDue, outputs, bodyDue, body, drivesDue, drives, callDue, refersDue, takes, occurrenceEnd, moduleEnd, Stand, start, at, finished, astray, next, step, isAstray}
-use Rattle.listform.specs.ListNumbers.{gateNames, entered, eachName, position}
-use Rattle.listform.specs.ListCall.{over, overAt}
-use Rattle.listform.specs.Sheets.{done, sheet}
+use Rattle.meaning.specs.ListForm.{Name, ListedOccurrence, ListedModule, Sign, mark, opening, closing, stray, Part, sign, atom}
+use Rattle.meaning.specs.ListReader.{Stage, listDue, modules, nameDue, inputsDue, inputs, outputsDue, outputs, bodyDue, body, drivesDue, drives, callDue, refersDue, takes, occurrenceEnd, moduleEnd, Stand, start, at, finished, astray, next, step, isAstray}
+use Rattle.meaning.specs.ListNumbers.{gateNames, entered, eachName, position}
+use Rattle.meaning.specs.ListCall.{over, overAt}
+use Rattle.laws.specs.Texts.Sheets.{done, sheet}
 use Rattle.text_modes.specs.Modes.{modeOf}
 use Rattle.text_desk.specs.Desk.{Desk, opened, openedOver, isName, withName, withNet}
 use Rattle.text_desk.specs.On.{mentionedAt, netsAt, Laid, On, Empty, Stands}

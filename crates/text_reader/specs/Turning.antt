@@ -9,8 +9,8 @@ use lib.ListN.{length, getD}
 use native.Mathlib.Decide.{ℕ-discrete}
 use borrow.Author.Tests.{eq-eqb, ne-eqb}
 use Rattle.meaning.specs.Calls.{refusal}
-use Rattle.listform.specs.ListForm.{Name, Sign, mark, opening, closing, stray, Kind, letter, space, Kind.sign as signKind, kindOf}
-use Rattle.listform.specs.ListCall.{reading}
+use Rattle.meaning.specs.ListForm.{Name, Sign, mark, opening, closing, stray, Kind, letter, space, Kind.sign as signKind, kindOf}
+use Rattle.meaning.specs.ListCall.{reading}
 use Rattle.text_modes.specs.Modes.{signCode, kindCode, modeOf, modeAfter}
 use Rattle.text_modes.specs.Right.{mode-below, stray-mode, mark-mode}
 use Rattle.text_modes.specs.Codes.{code-space, SignOf, sign-of}

@@ -9,9 +9,9 @@ use lib.Dec.{eqb}
 use lib.ListN.{length, getD, take, drop, drop-of-length-le, length-drop}
 use lib.Seq.{drop-cons}
 use borrow.Author.Tests.{eq-eqb, ne-eqb}
-use Rattle.listform.specs.ListForm.{Name, kindOf, capital}
-use Rattle.listform.specs.ListNumbers.{sameName}
-use Rattle.listform.specs.ListCall.{word}
+use Rattle.meaning.specs.ListForm.{Name, kindOf, capital}
+use Rattle.meaning.specs.ListNumbers.{sameName}
+use Rattle.meaning.specs.ListCall.{word}
 use Rattle.text_modes.specs.Modes.{kindCode}
 use Rattle.text_modes.specs.Ends.{spelt}
 use Rattle.text_words.specs.declared.Cursor.{Cursor}

@@ -3,9 +3,9 @@ use Prim.Native.Nat.{ℕ}
 use native.Mathlib.Omega.{arith}
 use mathlib.Core.Path.{_≡_, refl, _∙_, ap}
 use mathlib.Core.List.{List, [], _∷_, _++_, map}
-use Rattle.listform.specs.ListForm.{Name, Sign, mark, opening, closing, stray, Kind, letter, space, Kind.sign as signKind, kindOf, capital, Part, sign, atom, Letters, last, then, Follows, nothing, aSign, aSpace, Written, ended, spaced, signed, named}
-use Rattle.listform.specs.ListCall.{word}
-use Rattle.listform.specs.Answered.{word-of}
+use Rattle.meaning.specs.ListForm.{Name, Sign, mark, opening, closing, stray, Kind, letter, space, Kind.sign as signKind, kindOf, capital, Part, sign, atom, Letters, last, then, Follows, nothing, aSign, aSpace, Written, ended, spaced, signed, named}
+use Rattle.meaning.specs.ListCall.{word}
+use Rattle.laws.specs.Texts.Answered.{word-of}
 use Rattle.text_words.specs.Seeking.{toAtom}
 
 -- The atoms of some parts, in order.

@@ -7,7 +7,7 @@ use mathlib.Core.List.{List, [], _∷_, _++_, map, append-assoc}
 use lib.Dec.{eqb}
 use lib.ListN.{length}
 use borrow.Author.Tests.{eq-eqb, ne-eqb}
-use Rattle.listform.specs.ListForm.{Name, opening, closing, Kind, letter, space, Kind.sign as signKind, kindOf, Part, sign, atom, inBrackets, partsOf, Letters, last, then, Written, ended, spaced, signed, named}
+use Rattle.meaning.specs.ListForm.{Name, opening, closing, Kind, letter, space, Kind.sign as signKind, kindOf, Part, sign, atom, inBrackets, partsOf, Letters, last, then, Written, ended, spaced, signed, named}
 use Rattle.text_modes.specs.Modes.{signCode, kindCode}
 use Rattle.text_words.specs.declared.Cursor.{Cursor}
 use Rattle.text_words.specs.Seeking.{cursorAfter, behind}

@@ -4,8 +4,8 @@ use native.Mathlib.Omega.{arith}
 use mathlib.Core.Path.{_≡_, refl, _∙_, ap, subst}
 use mathlib.Core.List.{List, [], _∷_, _++_, map}
 use lib.ListN.{length}
-use Rattle.listform.specs.ListForm.{Name, ListedOccurrence, ListedModule, mark, closing, Part, sign, atom, inBrackets, partsOf, netParts, occurrenceParts, moduleParts, listParts, Written, Lists, plain, quoted}
-use Rattle.listform.specs.ListCall.{word}
+use Rattle.meaning.specs.ListForm.{Name, ListedOccurrence, ListedModule, mark, closing, Part, sign, atom, inBrackets, partsOf, netParts, occurrenceParts, moduleParts, listParts, Written, Lists, plain, quoted}
+use Rattle.meaning.specs.ListCall.{word}
 use Rattle.text_words.specs.Seeking.{toAtom, moduleFrom}
 use Rattle.text_words.specs.Brackets.{behindParts, parts-behind, Passed, pass-both, pass-atom, pass-atoms, pass-each, opened, pass-list, in-order}
 use Rattle.text_words.specs.Atoms.{atomsIn, first-found}

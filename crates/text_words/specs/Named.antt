@@ -8,9 +8,9 @@ use lib.ListN.{length, drop, length-append, length-map}
 use lib.Seq.{drop-at}
 use Rattle.meaning.specs.Lists.{All, none, more}
 use Rattle.meaning.specs.Syntax.{Module}
-use Rattle.listform.specs.ListForm.{Name, ListedModule, Lists}
-use Rattle.listform.specs.ListNumbers.{sameName, entered, mentions, numberedModule, numbered}
-use Rattle.listform.specs.Numbering.{same-itself}
+use Rattle.meaning.specs.ListForm.{Name, ListedModule, Lists}
+use Rattle.meaning.specs.ListNumbers.{sameName, entered, mentions, numberedModule, numbered}
+use Rattle.laws.specs.Texts.Numbering.{same-itself}
 use Rattle.text_words.specs.Seeking.{firstNamed}
 use Rattle.text_words.specs.Listed.{name-found}
 

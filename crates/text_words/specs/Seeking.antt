@@ -5,9 +5,9 @@ use mathlib.Core.Bool.{true, false, cond}
 use mathlib.Core.List.{List, [], _∷_}
 use lib.Dec.{eqb}
 use lib.ListN.{length, take, drop}
-use Rattle.listform.specs.ListForm.{Name, kindOf}
-use Rattle.listform.specs.ListNumbers.{sameName}
-use Rattle.listform.specs.ListCall.{word}
+use Rattle.meaning.specs.ListForm.{Name, kindOf}
+use Rattle.meaning.specs.ListNumbers.{sameName}
+use Rattle.meaning.specs.ListCall.{word}
 use Rattle.text_modes.specs.Modes.{kindCode}
 use Rattle.text_words.specs.declared.Cursor.{Cursor}
 

@@ -8,8 +8,8 @@ ghost use mathlib.Core.List.{map};
 ghost use Prim.Native.Nat.{_+_, _≤_, _<_, _^_};
 ghost use lib.Dec.{eqb};
 ghost use lib.ListN.{length, drop};
-ghost use Rattle.listform.specs.ListForm.{kindOf, capital};
-ghost use Rattle.listform.specs.ListNumbers.{sameName};
+ghost use Rattle.meaning.specs.ListForm.{kindOf, capital};
+ghost use Rattle.meaning.specs.ListNumbers.{sameName};
 ghost use Rattle.text_modes.specs.Modes.{kindCode};
 ghost use Rattle.text_words.specs.Seeking.{cursorAfter, behind, toAtom, Sought, asWritten, moduleFrom, firstNamed};
 

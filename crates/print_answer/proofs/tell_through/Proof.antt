@@ -2,7 +2,7 @@
 use mathlib.Core.Path.{sym}
 use borrow.Author.Needs.{needs}
 use lib.Seq.{length-take-le}
-use Rattle.listform.specs.ListPrint.{listText}
+use Rattle.meaning.specs.ListPrint.{listText}
 use Rattle.bytes_out.specs.Filled.{Filled}
 use Rattle.bytes_out.specs.Puts.{put-front, front-within}
 use Rattle.write_order.proofs.Answering.{answers-laid}

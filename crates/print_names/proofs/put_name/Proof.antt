@@ -1,7 +1,7 @@
 -- `put_name` meets its contract: the gates' own names are lent. Assumes nothing.
 use mathlib.Core.Path.{refl}
 use borrow.Author.Needs.{needs}
-use Rattle.listform.specs.ListNumbers.{spelling}
+use Rattle.meaning.specs.ListNumbers.{spelling}
 use Rattle.print_names.proofs.Naming.{gateTable, named-by-table}
 use Rattle.print_names.proofs.put_name.Statement.{statement}
 use Rattle.print_names.proofs.put_name.Tie as tie

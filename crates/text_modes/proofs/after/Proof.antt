@@ -6,7 +6,7 @@ use mathlib.Core.Path.{_≡_, refl, sym}
 use mathlib.Core.List.{[], _∷_}
 use borrow.Author.Tests.{ne-eqb}
 use Rattle.text_modes.specs.Modes.{modes, modeAfter}
-use Rattle.listform.specs.Below.{allBelow}
+use Rattle.laws.specs.Texts.Below.{allBelow}
 use Rattle.text_modes.specs.Right.{among, else-astray, stray-mode}
 use Rattle.text_modes.proofs.after.Statement.{statement}
 use Rattle.text_modes.proofs.after.Tie as tie

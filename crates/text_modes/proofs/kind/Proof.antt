@@ -1,8 +1,8 @@
 -- Each range of bytes is of one kind.
 use native.Mathlib.Omega.{arith}
 use mathlib.Core.Path.{refl}
-use Rattle.listform.specs.ListForm.{kindOf}
-use Rattle.listform.specs.Below.{allBelow}
+use Rattle.meaning.specs.ListForm.{kindOf}
+use Rattle.laws.specs.Texts.Below.{allBelow}
 use Rattle.text_modes.specs.Right.{kind-within}
 use Rattle.text_modes.proofs.kind.Statement.{statement}
 use Rattle.text_modes.proofs.kind.Tie as tie

@@ -3,9 +3,9 @@ use mathlib.Core.List.{[], _∷_}
 use mathlib.Core.Path.{refl}
 use lib.Dec.{eqb}
 use borrow.Author.Tests.{ne-eqb, eqb-true}
-use Rattle.listform.specs.ListForm.{kindOf}
+use Rattle.meaning.specs.ListForm.{kindOf}
 use Rattle.text_modes.specs.Modes.{kindCode}
-use Rattle.listform.specs.Below.{allBelow}
+use Rattle.laws.specs.Texts.Below.{allBelow}
 use Rattle.text_modes.specs.Right.{among, but-for}
 use Rattle.text_modes.proofs.kind_below.Statement.{statement}
 use Rattle.text_modes.proofs.kind_below.Tie as tie

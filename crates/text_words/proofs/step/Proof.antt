@@ -1,7 +1,7 @@
 use Prim.Native.Nat.{ℕ}
 use native.Mathlib.Omega.{arith}
 use mathlib.Core.Path.{_≡_, refl, sym, _∙_}
-use Rattle.listform.specs.ListForm.{kindOf}
+use Rattle.meaning.specs.ListForm.{kindOf}
 use Rattle.text_modes.specs.Modes.{kindCode}
 use Rattle.text_words.proofs.Steps.{opens-other, opens-it, opens-like, closes, passes}
 use borrow.Author.Needs.{needs}

@@ -9,7 +9,7 @@ use lib.ListN.{take, drop}
 use Rattle.meaning.specs.Lists.{All}
 use Rattle.meaning.specs.Syntax.{Module}
 use Rattle.meaning.specs.Ceilings.{Small}
-use Rattle.listform.specs.ListPrint.{parted, occurrenceBreak, occurrenceList, moduleBreak}
+use Rattle.meaning.specs.ListPrint.{parted, occurrenceBreak, occurrenceList, moduleBreak}
 use Rattle.bytes_out.specs.Filled.{Put}
 use Rattle.bytes_out.specs.Laying.{Laying}
 use Rattle.write_pieces.specs.Rooms.{Room}

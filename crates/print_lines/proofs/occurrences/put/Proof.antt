@@ -9,7 +9,7 @@ use lib.ListN.{take, drop}
 use Rattle.meaning.specs.Lists.{All}
 use Rattle.meaning.specs.Syntax.{Occurrence}
 use Rattle.meaning.specs.Ceilings.{Small}
-use Rattle.listform.specs.ListPrint.{occurrenceBreak}
+use Rattle.meaning.specs.ListPrint.{occurrenceBreak}
 use Rattle.bytes_out.specs.Laying.{Laying}
 use Rattle.write_pieces.specs.Rooms.{Room}
 use Rattle.write_pieces.specs.Laying.{laying-start, laying-left, laying-put, laying-last, room-first}

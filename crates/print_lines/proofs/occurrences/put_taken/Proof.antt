@@ -4,7 +4,7 @@ use mathlib.Core.List.{List, [], _∷_, _++_}
 use Prim.Native.Nat.{ℕ}
 use borrow.Author.Needs.{needs}
 use Rattle.meaning.specs.Layout.{each}
-use Rattle.listform.specs.ListPrint.{nameOf}
+use Rattle.meaning.specs.ListPrint.{nameOf}
 use Rattle.bytes_out.specs.Laying.{Laying}
 use Rattle.write_pieces.specs.Laying.{laying-start, laying-left, laying-put, laying-last, room-first}
 use Rattle.ndl_pieces.specs.Apart.{signed}

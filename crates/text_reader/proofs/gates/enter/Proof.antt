@@ -1,6 +1,6 @@
 use borrow.Author.Needs.{needs}
 use mathlib.Core.Path.{refl}
-use Rattle.listform.specs.ListNumbers.{spelling}
+use Rattle.meaning.specs.ListNumbers.{spelling}
 use Rattle.text_reader.specs.Gating.{gateBytes}
 use Rattle.text_reader.proofs.gates.enter.Statement.{statement}
 use Rattle.text_reader.proofs.gates.enter.Tie as tie

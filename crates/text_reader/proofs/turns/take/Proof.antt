@@ -1,5 +1,5 @@
 use lib.ListN.{getD}
-use Rattle.listform.specs.ListForm.{kindOf}
+use Rattle.meaning.specs.ListForm.{kindOf}
 use Rattle.text_modes.specs.Codes.{part-few}
 use native.Mathlib.Omega.{arith}
 use mathlib.Core.Path.{sym, _∙_}

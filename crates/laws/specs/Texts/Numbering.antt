@@ -7,9 +7,9 @@ use mathlib.Core.List.{List, [], _∷_, _++_, append-nil, append-assoc}
 use lib.Dec.{leb, eqb}
 use lib.ListN.{length, length-append}
 use borrow.Author.Tests.{leb-false, eq-eqb, eqb-true}
-use Rattle.listform.specs.ListForm.{Name}
-use Rattle.listform.specs.ListNumbers.{gateNames, sameName, among, position, entered, eachName, apartFromGates}
-use Rattle.listform.specs.ListCall.{full, newOver}
+use Rattle.meaning.specs.ListForm.{Name}
+use Rattle.meaning.specs.ListNumbers.{gateNames, sameName, among, position, entered, eachName, apartFromGates}
+use Rattle.meaning.specs.ListCall.{full, newOver}
 
 pub or-false : (t : Bool) → (t || false) ≡ t
 or-false true = refl

@@ -13,11 +13,11 @@ use Rattle.meaning.specs.Ceilings.{Small, OccurrenceWithin, ModuleWithin, Modul
 use Rattle.meaning.specs.Layout.{each, numberBytes, encode}
 use Rattle.meaning.specs.Listing.{space, decimal}
 use Rattle.meaning.specs.Ndl.{netText}
 use Rattle.laws.specs.Written.{netsBytes, occurrenceBytes, moduleBytes, bytes-of-nets, bytes-of-occurrence, bytes-of-module, bytes-of-file}
 use Rattle.laws.specs.Ndl.Long.{long-numeral}
-use Rattle.listform.specs.Below.{allBelow, below}
-use Rattle.listform.specs.ListNumbers.{spelling, gateNames}
-use Rattle.listform.specs.ListPrint.{parted, netsLine, moduleName, nameOf, occurrenceBreak, occurrenceList, moduleBreak, moduleList, listText}
+use Rattle.laws.specs.Texts.Below.{allBelow, below}
+use Rattle.meaning.specs.ListNumbers.{spelling, gateNames}
+use Rattle.meaning.specs.ListPrint.{parted, netsLine, moduleName, nameOf, occurrenceBreak, occurrenceList, moduleBreak, moduleList, listText}
 
 some-byte : (n : ℕ) → 1 ≤ length (numberBytes n)
 unfolding numberBytes

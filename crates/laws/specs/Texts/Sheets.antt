@@ -7,10 +7,10 @@ use mathlib.Core.List.{List, [], _∷_, _++_, map, append-nil, append-assoc, map
 use lib.ListN.{length, set, length-append, length-map}
 use Rattle.meaning.specs.Syntax.{Occurrence, Module}
 use Rattle.meaning.specs.Layout.{each, occurrenceNumbers, moduleNumbers, fileNumbers}
 use Rattle.laws.specs.Lists.{each-append}
-use Rattle.listform.specs.ListForm.{Name, ListedOccurrence, ListedModule}
-use Rattle.listform.specs.ListReader.{Stage, listDue, modules, nameDue, inputsDue, inputs, outputsDue, outputs, bodyDue, body, drivesDue, drives, callDue, refersDue, takes, occurrenceEnd, moduleEnd, _and_}
-use Rattle.listform.specs.ListNumbers.{position, entered, netsOf, numberAmong, numberedOccurrence, numberedWith, numberedModule, numbered, mentions}
+use Rattle.meaning.specs.ListForm.{Name, ListedOccurrence, ListedModule}
+use Rattle.meaning.specs.ListReader.{Stage, listDue, modules, nameDue, inputsDue, inputs, outputsDue, outputs, bodyDue, body, drivesDue, drives, callDue, refersDue, takes, occurrenceEnd, moduleEnd, _and_}
+use Rattle.meaning.specs.ListNumbers.{position, entered, netsOf, numberAmong, numberedOccurrence, numberedWith, numberedModule, numbered, mentions}
 
 module _ (names nets : List Name) where
   unfoldable pub done : List ListedModule → List ℕ

@@ -13,14 +13,14 @@ use Prim.Native.Nat.{ℕ}
 use mathlib.Core.Bool.{cond}
 use mathlib.Core.List.{List, [], _∷_, _++_}
 use lib.ListN.{getD}
 use Rattle.meaning.specs.Syntax.{Occurrence, Module}
 use Rattle.meaning.specs.Gates.{isGate}
 use Rattle.meaning.specs.Layout.{each}
 use Rattle.meaning.specs.Listing.{space, lineFeed, decimal}
 use Rattle.meaning.specs.Calls.{Decision, Written, onFile, fitting}
 use Rattle.meaning.specs.Ndl.{netText}
-use Rattle.listform.specs.ListForm.{Name}
-use Rattle.listform.specs.ListNumbers.{gateNames}
+use Rattle.meaning.specs.ListForm.{Name}
+use Rattle.meaning.specs.ListNumbers.{gateNames}
 
 -- What a list's entries are written as, with the same bytes between any two.
 unfoldable pub parted : {A : Type 0} → (between : List ℕ) → (A → List ℕ) → List A → List ℕ

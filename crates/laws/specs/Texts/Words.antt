@@ -7,12 +7,12 @@ use mathlib.Core.Bool.{Bool, true, false, not}
 use mathlib.Core.List.{List, [], _∷_, _++_, append-nil, append-assoc}
 use lib.ListN.{length, drop}
 use Rattle.meaning.specs.Calls.{Decision, refusal, answer, demand}
-use Rattle.listform.specs.ListForm.{Name, ListedModule, Kind, letter, space, Kind.sign as signKind, kindOf, capital, sign, atom}
-use Rattle.listform.specs.ListReader.{Stand, _and_, step, Spot, withAtom, settled, taking, take1, isAstray}
-use Rattle.listform.specs.ListCall.{over, oneMore, word, beginsOver, concluded, readingFrom}
-use Rattle.listform.specs.Divided.{spot}
-use Rattle.listform.specs.Place.{any-atom}
-use Rattle.listform.specs.Answered.{word-of}
+use Rattle.meaning.specs.ListForm.{Name, ListedModule, Kind, letter, space, Kind.sign as signKind, kindOf, capital, sign, atom}
+use Rattle.meaning.specs.ListReader.{Stand, _and_, step, Spot, withAtom, settled, taking, take1, isAstray}
+use Rattle.meaning.specs.ListCall.{over, oneMore, word, beginsOver, concluded, readingFrom}
+use Rattle.laws.specs.Texts.Divided.{spot}
+use Rattle.laws.specs.Texts.Place.{any-atom}
+use Rattle.laws.specs.Texts.Answered.{word-of}
 
 -- One byte of reading, by its kind.
 abbrev pub byteStep : (place : ℕ) → Spot → (b : ℕ) → List ℕ → Kind → Decision (List ListedModule)
