@@ -40,13 +40,27 @@ fn mask_of(kept: usize) -> [u8; 32]
     mask
 }
 
-// A row: 32 bits from a place on, of which the mask keeps the first.
+// 32 bits from a place on, of which the mask keeps the first. They stand in an array of their own: no store into that can change where the bits
+// stand, so that the compiler makes operations on vectors of it.
+fn masked(bits: &[u8], from: usize, mask: &[u8; 32]) -> [u8; 32]
+    requires { ⌜ from + 32 ≤ length (now bits) ⌝ }
+    ensures { λ r. ⌜ Masked (now (bits .entry)) from (now (mask .entry)) r ⌝ }
+{
+    let mut row = [0u8; 32];
+    for j in 0..32 {
+        row[j] = bits[from + j] & mask[j];
+    }
+    row
+}
+
+// A row.
 fn lay_row(bits: &[u8], from: usize, mask: &[u8; 32], row: &mut [u8])
     requires { ⌜ Maskable (length (now bits)) from (length (now row)) ⌝ }
     ensures { λ _. ⌜ Masked (now (bits .entry)) from (now (mask .entry)) (now (row .exit)) ⌝ }
 {
+    let laid = masked(bits, from, mask);
     for j in 0..32 {
-        row[j] = bits[from + j] & mask[j];
+        row[j] = laid[j];
     }
 }
 

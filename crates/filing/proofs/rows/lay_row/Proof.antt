@@ -1,75 +1,54 @@
--- Each entry that was passed is masked.
+-- Each entry that was passed is copied.
 use Prim.Native.Nat.{ℕ, _+_, _-_, _≤_, _<_}
 use mathlib.Core.Path.{_≡_, refl, _∙_}
 use mathlib.Core.List.{List}
 use native.Mathlib.Omega.{arith}
 use borrow.Author.Count.{below-none, below-more}
-use lib.Bits.{bitAnd}
+use borrow.Author.Needs.{needs}
 use lib.ListN.{length, getD, set, length-set}
 use lib.Seq.{getD-set-same, getD-set-other}
 use Rattle.filing.proofs.rows.lay_row.Statement.{statement}
 use Rattle.filing.proofs.rows.lay_row.Tie as tie
 
-abbrev maskedAt : (bits : List ℕ) (from : ℕ) (mask row : List ℕ) → ℕ → Type 0
-maskedAt bits from mask row k = getD row k 0 ≡ bitAnd (getD bits (from + k) 0) (getD mask k 0)
-
 abbrev Inv-loop : tie.InvT-loop
-Inv-loop bits from mask row₀ j₀ row j =
-    (j ≤ 32) × (length row ≡ length row₀) × ((k : ℕ) → k < j → maskedAt bits from mask row k)
+Inv-loop bits from mask row₀ laid j₀ row j =
+    (j ≤ 32) × (length row ≡ length row₀) × ((k : ℕ) → k < j → getD row k 0 ≡ getD laid k 0)
 
 abbrev μ-loop : tie.MeasureT-loop
-μ-loop bits from mask row₀ j₀ row j = 32 - j
+μ-loop bits from mask row₀ laid j₀ row j = 32 - j
 
 again :
-    (bits : List ℕ) (from : ℕ) (mask row : List ℕ) (j : ℕ) → j < length row
-    → ((k : ℕ) → k < j → maskedAt bits from mask row k)
-    → (k : ℕ) → k < j + 1
-    → maskedAt bits from mask (set row j (bitAnd (getD bits (from + j) 0) (getD mask j 0))) k
-again bits from mask row j inside all =
-    let here = bitAnd (getD bits (from + j) 0) (getD mask j 0) in
-    below-more (λ k. maskedAt bits from mask (set row j here) k) j
-    (λ k l. getD-set-other row j k here 0 (λ e. omega arith) ∙ all k l)
-    (getD-set-same row j here 0 inside)
+    (laid row : List ℕ) (j : ℕ) → j < length row → ((k : ℕ) → k < j → getD row k 0 ≡ getD laid k 0)
+    → (k : ℕ) → k < j + 1 → getD (set row j (getD laid j 0)) k 0 ≡ getD laid k 0
+again laid row j inside all =
+    below-more (λ k. getD (set row j (getD laid j 0)) k 0 ≡ getD laid k 0) j
+    (λ k l. getD-set-other row j k (getD laid j 0) 0 (λ e. omega arith) ∙ all k l)
+    (getD-set-same row j (getD laid j 0) 0 inside)
 
-loop-holds : tie.Need-loop-holds Inv-loop μ-loop
-loop-holds c = (omega arith, refl, below-none _)
+-- Where the row was made, and the entry.
+abbrev made : tie.At-loop Inv-loop μ-loop → tie.After-masked Inv-loop μ-loop
+made c = c .before
 
-add-row : tie.Need-add-row Inv-loop μ-loop
-add-row c = omega (arith, c .before .before .pre .long)
-
-shared-slice-read-row : tie.Need-shared-slice-read-row Inv-loop μ-loop
-shared-slice-read-row c = omega (arith, c .before .before .before .pre .long)
-
-element-copy-out-row : tie.Need-element-copy-out-row Inv-loop μ-loop
-element-copy-out-row c = omega arith
-
-slice-write-row : tie.Need-slice-write-row Inv-loop μ-loop
-slice-write-row c = omega (arith, c .before .before .before .before .pre .whole)
-
-add-j : tie.Need-add-j Inv-loop μ-loop
-add-j c = omega arith
-
-loop-less : tie.Need-loop-less Inv-loop μ-loop
-loop-less c = omega arith
+abbrev entry : tie.After-masked Inv-loop μ-loop → tie.Start Inv-loop μ-loop
+entry c = c .before .before .before
 
 loop-again : tie.Need-loop-again Inv-loop μ-loop
 loop-again c =
-    let l = c .before .before .before .loop in
-    let s = c .before .before .before .before in
-    let a = s .args in (
+    let l = c .before .loop in
+    let s = entry (made (c .before)) in (
       omega arith,
       simp length-set (omega arith),
-      again (a .bits .now) (a .from) (a .mask .now) (l .row) (l .j) (omega (arith, s .pre .whole)) (l .inv .2),
+      again (made (c .before) .masked .result) (l .row) (l .j) (omega (arith, s .pre .whole)) (l .inv .2),
     )
-
-same-length : tie.Need-same-length Inv-loop μ-loop
-same-length c = omega arith
 
 returns : tie.Need-returns Inv-loop μ-loop
 returns c =
     let l = c .before .loop in
-    let s = c .before .before in
-    record { whole = omega (arith, s .pre .whole); at = λ k h. l .inv .2 k (omega arith) }
+    let m = made (c .before) in
+    record {
+      whole = omega (arith, entry m .pre .whole);
+      at = λ k h. l .inv .2 k (omega arith) ∙ m .masked .ensures .at k h;
+    }
 
 pub lay-row-spec : {M : Type 1} → statement M
 lay-row-spec =
@@ -77,13 +56,12 @@ lay-row-spec =
     (tie.spec
     Inv-loop
     μ-loop
-    loop-holds
-    add-row
-    shared-slice-read-row
-    element-copy-out-row
-    slice-write-row
-    add-j
-    loop-less
+    (λ c κs. search needs)
+    (λ c. (omega arith, refl, below-none _))
+    (λ c. omega arith)
+    (λ c. omega (arith, entry (made (c .before)) .pre .whole))
+    (λ c. omega arith)
+    (λ c. omega arith)
     loop-again
-    same-length
+    (λ c. omega arith)
     returns)
