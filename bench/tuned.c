@@ -747,53 +747,62 @@ static void count_reached(uint32_t k)
             count_module(i);
 }
 
-static uint16_t frame_times[ROOM];
+/* When a net arrives, with one for every gate and by a family: both in one walk. */
+struct times {
+    uint32_t unit, family;
+};
 
-static void run_times(uint32_t k, uint16_t *frame)
+static struct times frame_times[ROOM];
+
+static inline struct times later(struct times a, struct times b)
+{
+    return (struct times){a.unit < b.unit ? b.unit : a.unit, a.family < b.family ? b.family : a.family};
+}
+
+static void run_times(uint32_t k, struct times *frame, const uint8_t *family)
 {
     const struct module *m = &modules[k];
     const uint16_t *at = image + m->image;
-    uint16_t *next = frame + m->ins, *inner_frame = frame + m->nets;
+    struct times *next = frame + m->ins, *inner_frame = frame + m->nets;
 
     for (uint32_t i = 0; i < m->runs; i++) {
         uint32_t refers = *at++;
 
         if (refers < GATES) {
-            uint16_t latest = 0;
+            struct times latest = {0, 0};
 
             for (uint32_t j = 0; j < arity[refers]; j++, at++)
-                if (frame[*at] > latest)
-                    latest = frame[*at];
-            *next++ = (uint16_t)(latest + 1);
+                latest = later(latest, frame[*at]);
+            *next++ = (struct times){latest.unit + 1, latest.family + family[refers]};
         } else {
             uint32_t inner = refers - GATES;
 
             for (uint32_t j = 0; j < modules[inner].ins; j++)
                 inner_frame[j] = frame[*at++];
-            run_times(inner, inner_frame);
+            run_times(inner, inner_frame, family);
             for (uint32_t j = 0; j < modules[inner].outs; j++)
                 *next++ = inner_frame[output_slots[inner][j]];
         }
     }
 }
 
-static uint32_t delay(uint32_t k)
+static struct times delays(uint32_t k, const uint8_t *family)
 {
-    uint32_t latest = 0;
+    struct times latest = {0, 0};
 
     memset(frame_times, 0, modules[k].ins * sizeof *frame_times);
-    run_times(k, frame_times);
+    run_times(k, frame_times, family);
     for (uint32_t i = 0; i < modules[k].outs; i++)
-        if (frame_times[output_slots[k][i]] > latest)
-            latest = frame_times[output_slots[k][i]];
+        latest = later(latest, frame_times[output_slots[k][i]]);
     return latest;
 }
 
-uint16_t TUNED(count)(const uint8_t *file, size_t file_len, uint16_t number, uint32_t *scratch, size_t scratch_len,
-                      uint32_t figures[7], uint32_t tally[16], size_t *place)
+uint16_t TUNED(count)(const uint8_t *file, size_t file_len, uint16_t number, const uint8_t family[16],
+                      uint32_t *scratch, size_t scratch_len, uint32_t figures[8], uint32_t tally[16], size_t *place)
 {
     uint16_t no = open_file(file, file_len, place);
     const struct module *m;
+    struct times times;
     int k;
 
     if (no != 0)
@@ -804,13 +813,15 @@ uint16_t TUNED(count)(const uint8_t *file, size_t file_len, uint16_t number, uin
     if (scratch_len < m->room)
         return end(place, 21, 0);
     count_reached((uint32_t)k);
+    times = delays((uint32_t)k, family);
     figures[0] = m->ins;
     figures[1] = m->outs;
     figures[2] = m->gates;
     figures[3] = m->size;
     figures[4] = m->room;
-    figures[5] = delay((uint32_t)k);
+    figures[5] = times.unit;
     figures[6] = m->load;
+    figures[7] = times.family;
     memcpy(tally, tallies[k], sizeof tallies[k]);
     memset(scratch, 0, m->room * sizeof *scratch);
     return 0;

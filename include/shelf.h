@@ -101,10 +101,11 @@ uint16_t shelf_evaluate_rows(const uint8_t *file, size_t file_len, uint16_t numb
                              const uint8_t *values, size_t values_len, uint32_t *scratch, size_t scratch_len,
                              uint8_t *out, size_t out_len, size_t *written, uint32_t *work, size_t *place);
 
-/* Counts the module of that number. figures: inputs, outputs, gates, expanded size, room, delay, largest load.
- * tally: how many gates of each kind, in gate order; their sum is the gates. Refusals 1 to 17, then 18, 21. */
-uint16_t shelf_count(const uint8_t *file, size_t file_len, uint16_t number, uint32_t *scratch, size_t scratch_len,
-                     uint32_t figures[7], uint32_t tally[16], size_t *place);
+/* Counts the module of that number. family: the delays of a chip family's gates, in gate order. figures: inputs,
+ * outputs, gates, expanded size, room, unit delay, largest load, delay by the family, which is at most 255 times the
+ * gates. tally: how many gates of each kind, in gate order; their sum is the gates. Refusals 1 to 17, then 18, 21. */
+uint16_t shelf_count(const uint8_t *file, size_t file_len, uint16_t number, const uint8_t family[16],
+                     uint32_t *scratch, size_t scratch_len, uint32_t figures[8], uint32_t tally[16], size_t *place);
 
 /* Writes a file of one module of that number, gates only, that gives the same outputs on all values. The file comes
  * in the first *written bytes of out, at most 53,641. Refusals 1 to 17, then 18, 24, 21, 22. */

@@ -34,7 +34,8 @@ def listing(data):
     for position, module in enumerate(modules):
         try:
             inputs, outputs, _, gates, size, room, delay, load = count(data, module[0], SCRATCH)
-            figures = '%d %d %d %d %d %d %d' % (inputs, outputs, gates, size, room, delay, load)
+            # the last is the delay by the unit family
+            figures = '%d %d %d %d %d %d %d %d' % (inputs, outputs, gates, size, room, delay, load, delay)
         except Refused as r:
             figures = 'refused %d' % r.number
         lines.append('%d %d %s\n' % (position, module[0], figures))

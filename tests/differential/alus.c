@@ -1,6 +1,7 @@
 /* See alus.h. Figures and rows are worked out by the plain reading from the bytes that the library wrote; what the
  * operations come to is C's own arithmetic on wider numbers. */
 #include "alus.h"
+#include "family.h"
 
 #include "../plain/plain.h"
 #include "random.h"
@@ -28,12 +29,13 @@ static void expect(int holds, size_t width, const char *what)
 
 static void judge_figures(size_t width)
 {
-    uint32_t figures[7], tally[16], doublings = 0;
+    uint32_t figures[8], tally[16], doublings = 0;
     size_t place;
 
     while ((size_t)1 << doublings < width)
         doublings++;
-    expect(plain_count(judged[width], lengths[width], ALU, scratch, SCRATCH, figures, tally, &place) == 0, width,
+    expect(plain_count(judged[width], lengths[width], ALU, unit_family, scratch, SCRATCH, figures, tally, &place) == 0,
+           width,
            "not accepted, or no module 48");
     expect(figures[0] == 2 * width + 5 && figures[1] == width + 2, width, "inputs or outputs");
     expect(4 * figures[2] <= 57 * width + 115, width, "too many gates");

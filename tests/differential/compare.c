@@ -1,6 +1,7 @@
 /* See compare.h. What is lent to the two readings is laid out alike, so that whole buffers can be compared. */
 #define _DEFAULT_SOURCE
 #include "compare.h"
+#include "family.h"
 
 #include "../plain/plain.h"
 #include "alus.h"
@@ -33,12 +34,13 @@ struct given {
     enum call call;
     uint16_t number;
     size_t position, width, rows, values_len, scratch_len, out_len;
+    uint8_t family[16];
 };
 
 struct outcome {
     uint16_t number;
     size_t place, result;
-    uint32_t work, figures[7], tally[16];
+    uint32_t work, figures[8], tally[16];
 };
 
 static uint64_t seed;
@@ -61,7 +63,7 @@ static void print_outcome(const char *name, const struct outcome *outcome)
 {
     printf("%s: number %u place %zu result %zu work %u figures", name, outcome->number, outcome->place,
            outcome->result, outcome->work);
-    for (int i = 0; i < 7; i++)
+    for (int i = 0; i < 8; i++)
         printf(" %u", outcome->figures[i]);
     printf(" tally");
     for (int i = 0; i < 16; i++)
@@ -78,6 +80,7 @@ void report(const char *what)
     print_outcome("library", &ours);
     print_outcome("plain  ", &plain);
     dump("values", values, given.values_len);
+    dump("family", given.family, sizeof given.family);
     dump("file", file, file_len);
     exit(1);
 }
@@ -244,17 +247,32 @@ static void compare_rows(uint16_t number, size_t rows, size_t values_len, size_t
     end_call_with_buffers();
 }
 
+/* The unit family, or delays of 0 to 255, the ends more often than others. */
+static void pick_family(void)
+{
+    int unit = percent(25);
+
+    for (int i = 0; i < 16; i++)
+        given.family[i] = (uint8_t)(unit ? 1 : percent(20) ? 255 * below(2) : below(256));
+}
+
 static void compare_count(uint16_t number, size_t scratch_len)
 {
     begin(COUNT);
     given.number = number;
     given.scratch_len = scratch_len;
+    pick_family();
     lend(&our_out, 0, NULL);
     lend(&plain_out, 0, NULL);
-    ours.number = shelf_count(lent_file, file_len, number, lend_scratch(&our_scratch), scratch_len, ours.figures,
-                              ours.tally, &ours.place);
-    plain.number = plain_count(file, file_len, number, lend_scratch(&plain_scratch), scratch_len, plain.figures,
-                               plain.tally, &plain.place);
+    ours.number = shelf_count(lent_file, file_len, number, given.family, lend_scratch(&our_scratch), scratch_len,
+                              ours.figures, ours.tally, &ours.place);
+    plain.number = plain_count(file, file_len, number, given.family, lend_scratch(&plain_scratch), scratch_len,
+                               plain.figures, plain.tally, &plain.place);
+    if (ours.number == 0 && memcmp(given.family, unit_family, sizeof unit_family) == 0 &&
+        ours.figures[5] != ours.figures[7])
+        report("the delay by the unit family is not the unit delay");
+    if (ours.number == 0 && ours.figures[7] > 255 * ours.figures[2])
+        report("the delay by the family is above 255 times the gates");
     end_call_with_buffers();
 }
 
@@ -273,20 +291,22 @@ static void compare_flatten(uint16_t number, size_t scratch_len, size_t out_len)
 
 /* What flattening keeps of a module's figures, and what it makes plain: room and expanded size. */
 struct kept {
-    uint32_t inputs, gates, size, room, delay, load;
+    uint32_t inputs, gates, size, room, delay, load, family;
 };
 
-typedef uint16_t count_call(const uint8_t *, size_t, uint16_t, uint32_t *, size_t, uint32_t *, uint32_t *, size_t *);
+typedef uint16_t count_call(const uint8_t *, size_t, uint16_t, const uint8_t[16], uint32_t *, size_t, uint32_t *,
+                            uint32_t *, size_t *);
 
 static struct kept kept_of(count_call *count, const uint8_t *bytes, size_t length, uint16_t number)
 {
     static uint32_t scratch[SCRATCH_MOST];
-    uint32_t figures[7], tally[16];
+    static const uint8_t slow[16] = {0, 1, 2, 3, 5, 8, 13, 21, 34, 55, 89, 144, 233, 255, 254, 253};
+    uint32_t figures[8], tally[16];
     size_t place;
 
-    if (count(bytes, length, number, scratch, SCRATCH_MOST, figures, tally, &place) != 0)
+    if (count(bytes, length, number, slow, scratch, SCRATCH_MOST, figures, tally, &place) != 0)
         report("a file that flattening answers, or its flattened file, has no figures");
-    return (struct kept){figures[0], figures[2], figures[3], figures[4], figures[5], figures[6]};
+    return (struct kept){figures[0], figures[2], figures[3], figures[4], figures[5], figures[6], figures[7]};
 }
 
 /* A file that was just flattened, whose bytes stand in `out`, has the figures of its module that flattening keeps. */
@@ -295,7 +315,8 @@ static void flattened_alike(count_call *count, const uint8_t *bytes, const struc
     struct kept whole = kept_of(count, bytes, file_len, number);
     struct kept flat = kept_of(count, out->end - given.out_len, ours.result, number);
 
-    if (flat.gates != whole.gates || flat.delay != whole.delay || flat.load != whole.load)
+    if (flat.gates != whole.gates || flat.delay != whole.delay || flat.load != whole.load ||
+        flat.family != whole.family)
         report("the figures of the flattened file differ");
     if (flat.size != whole.gates || flat.room != whole.inputs + whole.gates)
         report("the size of the flattened file is not its gates, or its room not its inputs and gates");
@@ -374,9 +395,9 @@ static struct right right_lengths(uint16_t number)
 {
     static uint32_t scratch[SCRATCH_MOST];
     static uint8_t out[OUT_MOST];
-    uint32_t figures[7], tally[16];
+    uint32_t figures[8], tally[16];
     size_t flat = 0, place;
-    uint16_t refused = plain_count(file, file_len, number, scratch, SCRATCH_MOST, figures, tally, &place);
+    uint16_t refused = plain_count(file, file_len, number, unit_family, scratch, SCRATCH_MOST, figures, tally, &place);
 
     if (refused != 0)
         return (struct right){(size_t)below(10), (size_t)below(10), (size_t)below(30), (size_t)below(60)};
@@ -639,7 +660,7 @@ int compare_summary(void)
         printf("\n");
     }
     printf("runs answered on a 3: %ld, refused for a 4: %ld\n", met_three, met_four);
-    printf("flattened files with the gates, delay and load of their module: %ld, of several levels %ld\n", flattened,
+    printf("flattened files with the gates, delays and load of their module: %ld, of several levels %ld\n", flattened,
            flattened_deep / 2);
     printf("rewritten files that changed: %ld; refused for the new file with 4: %ld, 16: %ld, 17: %ld, 1: %ld, 22: %ld\n", rewritten,
            met_new[4], met_new[16], met_new[17], met_new[1], met_new[22]);

@@ -1,5 +1,6 @@
 /* See counters.h. Figures and rows are worked out by the plain reading from the bytes that the library wrote. */
 #include "counters.h"
+#include "family.h"
 
 #include "../plain/plain.h"
 #include "random.h"
@@ -49,10 +50,12 @@ static int is_wide(int kind)
 static void judge_figures(size_t width)
 {
     static uint32_t scratch[SCRATCH];
-    uint32_t figures[7], tally[16], n = (uint32_t)width;
+    uint32_t figures[8], tally[16], n = (uint32_t)width;
     size_t place;
 
-    expect(plain_count(judged[width], lengths[width], COUNTER, scratch, SCRATCH, figures, tally, &place) == 0, width,
+    expect(plain_count(judged[width], lengths[width], COUNTER, unit_family, scratch, SCRATCH, figures, tally, &place) ==
+               0,
+           width,
            "not accepted, or no module 32");
     expect(figures[0] == n, width, "inputs");
     expect(figures[1] == binary_digits(n), width, "outputs");

@@ -1,5 +1,6 @@
 /* See fast_adders.h. Figures and rows are worked out by the plain reading from the bytes that the library wrote. */
 #include "fast_adders.h"
+#include "family.h"
 
 #include "../plain/plain.h"
 #include "random.h"
@@ -34,10 +35,10 @@ static uint32_t doublings(size_t width)
 
 static void judge_figures(size_t width)
 {
-    uint32_t figures[7], tally[16], n = (uint32_t)width, c = doublings(width);
+    uint32_t figures[8], tally[16], n = (uint32_t)width, c = doublings(width);
     size_t place;
 
-    expect(plain_count(fast, fast_length, FAST, scratch, SCRATCH, figures, tally, &place) == 0, width,
+    expect(plain_count(fast, fast_length, FAST, unit_family, scratch, SCRATCH, figures, tally, &place) == 0, width,
            "not accepted, or no module 40");
     expect(figures[0] == 2 * n + 1 && figures[1] == n + 1, width, "inputs or outputs");
     expect(2 * figures[2] <= 15 * n - 5, width, "too many gates");

@@ -104,8 +104,8 @@ uint16_t plain_evaluate(const uint8_t *file, size_t file_len, uint16_t number, c
 uint16_t plain_evaluate_rows(const uint8_t *file, size_t file_len, uint16_t number, size_t rows,
                              const uint8_t *values, size_t values_len, uint32_t *scratch, size_t scratch_len,
                              uint8_t *out, size_t out_len, size_t *written, uint32_t *work, size_t *place);
-uint16_t plain_count(const uint8_t *file, size_t file_len, uint16_t number, uint32_t *scratch, size_t scratch_len,
-                     uint32_t figures[7], uint32_t tally[16], size_t *place);
+uint16_t plain_count(const uint8_t *file, size_t file_len, uint16_t number, const uint8_t family[16],
+                     uint32_t *scratch, size_t scratch_len, uint32_t figures[8], uint32_t tally[16], size_t *place);
 uint16_t plain_flatten(const uint8_t *file, size_t file_len, uint16_t number, uint32_t *scratch, size_t scratch_len,
                        uint8_t *out, size_t out_len, size_t *written, size_t *place);
 uint16_t plain_look_up(const uint8_t *group, size_t group_len, const uint8_t *house, size_t house_len,

@@ -11,6 +11,7 @@
  * does: a 0 at an and or a 1 at an or decides, any x at an xor does not. That is the scope's rule, gate by gate. A z at
  * a pin counts as x, at a buf too. Every net has one driver, and only the inputs are ever z: outputs are 0, 1 or x. */
 #include "../differential/make.h"
+#include "../differential/family.h"
 #include "../differential/random.h"
 #include "shelf.h"
 
@@ -161,10 +162,10 @@ static void print_row(uint16_t number, uint32_t inputs, int mood)
 static void print_bench(uint16_t number)
 {
     static uint32_t scratch[MOST_SCRATCH];
-    uint32_t figures[7], tally[16];
+    uint32_t figures[8], tally[16];
     size_t place;
 
-    if (shelf_count(file, file_len, number, scratch, MOST_SCRATCH, figures, tally, &place) != 0)
+    if (shelf_count(file, file_len, number, unit_family, scratch, MOST_SCRATCH, figures, tally, &place) != 0)
         exit(1);
     if (figures[1] == 0)
         return;

@@ -4,11 +4,13 @@ use mathlib.Core.Path.{_≡_, sym, subst}
 use mathlib.Core.List.{List}
 use native.Mathlib.Omega.{arith}
 use lib.ListN.{length}
-use Rattle.meaning.specs.Figures.{room, delay}
+use Rattle.meaning.specs.Figures.{room, delayBy, delay}
+use Rattle.meaning.specs.Family.{delayIn, familyDelay}
 use Rattle.meaning.specs.Loads.{largestLoad}
 use Rattle.image.specs.Resolved.{referTo, resolveModule, resolve}
 use Rattle.image.specs.ResolvedFigures.{room-resolved}
-use Rattle.run_engine.specs.Calls.{Callable, Timed}
+use Rattle.run_times.specs.Times.{oneEach}
+use Rattle.run_engine.specs.Calls.{Callable, Delayed}
 use Rattle.run_engine.specs.Arriving.{delay-means}
 use Rattle.load_engine.specs.Loads.{Loadable}
 use Rattle.load_engine.specs.Ordered.{ordered}
@@ -18,24 +20,36 @@ use Rattle.open_finding.specs.OnImage.{scene, at-position}
 use Rattle.open_finding.specs.declared.Site.{Site}
 
 module _ {image starts nets : List ℕ} {site : Site} (s : Standing image starts nets site) where
-  -- The delay.
-  module _ {scratch : List ℕ} (enough : site .room ≤ length scratch) where
-    abbrev pub callable : Callable image starts nets (site .position) (site .room) scratch
-    callable =
-        record {
-          rs = resolve (s .ms);
-          scene = scene s;
-          wide = omega (arith, at-position s room (room-resolved (fits (s .held)) (site .number) (s .found .m) (s .found .found)), s .roomIs);
-          enough = enough;
-        }
+  -- The delays.
+  abbrev pub callable : {scratch : List ℕ} → site .room ≤ length scratch → Callable image starts nets (site .position) (site .room) scratch
+  callable enough =
+      record {
+        rs = resolve (s .ms);
+        scene = scene s;
+        wide = omega (arith, at-position s room (room-resolved (fits (s .held)) (site .number) (s .found .m) (s .found .found)), s .roomIs);
+        enough = enough;
+      }
 
-    pub delay-is :
-        {scratch′ : List ℕ} {r : ℕ} → Timed (resolve (s .ms)) (scene s .m) (site .position) (site .room) scratch scratch′ r
-        → r ≡ delay (s .ms) (site .number)
-    delay-is {scratch′} {r} timed =
-        delay-means (accepted (s .held)) (site .number) (s .found .m) (s .found .found)
-        (subst (λ (p : ℕ). Timed (resolve (s .ms)) (resolveModule (referTo (s .ms)) p (s .found .m)) p (site .room) scratch scratch′ r)
-        (sym (s .found .placed)) timed)
+  delay-is :
+      (lasts : ℕ → ℕ) {r : ℕ}
+      → ((kind : ℕ) → lasts kind ≤ 255)
+      → Delayed lasts (resolve (s .ms)) (scene s .m) (site .position) r
+      → r ≡ delayBy lasts (s .ms) (site .number)
+  delay-is lasts {r} small delayed =
+      delay-means lasts small (accepted (s .held)) (site .number) (s .found .m) (s .found .found)
+      (subst (λ (p : ℕ). Delayed lasts (resolve (s .ms)) (resolveModule (referTo (s .ms)) p (s .found .m)) p r) (sym (s .found .placed)) delayed)
+
+  pub unit-is : {r : ℕ} → Delayed oneEach (resolve (s .ms)) (scene s .m) (site .position) r → r ≡ delay (s .ms) (site .number)
+  unfolding delay
+  unit-is = delay-is oneEach (λ kind. omega arith)
+
+  pub family-is :
+      (family : List ℕ) {r : ℕ}
+      → ((kind : ℕ) → delayIn family kind ≤ 255)
+      → Delayed (delayIn family) (resolve (s .ms)) (scene s .m) (site .position) r
+      → r ≡ familyDelay family (s .ms) (site .number)
+  unfolding familyDelay
+  family-is family = delay-is (delayIn family)
 
   -- The largest load.
   pub loadable : Loadable image starts nets (site .position) (site .room)

@@ -1,3 +1,4 @@
 -- What the proofs of a count share.
 pub mod Engines
+pub mod RoomThere
 pub mod Outcomes

@@ -7,7 +7,8 @@ use borrow.Author.Tests.{le-leb, lt-leb}
 use lib.ListN.{length, drop, replicate, length-replicate}
 use lib.Seq.{drop-at}
 use Rattle.meaning.specs.Figures.{room}
-use Rattle.meaning.specs.Calls.{countingOn, Figures as Meant, figuresOn}
+use Rattle.meaning.specs.Calls.{Figures as Meant, figuresOn}
+use Rattle.meaning.specs.Family.{familyDelay, summaryOn}
 use Rattle.run_engine.specs.Calls.{cleared}
 use Rattle.open_finding.specs.Standing.{Standing}
 use Rattle.open_finding.specs.declared.Site.{Site}
@@ -21,24 +22,25 @@ cleared-twice : (n : ℕ) (scratch : List ℕ) → cleared n (cleared n scratch)
 cleared-twice n scratch =
     ap (λ (l : List ℕ). replicate n 0 ++ l) (drop-at (replicate n 0) (drop n scratch) n (length-replicate n 0))
 
-module _ {image starts nets : List ℕ} {site : Site} (s : Standing image starts nets site) (scratch : List ℕ) where
+module _ {image starts nets : List ℕ} {site : Site} (s : Standing image starts nets site) (family scratch : List ℕ) where
   -- 21: scratch has fewer entries than room.
   pub short-counts :
       length scratch < site .room → {result : Counted} → result ≡ refusedWith 21 0
-      → Counts (countingOn (site .number) (length scratch) (s .ms) (s .found .m)) scratch scratch result
+      → Counts (summaryOn family (site .number) (length scratch) (s .ms) (s .found .m)) scratch scratch result
   short-counts short is =
       rw (lt-leb (room (s .ms) (site .number)) (length scratch) (omega (arith, s .roomIs))) (record { is = is; scratch = refl })
 
   -- The figures are the answer.
   pub answer-counts :
       {scratch′ : List ℕ} → site .room ≤ length scratch → (figures : Figures)
-      → Figured (s .ms) (site .number) (s .found .m) scratch scratch′ figures
-      → Counts (countingOn (site .number) (length scratch) (s .ms) (s .found .m)) scratch scratch′ (record { number = 0; place = 0; figures = figures })
+      → Figured (s .ms) (site .number) (s .found .m) family scratch scratch′ figures
+      → Counts (summaryOn family (site .number) (length scratch) (s .ms) (s .found .m)) scratch scratch′ (record { number = 0; place = 0; figures = figures })
   answer-counts enough figures f =
       rw (le-leb (room (s .ms) (site .number)) (length scratch) (omega (arith, s .roomIs)))
       (record { is = ap (λ (x : Figures). record { number = 0; place = 0; figures = x }) (f .is); scratch = f .clean })
 
-  -- Scratch is cleared by the walk for the delay, and again by that for tally and load.
+module _ {image starts nets : List ℕ} {site : Site} (s : Standing image starts nets site) (scratch : List ℕ) where
+  -- Scratch is cleared by the walk for the delays, and again by that for tally and load.
   pub scratch-is :
       {scratch′ scratch″ : List ℕ} → scratch′ ≡ cleared (site .room) scratch → scratch″ ≡ cleared (site .room) scratch′
       → scratch″ ≡ cleared (room (s .ms) (site .number)) scratch
@@ -46,18 +48,19 @@ module _ {image starts nets : List ℕ} {site : Site} (s : Standing image starts
       second ∙ ap (cleared (site .room)) first ∙ cleared-twice (site .room) scratch ∙ ap (λ (n : ℕ). cleared n scratch) (s .roomIs)
 
 -- All figures together.
-module _ {image starts nets : List ℕ} {site : Site} (s : Standing image starts nets site) where
+module _ {image starts nets : List ℕ} {site : Site} (s : Standing image starts nets site) (family : List ℕ) where
   abbrev meant : Meant
   meant = figuresOn (site .number) (s .ms) (s .found .m)
 
   pub figures-are :
-      {inputs outputs gates delay load : ℕ} {counts : List ℕ}
+      {inputs outputs gates delay load byFamily : ℕ} {counts : List ℕ}
       → inputs ≡ meant .inputs
       → outputs ≡ meant .outputs
       → counts ≡ meant .tally
       → gates ≡ meant .gates
       → delay ≡ meant .delay
       → load ≡ meant .load
+      → byFamily ≡ familyDelay family (s .ms) (site .number)
       → _≡_ {A = Figures}
       (record {
         inputs = inputs;
@@ -68,6 +71,7 @@ module _ {image starts nets : List ℕ} {site : Site} (s : Standing image starts
         room = site .room;
         delay = delay;
         load = load;
+        family = byFamily;
       })
-      (figuresOf meant)
-  figures-are a b c d e f = rw (a, b, c, d, e, f, s .sizeIs, s .roomIs)
+      (figuresOf (record { figures = meant; familyDelay = familyDelay family (s .ms) (site .number) }))
+  figures-are a b c d e f g = rw (a, b, c, d, e, f, g, s .sizeIs, s .roomIs)

@@ -3,13 +3,15 @@ use Prim.Native.Nat.{ℕ}
 use mathlib.Core.Path.{_≡_, refl, sym, _∙_}
 use mathlib.Core.List.{List}
 use lib.ListN.{replicate}
-use Rattle.meaning.specs.Calls.{Decision, refusal, answer, Figures as Meant, numberOf, placeOf, scratchAfter}
+use Rattle.meaning.specs.Calls.{Decision, refusal, answer, numberOf, placeOf, scratchAfter}
+use Rattle.meaning.specs.Family.{Summary}
 use Rattle.call_count.specs.declared.answers.Figures.{Figures}
 use Rattle.call_count.specs.declared.answers.Counted.{Counted}
 
 -- The figures that are meant, as they are answered.
-abbrev pub figuresOf : Meant → Figures
-figuresOf f =
+abbrev pub figuresOf : Summary → Figures
+figuresOf s =
+    let f = s .figures in
     record {
       inputs = f .inputs;
       outputs = f .outputs;
@@ -19,6 +21,7 @@ figuresOf f =
       room = f .room;
       delay = f .delay;
       load = f .load;
+      family = s .familyDelay;
     }
 
 -- A refusal: its number and place, and all figures 0.
@@ -37,31 +40,32 @@ refusedWith number place =
             room = 0;
             delay = 0;
             load = 0;
+            family = 0;
           };
     }
 
 -- Document 01's answer: a success is number 0 with place 0, beside the figures.
-abbrev pub countedOf : Decision Meant → Counted
+abbrev pub countedOf : Decision Summary → Counted
 countedOf (refusal number place) = refusedWith number place
-countedOf (answer f) = record { number = 0; place = 0; figures = figuresOf f }
+countedOf (answer s) = record { number = 0; place = 0; figures = figuresOf s }
 
 -- What a call comes to is answered, and scratch is as it says.
-pub record Counts (decision : Decision Meant) (before after : List ℕ) (result : Counted) : Type 0 where
+pub record Counts (decision : Decision Summary) (before after : List ℕ) (result : Counted) : Type 0 where
   pub is : result ≡ countedOf decision
-  pub scratch : after ≡ scratchAfter (λ f. f .room) decision before
+  pub scratch : after ≡ scratchAfter (λ s. s .figures .room) decision before
 
 -- The number and the place are those of the decision.
-pub number-is : (decision : Decision Meant) → countedOf decision .number ≡ numberOf decision
+pub number-is : (decision : Decision Summary) → countedOf decision .number ≡ numberOf decision
 number-is (refusal number place) = refl
-number-is (answer f) = refl
+number-is (answer s) = refl
 
-pub place-is : (decision : Decision Meant) → countedOf decision .place ≡ placeOf decision
+pub place-is : (decision : Decision Summary) → countedOf decision .place ≡ placeOf decision
 place-is (refusal number place) = refl
-place-is (answer f) = refl
+place-is (answer s) = refl
 
 -- Any two outcomes that the contract permits coincide.
 pub one-outcome :
-    {decision : Decision Meant} {before after after′ : List ℕ} {result result′ : Counted}
+    {decision : Decision Summary} {before after after′ : List ℕ} {result result′ : Counted}
     → Counts decision before after result
     → Counts decision before after′ result′
     → (result ≡ result′) × (after ≡ after′)

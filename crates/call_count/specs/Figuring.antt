@@ -5,10 +5,11 @@ use mathlib.Core.List.{List}
 use Rattle.meaning.specs.Syntax.{Module}
 use Rattle.meaning.specs.Figures.{room}
 use Rattle.meaning.specs.Calls.{figuresOn}
+use Rattle.meaning.specs.Family.{familyDelay}
 use Rattle.run_engine.specs.Calls.{cleared}
 use Rattle.call_count.specs.Answers.{figuresOf}
 use Rattle.call_count.specs.declared.answers.Figures.{Figures}
 
-pub record Figured (ms : List Module) (number : ℕ) (m : Module) (scratch scratch′ : List ℕ) (result : Figures) : Type 0 where
-  pub is : result ≡ figuresOf (figuresOn number ms m)
+pub record Figured (ms : List Module) (number : ℕ) (m : Module) (family scratch scratch′ : List ℕ) (result : Figures) : Type 0 where
+  pub is : result ≡ figuresOf (record { figures = figuresOn number ms m; familyDelay = familyDelay family ms number })
   pub clean : scratch′ ≡ cleared (room ms number) scratch

@@ -7,7 +7,7 @@ pub struct Tally {
     pub counts: [u32; 16],
 }
 
-// The figures of a module.
+// The figures of a module: `delay` is its unit delay, `family` its delay by a chip family.
 pub struct Figures {
     pub inputs: u32,
     pub outputs: u32,
@@ -17,6 +17,7 @@ pub struct Figures {
     pub room: u32,
     pub delay: u32,
     pub load: u32,
+    pub family: u32,
 }
 
 // The number and place of a refusal, with all figures 0; or number 0 and place 0, with the figures.
@@ -42,6 +43,7 @@ pub fn refused(number: u16, place: usize) -> Counted
             room: 0,
             delay: 0,
             load: 0,
+            family: 0,
         },
     }
 }

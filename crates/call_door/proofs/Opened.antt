@@ -22,11 +22,11 @@ use Rattle.call_door.specs.Asks.{refusedSheet, Result, decides, Gives, D
 use Rattle.call_door.proofs.Refusing.{task-refused}
 
 module _ {image starts names nets sizes rooms : List ℕ} {modules : ℕ} (o : Open image starts names nets sizes rooms modules) where
-  module _ {ask : Ask} {values scratch out scratch′ out′ : List ℕ} {r : Sheet} where
-    same : (kind : Ask) → ask ≡ kind → Meets kind (o .file) values scratch out scratch′ out′ r → Meets ask (o .file) values scratch out scratch′ out′ r
-    same kind is = subst (λ (a : Ask). Meets a (o .file) values scratch out scratch′ out′ r) (sym is)
+  module _ {ask : Ask} {family values scratch out scratch′ out′ : List ℕ} {r : Sheet} where
+    same : (kind : Ask) → ask ≡ kind → Meets kind family (o .file) values scratch out scratch′ out′ r → Meets ask family (o .file) values scratch out scratch′ out′ r
+    same kind is = subst (λ (a : Ask). Meets a family (o .file) values scratch out scratch′ out′ r) (sym is)
 
-    pub meets-modules : ask ≡ Modules → r .listed ≡ listed.Modules modules → Meets ask (o .file) values scratch out scratch′ out′ r
+    pub meets-modules : ask ≡ Modules → r .listed ≡ listed.Modules modules → Meets ask family (o .file) values scratch out scratch′ out′ r
     unfolding moduleCount
     meets-modules is told =
         same Modules is
@@ -35,7 +35,7 @@ module _ {image starts names nets sizes rooms : List ℕ} {modules : ℕ} (o : O
     pub meets-number :
         {position : ℕ} {n : Named} → ask ≡ NumberAt position → r .named ≡ n
         → ((s : Searchable names modules) → n ≡ namedOf (firstNumber (drop position (s .ms))))
-        → Meets ask (o .file) values scratch out scratch′ out′ r
+        → Meets ask family (o .file) values scratch out scratch′ out′ r
     unfolding numberAt
     meets-number {position} is told found =
         same (NumberAt position) is
@@ -45,12 +45,12 @@ module _ {image starts names nets sizes rooms : List ℕ} {modules : ℕ} (o : O
 
   module _ (number : ℕ) (place : Place) (finds : (s : Searchable names modules) → Finds place (s .ms) number) where
     pub meets-nowhere :
-        {ask : Ask} {task : Task} {values scratch out : List ℕ} {r : Sheet} → ask ≡ Of task number → place ≡ Nowhere → r ≡ refusedSheet 18 0
-        → Meets ask (o .file) values scratch out scratch out r
-    meets-nowhere {ask} {task} {values} {scratch} {out} is none told =
+        {ask : Ask} {task : Task} {family values scratch out : List ℕ} {r : Sheet} → ask ≡ Of task number → place ≡ Nowhere → r ≡ refusedSheet 18 0
+        → Meets ask family (o .file) values scratch out scratch out r
+    meets-nowhere {ask} {task} {family} {values} {scratch} {out} is none told =
         let nobody = subst (λ (p : Place). Finds p (o .opened .ms) number) none (finds (searchable (o .opened))) in
         same (Of task number) is
-        (rw told (task-refused 18 0 scratch out (o .file) values number task (asks-nobody (o .opened) number nobody)))
+        (rw told (task-refused 18 0 scratch out family (o .file) values number task (asks-nobody (o .opened) number nobody)))
 
     module _ {k : ℕ} (at : place ≡ At k) where
       found : FoundAt (o .opened .ms) number k
@@ -64,18 +64,18 @@ module _ {image starts names nets sizes rooms : List ℕ} {modules : ℕ} (o : O
 
       -- One law for whatever is asked of a module.
       pub meets-at :
-          {ask : Ask} {task : Task} {values scratch out scratch′ out′ : List ℕ} {r : Sheet} {site : Site}
+          {ask : Ask} {task : Task} {family values scratch out scratch′ out′ : List ℕ} {r : Sheet} {site : Site}
           → ask ≡ Of task number
           → site ≡ siteOf k number sizes rooms
-          → ((s : Standing image starts nets site) → Done task (site .number) values scratch out (s .ms) (s .found .m) scratch′ out′ r)
-          → Meets ask (o .file) values scratch out scratch′ out′ r
-      meets-at {ask} {task} {values} {scratch} {out} {scratch′} {out′} {r} is there gives =
+          → ((s : Standing image starts nets site) → Done task family (site .number) values scratch out (s .ms) (s .found .m) scratch′ out′ r)
+          → Meets ask family (o .file) values scratch out scratch′ out′ r
+      meets-at {ask} {task} {family} {values} {scratch} {out} {scratch′} {out′} {r} is there gives =
           same (Of task number) is
           (record {
             met =
                 subst (λ (d : Decision (Result task)). Gives task d scratch out scratch′ out′ r)
-                (sym (asks-of (o .opened) found (decides task number values (length scratch) (length out))))
+                (sym (asks-of (o .opened) found (decides task family number values (length scratch) (length out))))
                 (subst
-                (λ (site : Site). (s : Standing image starts nets site) → Done task (site .number) values scratch out (s .ms) (s .found .m) scratch′ out′ r)
+                (λ (site : Site). (s : Standing image starts nets site) → Done task family (site .number) values scratch out (s .ms) (s .found .m) scratch′ out′ r)
                 there gives (stands (o .opened) found) .done);
           })

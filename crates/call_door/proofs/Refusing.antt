@@ -24,27 +24,27 @@ module _ (n p : ℕ) (scratch out : List ℕ) where
   plainly (Own Count) = record { is = refl; scratch = refl }
   plainly (Own Flatten) = record { answered = record { is = refl; out = refl }; scratched = refl }
 
-  module _ (file values : List ℕ) where
+  module _ (family file values : List ℕ) where
     -- The module of the number is not to be had.
     pub task-refused :
         (number : ℕ) (task : Task)
         → ((ask : List Module → Module → Decision (Result task)) → onFile file (λ ms. onModule (assoc number ms) (ask ms)) ≡ refusal n p)
-        → Meets (Of task number) file values scratch out scratch out (refusedSheet n p)
+        → Meets (Of task number) family file values scratch out scratch out (refusedSheet n p)
     task-refused number task ends =
         record {
           met =
               subst (λ (d : Decision (Result task)). Gives task d scratch out scratch out (refusedSheet n p))
-              (sym (ends (decides task number values (length scratch) (length out)))) (plainly task);
+              (sym (ends (decides task family number values (length scratch) (length out)))) (plainly task);
         }
 
     -- The file is refused.
-    ask-refused : verdict file ≡ refused n p → (ask : Ask) → Meets ask file values scratch out scratch out (refusedSheet n p)
+    ask-refused : verdict file ≡ refused n p → (ask : Ask) → Meets ask family file values scratch out scratch out (refusedSheet n p)
     unfolding moduleCount numberAt
     ask-refused e Modules = record { met = sym (ap listedOf (refused-ends file n p e (λ ms. answer (length ms)))) }
     ask-refused e (NumberAt position) = record { met = sym (ap namedOf (refused-ends file n p e (λ ms. firstNumber (drop position ms)))) }
     ask-refused e (Of task number) = task-refused number task (λ ask. refused-ends file n p e (λ ms. onModule (assoc number ms) (ask ms)))
 
 pub refused-meets :
-    {n p : ℕ} (ask : Ask) {file values scratch out : List ℕ} {r : Sheet} → verdict file ≡ refused n p → r ≡ refusedSheet n p
-    → Meets ask file values scratch out scratch out r
-refused-meets {n} {p} ask {file} {values} {scratch} {out} e is = rw is (ask-refused n p scratch out file values e ask)
+    {n p : ℕ} (ask : Ask) {family file values scratch out : List ℕ} {r : Sheet} → verdict file ≡ refused n p → r ≡ refusedSheet n p
+    → Meets ask family file values scratch out scratch out r
+refused-meets {n} {p} ask {family} {file} {values} {scratch} {out} e is = rw is (ask-refused n p scratch out family file values e ask)

@@ -3,7 +3,8 @@ use Prim.Native.Nat.{ℕ, _≤_}
 use mathlib.Core.Path.{_≡_, sym, subst}
 use mathlib.Core.List.{List}
 use lib.ListN.{length}
-use Rattle.meaning.specs.Calls.{countingOn, flatteningOn}
+use Rattle.meaning.specs.Calls.{flatteningOn}
+use Rattle.meaning.specs.Family.{summaryOn}
 use Rattle.meaning.specs.Work.{runningOn, rowsRunningOn}
 use Rattle.answers.specs.Settled.{Settles}
 use Rattle.answers.specs.Running.{Runs}
@@ -24,30 +25,30 @@ use Rattle.call_door.specs.Asks.{InShort, Done}
 pub small : {own : Kind} (site : Site) → own ≡ Flatten → InShort own site → (site .size ≤ 832) × (site .room ≤ 1024)
 small site is = subst (λ (k : Kind). InShort k site) is
 
-module _ {image starts nets : List ℕ} {site : Site} (s : Standing image starts nets site) {task : Task} {values scratch out scratch′ out′ : List ℕ} {r : Sheet}
+module _ {image starts nets : List ℕ} {site : Site} (s : Standing image starts nets site) {task : Task} {family values scratch out scratch′ out′ : List ℕ} {r : Sheet}
   where
     -- What is known of one kind of task.
     pub told : (kind : Task) → task ≡ kind
-        → Done kind (site .number) values scratch out (s .ms) (s .found .m) scratch′ out′ r
-        → Done task (site .number) values scratch out (s .ms) (s .found .m) scratch′ out′ r
-    told kind is = subst (λ (t : Task). Done t (site .number) values scratch out (s .ms) (s .found .m) scratch′ out′ r) (sym is)
+        → Done kind family (site .number) values scratch out (s .ms) (s .found .m) scratch′ out′ r
+        → Done task family (site .number) values scratch out (s .ms) (s .found .m) scratch′ out′ r
+    told kind is = subst (λ (t : Task). Done t family (site .number) values scratch out (s .ms) (s .found .m) scratch′ out′ r) (sym is)
 
     pub runs : {run : Run} → task ≡ Evaluate → (r .writing ≡ run .writing) × (r .work ≡ run .work)
         → Runs (runningOn (site .number) values (length scratch) (length out) (s .ms) (s .found .m)) scratch out scratch′ out′ run
-        → Done task (site .number) values scratch out (s .ms) (s .found .m) scratch′ out′ r
+        → Done task family (site .number) values scratch out (s .ms) (s .found .m) scratch′ out′ r
     runs is written ran = told Evaluate is (record { done = rw (written .0, written .1) ran })
 
     pub runs-rows : {run : Run} (rows : ℕ) → task ≡ Rows rows → (r .writing ≡ run .writing) × (r .work ≡ run .work)
         → Runs (rowsRunningOn (site .number) rows values (length scratch) (length out) (s .ms) (s .found .m)) scratch out scratch′ out′ run
-        → Done task (site .number) values scratch out (s .ms) (s .found .m) scratch′ out′ r
+        → Done task family (site .number) values scratch out (s .ms) (s .found .m) scratch′ out′ r
     runs-rows rows is written ran = told (Rows rows) is (record { done = rw (written .0, written .1) ran })
 
     pub counts : {c : Counted} → task ≡ Own Count → r .counted ≡ c
-        → Counts (countingOn (site .number) (length scratch) (s .ms) (s .found .m)) scratch scratch′ c
-        → Done task (site .number) values scratch out (s .ms) (s .found .m) scratch′ out′ r
+        → Counts (summaryOn family (site .number) (length scratch) (s .ms) (s .found .m)) scratch scratch′ c
+        → Done task family (site .number) values scratch out (s .ms) (s .found .m) scratch′ out′ r
     counts is written counted = told (Own Count) is (record { done = rw written counted })
 
     pub flattens : {w : Writing} → task ≡ Own Flatten → r .writing ≡ w
         → Settles (flatteningOn (site .number) (length scratch) (length out) (s .ms) (s .found .m)) scratch out scratch′ out′ w
-        → Done task (site .number) values scratch out (s .ms) (s .found .m) scratch′ out′ r
+        → Done task family (site .number) values scratch out (s .ms) (s .found .m) scratch′ out′ r
     flattens is written settles = told (Own Flatten) is (record { done = rw written settles })

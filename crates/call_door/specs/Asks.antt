@@ -5,7 +5,8 @@ use mathlib.Core.List.{List}
 use lib.ListN.{length}
 use Rattle.meaning.specs.Syntax.{Module}
 use Rattle.meaning.specs.Boxlist.{assoc}
-use Rattle.meaning.specs.Calls.{Decision, onFile, onModule, Written, Figures, countingOn, flatteningOn, moduleCount, numberAt}
+use Rattle.meaning.specs.Calls.{Decision, onFile, onModule, Written, flatteningOn, moduleCount, numberAt}
+use Rattle.meaning.specs.Family.{Summary, summaryOn}
 use Rattle.meaning.specs.Work.{Ran, runningOn, rowsRunningOn}
 use Rattle.answers.specs.Settled.{Settles}
 use Rattle.answers.specs.Running.{Runs}
@@ -43,15 +44,15 @@ InShort Flatten site = (site .size ≤ 832) × (site .room ≤ 1024)
 abbrev pub Result : Task → Type 0
 Result Evaluate = Ran
 Result (Rows rows) = Ran
-Result (Own Count) = Figures
+Result (Own Count) = Summary
 Result (Own Flatten) = Written
 
 -- decided so once the module is found,
-abbrev pub decides : (task : Task) (number : ℕ) (values : List ℕ) (scratch out : ℕ) (ms : List Module) → Module → Decision (Result task)
-decides Evaluate number values scratch out ms m = runningOn number values scratch out ms m
-decides (Rows rows) number values scratch out ms m = rowsRunningOn number rows values scratch out ms m
-decides (Own Count) number values scratch out ms m = countingOn number scratch ms m
-decides (Own Flatten) number values scratch out ms m = flatteningOn number scratch out ms m
+abbrev pub decides : (task : Task) (family : List ℕ) (number : ℕ) (values : List ℕ) (scratch out : ℕ) (ms : List Module) → Module → Decision (Result task)
+decides Evaluate family number values scratch out ms m = runningOn number values scratch out ms m
+decides (Rows rows) family number values scratch out ms m = rowsRunningOn number rows values scratch out ms m
+decides (Own Count) family number values scratch out ms m = summaryOn family number scratch ms m
+decides (Own Flatten) family number values scratch out ms m = flatteningOn number scratch out ms m
 
 -- and given so.
 abbrev pub Gives : (task : Task) → Decision (Result task) → (scratch out scratch′ out′ : List ℕ) → Sheet → Type 0
@@ -60,16 +61,16 @@ Gives (Rows rows) d scratch out scratch′ out′ r = Runs d scratch out scratch
 Gives (Own Count) d scratch out scratch′ out′ r = Counts d scratch scratch′ (r .counted)
 Gives (Own Flatten) d scratch out scratch′ out′ r = Settles d scratch out scratch′ out′ (r .writing)
 
-pub record Done (task : Task) (number : ℕ) (values scratch out : List ℕ) (ms : List Module) (m : Module) (scratch′ out′ : List ℕ) (r : Sheet) : Type 0 where
-  pub done : Gives task (decides task number values (length scratch) (length out) ms m) scratch out scratch′ out′ r
+pub record Done (task : Task) (family : List ℕ) (number : ℕ) (values scratch out : List ℕ) (ms : List Module) (m : Module) (scratch′ out′ : List ℕ) (r : Sheet) : Type 0 where
+  pub done : Gives task (decides task family number values (length scratch) (length out) ms m) scratch out scratch′ out′ r
 
 -- What is asked of a file.
-abbrev pub Met : Ask → (file values scratch out scratch′ out′ : List ℕ) → Sheet → Type 0
-Met Modules file values scratch out scratch′ out′ r = r .listed ≡ listedOf (moduleCount file)
-Met (NumberAt position) file values scratch out scratch′ out′ r = r .named ≡ namedOf (numberAt file position)
-Met (Of task number) file values scratch out scratch′ out′ r =
-    Gives task (onFile file λ ms. onModule (assoc number ms) (decides task number values (length scratch) (length out) ms))
+abbrev pub Met : Ask → (family file values scratch out scratch′ out′ : List ℕ) → Sheet → Type 0
+Met Modules family file values scratch out scratch′ out′ r = r .listed ≡ listedOf (moduleCount file)
+Met (NumberAt position) family file values scratch out scratch′ out′ r = r .named ≡ namedOf (numberAt file position)
+Met (Of task number) family file values scratch out scratch′ out′ r =
+    Gives task (onFile file λ ms. onModule (assoc number ms) (decides task family number values (length scratch) (length out) ms))
     scratch out scratch′ out′ r
 
-pub record Meets (ask : Ask) (file values scratch out scratch′ out′ : List ℕ) (r : Sheet) : Type 0 where
-  pub met : Met ask file values scratch out scratch′ out′ r
+pub record Meets (ask : Ask) (family file values scratch out scratch′ out′ : List ℕ) (r : Sheet) : Type 0 where
+  pub met : Met ask family file values scratch out scratch′ out′ r

@@ -11,9 +11,11 @@ use answers::Named;
 use answers::Run;
 use answers::Writing;
 use call_count::answers::Counted;
+use families::Family;
 ghost use mathlib.Core.Path.{_≡_};
 ghost use lib.ListN.{length};
-ghost use Rattle.meaning.specs.Calls.{counting, flattening, moduleCount, numberAt};
+ghost use Rattle.meaning.specs.Calls.{flattening, moduleCount, numberAt};
+ghost use Rattle.meaning.specs.Family.{summary};
 ghost use Rattle.answers.specs.Settled.{Settles};
 ghost use Rattle.call_evaluate.specs.Evaluates.{Evaluates};
 ghost use Rattle.call_rows.specs.Blocks.{EvaluatesRows};
@@ -26,7 +28,14 @@ pub fn modules(file: &[u8]) -> Listed
 {
     let mut scratch = [0u32; 1];
     let mut out = [0u8; 1];
-    let sheet = crate::opening::answer(Ask::Modules, file, file, &mut scratch, &mut out);
+    let sheet = crate::opening::answer(
+        Ask::Modules,
+        families::unit(),
+        file,
+        file,
+        &mut scratch,
+        &mut out,
+    );
     sheet.listed
 }
 
@@ -36,7 +45,14 @@ pub fn number_at(file: &[u8], position: usize) -> Named
 {
     let mut scratch = [0u32; 1];
     let mut out = [0u8; 1];
-    let sheet = crate::opening::answer(Ask::NumberAt(position), file, file, &mut scratch, &mut out);
+    let sheet = crate::opening::answer(
+        Ask::NumberAt(position),
+        families::unit(),
+        file,
+        file,
+        &mut scratch,
+        &mut out,
+    );
     sheet.named
 }
 
@@ -44,7 +60,14 @@ pub fn number_at(file: &[u8], position: usize) -> Named
 pub fn evaluate(file: &[u8], number: u16, values: &[u8], scratch: &mut [u32], out: &mut [u8]) -> Run
     ensures { λ r. ⌜ Evaluates (now (file .entry)) number (now (values .entry)) (now (scratch .entry)) (now (out .entry)) (now (scratch .exit)) (now (out .exit)) r ⌝ }
 {
-    let sheet = crate::opening::answer(Ask::Of(Task::Evaluate, number), file, values, scratch, out);
+    let sheet = crate::opening::answer(
+        Ask::Of(Task::Evaluate, number),
+        families::unit(),
+        file,
+        values,
+        scratch,
+        out,
+    );
     let writing = sheet.writing;
     let work = sheet.work;
     Run { writing, work }
@@ -63,6 +86,7 @@ pub fn evaluate_rows(
 {
     let sheet = crate::opening::answer(
         Ask::Of(Task::Rows(rows), number),
+        families::unit(),
         file,
         values,
         scratch,
@@ -73,13 +97,14 @@ pub fn evaluate_rows(
     Run { writing, work }
 }
 
-// The figures of the module of a number.
-pub fn count(file: &[u8], number: u16, scratch: &mut [u32]) -> Counted
-    ensures { λ r. ⌜ Counts (counting (now (file .entry)) number (length (now (scratch .entry)))) (now (scratch .entry)) (now (scratch .exit)) r ⌝ }
+// The figures of the module of a number, with its delay by a chip family.
+pub fn count(file: &[u8], number: u16, family: Family, scratch: &mut [u32]) -> Counted
+    ensures { λ r. ⌜ Counts (summary (now (file .entry)) number (family .delays) (length (now (scratch .entry)))) (now (scratch .entry)) (now (scratch .exit)) r ⌝ }
 {
     let mut out = [0u8; 1];
     let sheet = crate::opening::answer(
         Ask::Of(Task::Own(Own::Count), number),
+        family,
         file,
         file,
         scratch,
@@ -96,6 +121,7 @@ pub fn flatten(file: &[u8], number: u16, scratch: &mut [u32], out: &mut [u8]) ->
 {
     let sheet = crate::opening::answer(
         Ask::Of(Task::Own(Own::Flatten), number),
+        families::unit(),
         file,
         file,
         scratch,

@@ -2,6 +2,7 @@
 use crate::asks::Ask;
 use crate::asks::Sheet;
 use answers::Listed;
+use families::Family;
 use open_file::Prepared;
 use open_finding::Place;
 ghost use Prim.Native.Nat.{_≤_};
@@ -13,6 +14,7 @@ ghost use Rattle.open_file.specs.Prepared.{Open};
 // What is asked of a file that stands ready.
 fn ask_open(
     ask: Ask,
+    family: Family,
     modules: usize,
     image: &[u16],
     starts: &[usize],
@@ -27,7 +29,7 @@ fn ask_open(
     requires { ⌜ Open (now image) (now starts) (now names) (now nets) (now sizes) (now rooms) modules ⌝ }
     requires { ⌜ length (now image) ≤ 65535 ⌝ }
     ensures { λ r. ⌜ ((o : Open (now (image .entry)) (now (starts .entry)) (now (names .entry)) (now (nets .entry)) (now (sizes .entry)) (now (rooms .entry)) modules)
-        → Meets ask (o .file) (now (values .entry)) (now (scratch .entry)) (now (out .entry)) (now (scratch .exit)) (now (out .exit)) r) ⌝ }
+        → Meets ask (family .delays) (o .file) (now (values .entry)) (now (scratch .entry)) (now (out .entry)) (now (scratch .exit)) (now (out .exit)) r) ⌝ }
 {
     match ask {
         Ask::Modules => crate::asks::listed(Listed::Modules(modules)),
@@ -38,16 +40,33 @@ fn ask_open(
             Place::Nowhere => crate::asks::refused(18, 0),
             Place::At(k) => {
                 let site = open_finding::site_at(k, number, sizes, rooms);
-                crate::working::work_at(task, image, starts, nets, site, values, scratch, out)
+                crate::working::work_at(
+                    task,
+                    image,
+                    starts,
+                    nets,
+                    site,
+                    family,
+                    values,
+                    scratch,
+                    out,
+                )
             }
         },
     }
 }
 
 // A short file, which should not pay for clearing long lists.
-fn ask_short(ask: Ask, file: &[u8], values: &[u8], scratch: &mut [u32], out: &mut [u8]) -> Sheet
+fn ask_short(
+    ask: Ask,
+    family: Family,
+    file: &[u8],
+    values: &[u8],
+    scratch: &mut [u32],
+    out: &mut [u8],
+) -> Sheet
     requires { ⌜ Short (now file) ⌝ }
-    ensures { λ r. ⌜ Meets ask (now (file .entry)) (now (values .entry)) (now (scratch .entry)) (now (out .entry)) (now (scratch .exit)) (now (out .exit)) r ⌝ }
+    ensures { λ r. ⌜ Meets ask (family .delays) (now (file .entry)) (now (values .entry)) (now (scratch .entry)) (now (out .entry)) (now (scratch .exit)) (now (out .exit)) r ⌝ }
 {
     let mut image = [0u16; 1024];
     let mut starts = [0usize; 128];
@@ -71,6 +90,7 @@ fn ask_short(ask: Ask, file: &[u8], values: &[u8], scratch: &mut [u32], out: &mu
         Prepared::Refused { number, place } => crate::asks::refused(number, place),
         Prepared::Ready(modules) => ask_open(
             ask,
+            family,
             modules,
             &image,
             &starts,
@@ -86,8 +106,15 @@ fn ask_short(ask: Ask, file: &[u8], values: &[u8], scratch: &mut [u32], out: &mu
 }
 
 // Any file.
-fn ask_large(ask: Ask, file: &[u8], values: &[u8], scratch: &mut [u32], out: &mut [u8]) -> Sheet
-    ensures { λ r. ⌜ Meets ask (now (file .entry)) (now (values .entry)) (now (scratch .entry)) (now (out .entry)) (now (scratch .exit)) (now (out .exit)) r ⌝ }
+fn ask_large(
+    ask: Ask,
+    family: Family,
+    file: &[u8],
+    values: &[u8],
+    scratch: &mut [u32],
+    out: &mut [u8],
+) -> Sheet
+    ensures { λ r. ⌜ Meets ask (family .delays) (now (file .entry)) (now (values .entry)) (now (scratch .entry)) (now (out .entry)) (now (scratch .exit)) (now (out .exit)) r ⌝ }
 {
     let mut image = [0u16; 65535];
     let mut starts = [0usize; 128];
@@ -111,6 +138,7 @@ fn ask_large(ask: Ask, file: &[u8], values: &[u8], scratch: &mut [u32], out: &mu
         Prepared::Refused { number, place } => crate::asks::refused(number, place),
         Prepared::Ready(modules) => ask_open(
             ask,
+            family,
             modules,
             &image,
             &starts,
@@ -127,15 +155,22 @@ fn ask_large(ask: Ask, file: &[u8], values: &[u8], scratch: &mut [u32], out: &mu
 
 // The one door. A long file goes the long way at once. Called from two places that way stays a function of its own, and a short file
 // does not pay for its stack.
-pub fn answer(ask: Ask, file: &[u8], values: &[u8], scratch: &mut [u32], out: &mut [u8]) -> Sheet
-    ensures { λ r. ⌜ Meets ask (now (file .entry)) (now (values .entry)) (now (scratch .entry)) (now (out .entry)) (now (scratch .exit)) (now (out .exit)) r ⌝ }
+pub fn answer(
+    ask: Ask,
+    family: Family,
+    file: &[u8],
+    values: &[u8],
+    scratch: &mut [u32],
+    out: &mut [u8],
+) -> Sheet
+    ensures { λ r. ⌜ Meets ask (family .delays) (now (file .entry)) (now (values .entry)) (now (scratch .entry)) (now (out .entry)) (now (scratch .exit)) (now (out .exit)) r ⌝ }
 {
     if 1024 < file.len() {
-        return ask_large(ask, file, values, scratch, out);
+        return ask_large(ask, family, file, values, scratch, out);
     }
     if open_shortness::is_short(file) {
-        ask_short(ask, file, values, scratch, out)
+        ask_short(ask, family, file, values, scratch, out)
     } else {
-        ask_large(ask, file, values, scratch, out)
+        ask_large(ask, family, file, values, scratch, out)
     }
 }

@@ -2,6 +2,7 @@
 use crate::asks::Own;
 use crate::asks::Sheet;
 use crate::asks::Task;
+use families::Family;
 use open_finding::Site;
 ghost use Prim.Native.Nat.{ℕ, _≤_};
 ghost use mathlib.Core.List.{List};
@@ -31,6 +32,7 @@ fn own_short(
     starts: &[usize],
     nets: &[usize],
     site: Site,
+    family: Family,
     scratch: &mut [u32],
     out: &mut [u8],
 ) -> Sheet
@@ -38,7 +40,7 @@ fn own_short(
     requires { ⌜ length (now image) ≤ 1024 ⌝ }
     requires { ⌜ InShort own site ⌝ }
     ensures { λ r. ⌜ ((s : Standing (now (image .entry)) (now (starts .entry)) (now (nets .entry)) site)
-        → (values : List ℕ) → Done (Task.Own own) (site .number) values (now (scratch .entry)) (now (out .entry)) (s .ms) (s .found .m) (now (scratch .exit)) (now (out .exit)) r) ⌝ }
+        → (values : List ℕ) → Done (Task.Own own) (family .delays) (site .number) values (now (scratch .entry)) (now (out .entry)) (s .ms) (s .found .m) (now (scratch .exit)) (now (out .exit)) r) ⌝ }
 {
     match own {
         Own::Count => crate::asks::counted(call_count::here::count_small(
@@ -46,6 +48,7 @@ fn own_short(
             starts,
             nets,
             site,
+            family,
             scratch,
         )),
         Own::Flatten => crate::asks::wrote(call_flatten::flatten_small(
@@ -66,13 +69,14 @@ fn own_long(
     starts: &[usize],
     nets: &[usize],
     site: Site,
+    family: Family,
     scratch: &mut [u32],
     out: &mut [u8],
 ) -> Sheet
     requires { ⌜ Standing (now image) (now starts) (now nets) site ⌝ }
     requires { ⌜ length (now image) ≤ 65535 ⌝ }
     ensures { λ r. ⌜ ((s : Standing (now (image .entry)) (now (starts .entry)) (now (nets .entry)) site)
-        → (values : List ℕ) → Done (Task.Own own) (site .number) values (now (scratch .entry)) (now (out .entry)) (s .ms) (s .found .m) (now (scratch .exit)) (now (out .exit)) r) ⌝ }
+        → (values : List ℕ) → Done (Task.Own own) (family .delays) (site .number) values (now (scratch .entry)) (now (out .entry)) (s .ms) (s .found .m) (now (scratch .exit)) (now (out .exit)) r) ⌝ }
 {
     match own {
         Own::Count => crate::asks::counted(call_count::here::count_large(
@@ -80,6 +84,7 @@ fn own_long(
             starts,
             nets,
             site,
+            family,
             scratch,
         )),
         Own::Flatten => crate::asks::wrote(call_flatten::flatten_at(
@@ -100,6 +105,7 @@ pub(crate) fn work_at(
     starts: &[usize],
     nets: &[usize],
     site: Site,
+    family: Family,
     values: &[u8],
     scratch: &mut [u32],
     out: &mut [u8],
@@ -107,7 +113,7 @@ pub(crate) fn work_at(
     requires { ⌜ Standing (now image) (now starts) (now nets) site ⌝ }
     requires { ⌜ length (now image) ≤ 65535 ⌝ }
     ensures { λ r. ⌜ ((s : Standing (now (image .entry)) (now (starts .entry)) (now (nets .entry)) site)
-        → Done task (site .number) (now (values .entry)) (now (scratch .entry)) (now (out .entry)) (s .ms) (s .found .m) (now (scratch .exit)) (now (out .exit)) r) ⌝ }
+        → Done task (family .delays) (site .number) (now (values .entry)) (now (scratch .entry)) (now (out .entry)) (s .ms) (s .found .m) (now (scratch .exit)) (now (out .exit)) r) ⌝ }
 {
     match task {
         Task::Evaluate => crate::asks::ran(call_evaluate::run_at(
@@ -131,12 +137,12 @@ pub(crate) fn work_at(
         )),
         Task::Own(own) => {
             if 1024 < image.len() {
-                return own_long(own, image, starts, nets, site, scratch, out);
+                return own_long(own, image, starts, nets, site, family, scratch, out);
             }
             if in_short(own, site) {
-                return own_short(own, image, starts, nets, site, scratch, out);
+                return own_short(own, image, starts, nets, site, family, scratch, out);
             }
-            own_long(own, image, starts, nets, site, scratch, out)
+            own_long(own, image, starts, nets, site, family, scratch, out)
         }
     }
 }

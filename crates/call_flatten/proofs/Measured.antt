@@ -11,10 +11,10 @@ use Rattle.meaning.specs.Calls.{flatFile}
 use Rattle.laws.specs.Acceptable.{size-within}
 use Rattle.laws.specs.Bounds.{weight-size}
 use Rattle.laws.specs.Flatten.Bytes.{bytes-of-flat}
+use Rattle.laws.specs.RoomBound.{room-of-bytes}
 use Rattle.open_finding.specs.Standing.{Standing, accepted, module-within}
 use Rattle.open_finding.specs.declared.Site.{Site}
 use Rattle.flat_lists.specs.Placeable.{Placeable}
-use Rattle.call_flatten.proofs.RoomBound.{room-of-bytes}
 
 module _ {image starts nets : List ℕ} {site : Site} (s : Standing image starts nets site) where
   -- Inputs plus gates.

@@ -3,7 +3,6 @@
 use Prim.Native.Nat.{ℕ, _+_, _*_, _≤_, _<_}
 use mathlib.Core.Path.{_≡_, ap, _∙_}
 use mathlib.Core.List.{List, [], _∷_, _++_}
-use native.Mathlib.Decide.{decLt}
 use native.Mathlib.Omega.{arith}
 use lib.ListN.{length, length-append}
 use Rattle.meaning.specs.Syntax.{Occurrence, Module}
@@ -11,20 +10,11 @@ use Rattle.meaning.specs.Layout.{each, numberBytes, encode}
 use Rattle.meaning.specs.Withdrawn.{pairKind, twoKind, threeGates, rewriteBody, unused, rewriteModule, rewriteFile}
 use Rattle.laws.specs.Lists.{each-append}
 use Rattle.laws.specs.WellFormed.{Accepted}
-use Rattle.laws.specs.Written.{netsBytes, occurrenceBytes, moduleBytes, bytes-of-low, bytes-of-high, bytes-of-nets, bytes-of-occurrence, bytes-of-module, bytes-of-file}
+use Rattle.laws.specs.Written.{netsBytes, occurrenceBytes, moduleBytes, some-byte, bytes-of-nets, bytes-of-occurrence, bytes-of-module, bytes-of-file}
 use Rattle.laws.specs.Adder.Bytes.{most-count, low-count}
 use Rattle.laws.specs.Withdrawn.Kinds.{Four, nand4, or4, and4, nor4, four-is}
 use Rattle.laws.specs.Withdrawn.Suits.{onFour, Suits, over, kept, replaced}
 use Rattle.laws.specs.Withdrawn.Enough.{module-suits}
-
-some-byte : (n : ℕ) → 1 ≤ length (numberBytes n)
-some-byte n = go (decLt n 128)
-  where
-    go : Dec (n < 128) → 1 ≤ length (numberBytes n)
-    go (yes low) = rw (bytes-of-low n low) (omega arith)
-    go (no high) =
-        let large : 128 ≤ n = omega arith in
-        rw (bytes-of-high n large) (omega arith)
 
 -- The bytes of an occurrence, and of lists of nets of one, two and four.
 long-occurrence : (o : Occurrence)

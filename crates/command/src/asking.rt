@@ -4,6 +4,7 @@ use rows_file::Loaded;
 use rows_file::front;
 use shelf::Checked;
 use shelf::Counted;
+use shelf::Family;
 use shelf::Writing;
 
 pub(crate) fn check(path: &[u8]) {
@@ -30,42 +31,47 @@ fn show_checked(checked: Checked) {
 }
 
 // The listing, or the refusal with its words.
-pub(crate) fn list(path: &[u8]) {
+pub(crate) fn list(path: &[u8], family: Family) {
     let mut file = io::large_buffer();
     match crate::files::load(path, &mut file) {
         Loaded::Failed => crate::saying::cannot_read(path),
-        Loaded::Bytes(count) => list_accepted(front(count, &file)),
+        Loaded::Bytes(count) => list_accepted(front(count, &file), family),
     }
 }
 
-fn list_accepted(file: &[u8]) {
+fn list_accepted(file: &[u8], family: Family) {
     match shelf::check(file) {
-        Checked::Good => list_file::printing::print(file),
+        Checked::Good => list_file::printing::print(file, family),
         Checked::Broken { number, place } => crate::refusing::refuse(number, place),
     }
 }
 
-pub(crate) fn count(path: &[u8], number: &[u8]) {
+pub(crate) fn count(path: &[u8], number: &[u8], family: Family) {
     match crate::texts::module(path, number) {
         Parsed::Other => crate::texts::no_module(path, number),
-        Parsed::Number(n) => count_module(path, n),
+        Parsed::Number(n) => count_module(path, n, family),
     }
 }
 
-fn count_module(path: &[u8], number: u16) {
+fn count_module(path: &[u8], number: u16, family: Family) {
     let mut file = io::large_buffer();
     match crate::files::load(path, &mut file) {
         Loaded::Failed => crate::saying::cannot_read(path),
         Loaded::Bytes(count) => {
             let mut scratch = [0u32; 40960];
-            crate::counted::show(count_in(front(count, &file), number, &mut scratch));
+            crate::counted::show(count_in(front(count, &file), number, family, &mut scratch));
         }
     }
 }
 
 // The scratch of a call: no module has more room.
-pub(crate) fn count_in(file: &[u8], number: u16, scratch: &mut [u32; 40960]) -> Counted {
-    shelf::count(file, number, scratch)
+pub(crate) fn count_in(
+    file: &[u8],
+    number: u16,
+    family: Family,
+    scratch: &mut [u32; 40960],
+) -> Counted {
+    shelf::count(file, number, family, scratch)
 }
 
 // Values and outputs are words of digits; x and z, in either case, are 2 and 3. Any digit is taken for a value; which are good the library

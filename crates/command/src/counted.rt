@@ -25,6 +25,7 @@ fn show_figures(figures: Figures) {
     say_figure(b" room ", figures.room);
     say_figure(b" delay ", figures.delay);
     say_figure(b" load ", figures.load);
+    say_figure(b" family ", figures.family);
 }
 
 fn show_kinds(figures: Figures) {

@@ -1,6 +1,7 @@
 // The command `gimlet`, all of it but where its words come from: so that it can be held to stored lines. It decides nothing itself. Each
 // answer is one line on standard output; a refusal has a second line that says in words which rule it is and what the place means.
 mod asking; // asking.rt: check, strict, list, count and run
+mod chips; // chips.rt: families, and list and count by one
 mod counted; // counted.rt: the figures of a module
 mod files; // files.rt: bytes in, bytes out
 mod listing; // listing.rt: a listing for a board maker
@@ -21,8 +22,13 @@ use words::word_at;
 
 // Performs the command of a line, whose words each end with a byte of 0.
 pub fn perform(line: &[u8]) {
+    let many = words::count(line);
+    if many == 17 && is(word_at(line, 0), b"family") {
+        chips::write(line);
+        return;
+    }
     carry_out(
-        words::count(line),
+        many,
         word_at(line, 0),
         word_at(line, 1),
         word_at(line, 2),
@@ -67,7 +73,7 @@ fn with_one(name: &[u8], first: &[u8]) {
     } else if is(name, b"strict") {
         asking::strict(first);
     } else if is(name, b"list") {
-        asking::list(first);
+        asking::list(first, list_file::chip::here());
     } else if is(name, b"file") {
         placing::file(first);
     } else if is(name, b"print") {
@@ -79,7 +85,7 @@ fn with_one(name: &[u8], first: &[u8]) {
 
 fn with_two(name: &[u8], first: &[u8], second: &[u8]) {
     if is(name, b"count") {
-        asking::count(first, second);
+        asking::count(first, second, list_file::chip::here());
     } else if is(name, b"rewrite") {
         making::rewrite(first, second);
     } else if is(name, b"adder") {
@@ -106,6 +112,8 @@ fn with_two(name: &[u8], first: &[u8], second: &[u8]) {
 fn with_three(name: &[u8], first: &[u8], second: &[u8], third: &[u8]) {
     if is(name, b"run") {
         asking::run(false, first, second, third);
+    } else if is(name, b"list") && is(first, b"--family") {
+        chips::list(second, third);
     } else if is(name, b"flatten") {
         making::flatten(first, second, third);
     } else if is(name, b"find") {
@@ -124,6 +132,8 @@ fn with_four(name: &[u8], first: &[u8], second: &[u8], third: &[u8], fourth: &[u
         shelves::find(first, second, third, fourth);
     } else if is(name, b"run") && is(first, b"--work") {
         asking::run(true, second, third, fourth);
+    } else if is(name, b"count") && is(first, b"--family") {
+        chips::count(second, third, fourth);
     } else if is(name, b"rows") {
         rows::rows(false, first, second, third, fourth);
     } else {

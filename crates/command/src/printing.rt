@@ -14,8 +14,8 @@ pub(crate) fn print(path: &[u8]) {
 }
 
 pub(crate) fn print_module(path: &[u8], number: &[u8]) {
-    match crate::words::parse(number) {
-        Parsed::Other => crate::saying::not_a_number(number),
+    match crate::texts::module(path, number) {
+        Parsed::Other => crate::texts::no_module(path, number),
         Parsed::Number(n) => print_wanted(path, Wanted::Module(n)),
     }
 }

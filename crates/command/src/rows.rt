@@ -28,7 +28,7 @@ fn rows_of(work: bool, path: &[u8], number: u16, from: &[u8], to: &[u8]) {
 // How many inputs the module has is asked first, so that a line with another count of values can be told by its number.
 fn rows_in(work: bool, file: &[u8], number: u16, from: &[u8], to: &[u8]) {
     let mut scratch = [0u32; 40960];
-    let counted = crate::asking::count_in(file, number, &mut scratch);
+    let counted = crate::asking::count_in(file, number, families::unit(), &mut scratch);
     if counted.number != 0 {
         crate::refusing::refuse(counted.number, counted.place);
         return;

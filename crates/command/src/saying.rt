@@ -59,8 +59,13 @@ gimlet strict FILE               whether it is accepted and uses no four-input g
 gimlet rewrite FILE OUT          writes it with gates of two inputs in place of those of
                                  four
 gimlet list FILE                 a line for each module: position, number, inputs,
-                                 outputs, gates, size, room, delay, largest load
+                                 outputs, gates, size, room, delay, largest load,
+                                 delay by the chip family of the file `family`, which
+                                 has sixteen bytes, the gates' delays; else all are 1
 gimlet count FILE MODULE         the figures of a module, and its gates of each kind
+gimlet list --family CHIP FILE   the same by the family of the file CHIP, and so
+gimlet count --family CHIP ..    are the figures
+gimlet family 1 1 2 ..           writes sixteen delays, 0 to 255, to the file `family`
 gimlet run FILE MODULE VALUES    the outputs of a module; values and outputs are words
                                  of 0, 1 and 2, where 2 is unknown; a value may also
                                  be 3, which floats; x and z stand for 2 and 3, and _

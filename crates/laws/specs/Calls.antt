@@ -92,20 +92,35 @@ module _ {R : Type 0} where
   unfolding onFile
   asked-here ask here = rw (here .reads, here .accepted, here .found)
 
-  -- Calls that ask the same of every module come to the same.
-  pub asked-alike :
-      (file : List ℕ) (number : ℕ) {ask ask′ : List Module → Module → Decision R}
-      → ((ms : List Module) (m : Module) → ask ms m ≡ ask′ ms m)
-      → onNumber file number ask ≡ onNumber file number ask′
-  unfolding onFile
-  asked-alike file number {ask} {ask′} alike = reading (read file)
-    where
-      finding : (ms : List Module) (found : Found) → onModule found (ask ms) ≡ onModule found (ask′ ms)
-      finding ms (box m) = alike ms m
-      finding ms F = refl
+-- What is read off a call, refusals as they are, is read off what is asked of each module.
+pub asked-through :
+    {R S : Type 0} (off : Decision R → Decision S)
+    → ((number place : ℕ) → off (refusal number place) ≡ refusal number place)
+    → (file : List ℕ) (number : ℕ) {ask : List Module → Module → Decision R} {ask′ : List Module → Module → Decision S}
+    → ((ms : List Module) (m : Module) → off (ask ms m) ≡ ask′ ms m)
+    → off (onNumber file number ask) ≡ onNumber file number ask′
+unfolding onFile
+asked-through off kept file number {ask} {ask′} alike = reading (read file)
+  where
+    finding : (ms : List Module) (found : Found) → off (onModule found (ask ms)) ≡ onModule found (ask′ ms)
+    finding ms (box m) = alike ms m
+    finding ms F = kept 18 0
 
-      reading :
-          (f : File)
-          → onRead f (λ ms. onModule (assoc number ms) (ask ms)) ≡ onRead f (λ ms. onModule (assoc number ms) (ask′ ms))
-      reading (holds ms) = ap (ifGood (fileVerdict ms)) (finding ms (assoc number ms))
-      reading (fails n place) = refl
+    checking :
+        (ms : List Module) (v : Verdict)
+        → off (ifGood v (onModule (assoc number ms) (ask ms))) ≡ ifGood v (onModule (assoc number ms) (ask′ ms))
+    checking ms good = finding ms (assoc number ms)
+    checking ms (refused n place) = kept n place
+
+    reading :
+        (f : File)
+        → off (onRead f (λ ms. onModule (assoc number ms) (ask ms))) ≡ onRead f (λ ms. onModule (assoc number ms) (ask′ ms))
+    reading (holds ms) = checking ms (fileVerdict ms)
+    reading (fails n place) = kept n place
+
+-- Calls that ask the same of every module come to the same.
+pub asked-alike :
+    {R : Type 0} (file : List ℕ) (number : ℕ) {ask ask′ : List Module → Module → Decision R}
+    → ((ms : List Module) (m : Module) → ask ms m ≡ ask′ ms m)
+    → onNumber file number ask ≡ onNumber file number ask′
+asked-alike = asked-through (λ d. d) (λ n place. refl)

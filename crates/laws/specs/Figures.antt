@@ -5,4 +5,5 @@ pub mod Weights
 pub mod Tally
 -- What delay is at most, and what number types need.
 pub mod Delay
+pub mod Reached
 pub mod Bounds

@@ -58,11 +58,14 @@ pub mod Flatten
 pub mod NoneMissing
 pub mod Figures
 pub mod Loads
+pub mod RoomBound
 pub mod Counter
 pub mod Demands
 pub mod Floating
 pub mod Work
 pub mod Ndl
+pub mod Family
+pub mod FamilyCalls
 pub mod Withdrawn
 pub mod Filing
 pub mod Texts

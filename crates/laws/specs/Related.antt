@@ -20,9 +20,9 @@ forall₂-append none rest = rest
 forall₂-append (more r rs) rest = more r (forall₂-append rs rest)
 
 -- Two bindings of one net, to related values.
-record Bound {A B : Type 0} (R : A → B → Type 0) (x : Binding A) (y : Binding B) : Type 0 where
-  same-net : x .net ≡ y .net
-  values : R (x .value) (y .value)
+pub record Bound {A B : Type 0} (R : A → B → Type 0) (x : Binding A) (y : Binding B) : Type 0 where
+  pub same-net : x .net ≡ y .net
+  pub values : R (x .value) (y .value)
 
 -- Two meanings that take related lists to related lists.
 pub record Respects {A B : Type 0} (R : A → B → Type 0) (f : Meaning A) (g : Meaning B) : Type 0 where
@@ -35,7 +35,7 @@ module _ {A B : Type 0} (R : A → B → Type 0) where
   cond-related false p q = q
 
 module _ {A B : Type 0} (R : A → B → Type 0) (noneA : A) (noneB : B) (unset : R noneA noneB) where
-  look-related : (net : ℕ) {e : Env A} {f : Env B} → Forall₂ (Bound R) e f → R (look noneA net e) (look noneB net f)
+  pub look-related : (net : ℕ) {e : Env A} {f : Env B} → Forall₂ (Bound R) e f → R (look noneA net e) (look noneB net f)
   unfolding look
   look-related net none = unset
   look-related net (more {b = y} bound rest) =
@@ -47,7 +47,7 @@ module _ {A B : Type 0} (R : A → B → Type 0) (noneA : A) (noneB : B) (unset 
   lookAll-related [] env = none
   lookAll-related (net ∷ nets) env = more (look-related net env) (lookAll-related nets env)
 
-  pairs-related :
+  pub pairs-related :
       (nets : List ℕ) {vs : List A} {ws : List B}
       → Forall₂ R vs ws
       → Forall₂ (Bound R) (pairs noneA nets vs) (pairs noneB nets ws)
@@ -65,7 +65,7 @@ module _ {A B : Type 0} (R : A → B → Type 0) (noneA : A) (noneB : B) (unset 
         → Forall₂ R (apply f l number vs) (apply g l′ number ws)
     apply-related later number vs = cond-related (Forall₂ R) (isGate number) (gates .keeps number vs) (later .keeps number vs)
 
-    walk-related :
+    pub walk-related :
         {l : Meaning A} {l′ : Meaning B}
         → Respects R l l′
         → (os : List Occurrence) {e : Env A} {e′ : Env B}

@@ -20,7 +20,7 @@ use Rattle.meaning.specs.Calls.{Decision, refusal, answer, ifGood, onRead, onMo
 use Rattle.meaning.specs.Calls.{evaluationOn, evaluation, flattening, counting}
 use Rattle.meaning.specs.Rows.{rowsOf, rowsEvaluationOn, rowsEvaluation}
 use Rattle.meaning.specs.Work.{walkWork, runWork, work, blockWork, Ran, withWork, running, rowsRunning, writtenBy}
-use Rattle.laws.specs.Calls.{ModuleOf, onNumber, module-met, same-answer}
+use Rattle.laws.specs.Calls.{ModuleOf, onNumber, module-met, same-answer, asked-through}
 use Rattle.laws.specs.RowParts.{count-of-rows}
 use Rattle.laws.specs.Runs.{only-run-answered}
 use Rattle.laws.specs.Demands.FlatRuns.{flattens, one-module, counted-here}
@@ -66,65 +66,35 @@ block-works ms number rows width values =
     block-work-is-sizes ms number (map (map value) (rowsOf rows width values))
     ∙ ap (λ (n : ℕ). n * expandedSize ms number) (length-map (rowsOf rows width values) (map value) ∙ count-of-rows rows width values)
 
--- A call on a module, with what work it is beside it.
-module _ (file : List ℕ) (number : ℕ) (ask : List Module → Module → Decision Written) (works : List Module → Module → ℕ) where
-  abbrev beside : List Module → Module → Decision Ran
-  beside ms m = withWork (ask ms m) (works ms m)
+-- Beside its work a call comes to what it comes to without.
+written : (d : Decision Written) (n : ℕ) → writtenBy (withWork d n) ≡ d
+written (refusal number place) n = refl
+written (answer w) n = refl
 
-  -- It comes to what it comes to without.
-  beside-writes : writtenBy (onNumber file number beside) ≡ onNumber file number ask
-  unfolding onFile
-  beside-writes = reading (read file)
-    where
-      written : (d : Decision Written) (n : ℕ) → writtenBy (withWork d n) ≡ d
-      written (refusal number place) n = refl
-      written (answer w) n = refl
-
-      finding : (ms : List Module) (f : Found) → writtenBy (onModule f (beside ms)) ≡ onModule f (ask ms)
-      finding ms (box m) = written (ask ms m) (works ms m)
-      finding ms F = refl
-
-      checking :
-          (ms : List Module) (v : Verdict)
-          → writtenBy (ifGood v (onModule (assoc number ms) (beside ms))) ≡ ifGood v (onModule (assoc number ms) (ask ms))
-      checking ms good = finding ms (assoc number ms)
-      checking ms (refused n p) = refl
-
-      reading :
-          (f : File)
-          → writtenBy (onRead f (λ ms. onModule (assoc number ms) (beside ms))) ≡ onRead f (λ ms. onModule (assoc number ms) (ask ms))
-      reading (holds ms) = checking ms (fileVerdict ms)
-      reading (fails n p) = refl
-
-  -- An answer has the work of a file's module.
-  worked :
-      (r : Ran)
-      → onNumber file number beside ≡ answer r
-      → (ms : List Module) × (m : Module) × ModuleOf file number ms m × (r .work ≡ works ms m)
-  worked r h =
-      let a = module-met file number {ask = beside} h in
-      (a .ms, a .m, a .here, counted (ask (a .ms) (a .m)) (a .answered))
-    where
-      counted : (d : Decision Written) {n : ℕ} → withWork d n ≡ answer r → r .work ≡ n
-      counted (refusal number place) e = absurd (let z : _≡_ {A = ℕ} 0 1 = cc in omega arith)
-      counted (answer w) e = sym (ap (λ (ran : Ran). ran .work) (same-answer e))
-
--- Beside its work a run comes to what evaluation comes to,
 pub running-writes :
     (file : List ℕ) (number : ℕ) (values : List ℕ) (scratch out : ℕ)
     → writtenBy (running file number values scratch out) ≡ evaluation file number values scratch out
 unfolding running evaluation
-running-writes file number values scratch out =
-    beside-writes file number (evaluationOn number values scratch out) (λ ms m. work ms number (map value values))
+running-writes file number values scratch out = asked-through writtenBy (λ n p. refl) file number (λ ms m. written _ _)
 
--- and so does a block.
 pub rows-running-writes :
     (file : List ℕ) (number rows : ℕ) (values : List ℕ) (scratch out : ℕ)
     → writtenBy (rowsRunning file number rows values scratch out) ≡ rowsEvaluation file number rows values scratch out
 unfolding rowsRunning rowsEvaluation
-rows-running-writes file number rows values scratch out =
-    beside-writes file number (rowsEvaluationOn number rows values scratch out)
-    (λ ms m. blockWork ms number (map (map value) (rowsOf rows (length (m .inputs)) values)))
+rows-running-writes file number rows values scratch out = asked-through writtenBy (λ n p. refl) file number (λ ms m. written _ _)
+
+-- An answer has the work of a file's module.
+worked :
+    (file : List ℕ) (number : ℕ) (ask : List Module → Module → Decision Written) (works : List Module → Module → ℕ) (r : Ran)
+    → onNumber file number (λ ms m. withWork (ask ms m) (works ms m)) ≡ answer r
+    → (ms : List Module) × (m : Module) × ModuleOf file number ms m × (r .work ≡ works ms m)
+worked file number ask works r h =
+    let a = module-met file number {ask = λ ms m. withWork (ask ms m) (works ms m)} h in
+    (a .ms, a .m, a .here, counted (ask (a .ms) (a .m)) (a .answered))
+  where
+    counted : (d : Decision Written) {n : ℕ} → withWork d n ≡ answer r → r .work ≡ n
+    counted (refusal number place) e = absurd (let z : _≡_ {A = ℕ} 0 1 = cc in omega arith)
+    counted (answer w) e = sym (ap (λ (ran : Ran). ran .work) (same-answer e))
 
 -- An answered run of a file's module, and its work.
 ran-size :
@@ -133,7 +103,8 @@ ran-size :
     → (ms : List Module) × (m : Module) × ModuleOf file number ms m × (r .work ≡ expandedSize ms number)
 unfolding running
 ran-size file number values scratch out r h =
-    let a = worked file number (evaluationOn number values scratch out) (λ ms m. work ms number (map value values)) r h in
+    let a =
+    worked file number (evaluationOn number values scratch out) (λ ms m. work ms number (map value values)) r h in
     (a .0, a .1, a .2, a .3 ∙ work-is-size (a .0) number (map value values))
 
 module _ (file : List ℕ) (number : ℕ) (counted : ℕ) (figures : Figures) (counts : counting file number counted ≡ answer figures) where

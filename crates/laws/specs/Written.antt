@@ -3,6 +3,8 @@
 use Prim.Native.Nat.{ℕ, _+_, _/_, _%_, _<_, _≤_}
 use mathlib.Core.Path.{_≡_, refl}
 use mathlib.Core.List.{List, [], _∷_, _++_}
+use native.Mathlib.Decide.{decLt}
+use native.Mathlib.Omega.{arith}
 use lib.ListN.{length}
 use borrow.Author.Tests.{lt-ltb, le-ltb}
 use Rattle.meaning.specs.Syntax.{Occurrence, Module}
@@ -16,6 +18,16 @@ bytes-of-low n low = rw (lt-ltb n 128 low)
 pub bytes-of-high : (n : ℕ) → 128 ≤ n → numberBytes n ≡ (128 + n % 128) ∷ (n / 128) ∷ []
 unfolding numberBytes
 bytes-of-high n high = rw (le-ltb n 128 high)
+
+-- A number has a byte at least.
+pub some-byte : (n : ℕ) → 1 ≤ length (numberBytes n)
+some-byte n = go (decLt n 128)
+  where
+    go : Dec (n < 128) → 1 ≤ length (numberBytes n)
+    go (yes low) = rw (bytes-of-low n low) (omega arith)
+    go (no high) =
+        let large : 128 ≤ n = omega arith in
+        rw (bytes-of-high n large) (omega arith)
 
 abbrev pub netsBytes : List ℕ → List ℕ
 netsBytes nets = each numberBytes (listNumbers nets)

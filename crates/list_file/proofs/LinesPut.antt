@@ -8,7 +8,7 @@ use borrow.Rule.Slice.PartMut.{midOf, putMid, mid-len}
 use lib.ListN.{length, take, drop, take-append-drop, drop-of-length-le}
 use lib.Seq.{drop-drop, drop-append-le}
 use Rattle.meaning.specs.Syntax.{Module}
-use Rattle.meaning.specs.Calls.{counting}
+use Rattle.meaning.specs.Family.{summary}
 use Rattle.meaning.specs.Listing.{line, lines, listingScratch}
 use Rattle.image.specs.Laid.{laid}
 use Rattle.open_finding.specs.Here.{Here}
@@ -46,20 +46,20 @@ put-in-part {text} {out} {part} at end ordered fits d =
         ∙ drop-drop (length text) at out
 
 -- The line of a module.
-abbrev lineOf : (file : List ℕ) (position : ℕ) → Module → List ℕ
-lineOf file position m = line position (m .number) (counting file (m .number) listingScratch)
+abbrev lineOf : (file family : List ℕ) (position : ℕ) → Module → List ℕ
+lineOf file family position m = line position (m .number) (summary file (m .number) family listingScratch)
 
 -- The lines of the modules in front of a position are written.
-pub record Sofar (file : List ℕ) (ms : List Module) (position : ℕ) (out₀ out : List ℕ) (at : ℕ) : Type 0 where
+pub record Sofar (file family : List ℕ) (ms : List Module) (position : ℕ) (out₀ out : List ℕ) (at : ℕ) : Type 0 where
   pub done : List ℕ
   pub put : PutDown done out₀ 0 out at
-  pub whole : done ++ lines file position (drop position ms) ≡ lines file 0 ms
+  pub whole : done ++ lines file family position (drop position ms) ≡ lines file family 0 ms
   pub short : at ≤ longestLine * position
 
-pub none : (file : List ℕ) (ms : List Module) (out : List ℕ) → Sofar file ms 0 out out 0
-none file ms out = record { done = []; put = put-nothing out 0 (omega arith); whole = refl; short = omega arith }
+pub none : (file family : List ℕ) (ms : List Module) (out : List ℕ) → Sofar file family ms 0 out out 0
+none file family ms out = record { done = []; put = put-nothing out 0 (omega arith); whole = refl; short = omega arith }
 
-module _ {file : List ℕ} {ms : List Module} {position : ℕ} {out₀ out : List ℕ} {at : ℕ} (s : Sofar file ms position out₀ out at) where
+module _ {file family : List ℕ} {ms : List Module} {position : ℕ} {out₀ out : List ℕ} {at : ℕ} (s : Sofar file family ms position out₀ out at) where
   -- There is room for one more.
   module _
       {image starts names nets sizes rooms : List ℕ} {modules : ℕ} {loads scratch : List ℕ}
@@ -78,28 +78,28 @@ module _ {file : List ℕ} {ms : List Module} {position : ℕ} {out₀ out : Lis
       (h : Here ms position) (end : ℕ) {part : List ℕ} {used : ℕ}
       → end ≡ at + longestLine
       → end ≤ length out
-      → PutDown (lineOf file position (h .m)) (midOf at (end - at) out) 0 part used
-      → Sofar file ms (position + 1) out₀ (putMid at (end - at) out part) (at + used)
+      → PutDown (lineOf file family position (h .m)) (midOf at (end - at) out) 0 part used
+      → Sofar file family ms (position + 1) out₀ (putMid at (end - at) out part) (at + used)
   unfolding lines
   more h end ends fits put =
       record {
-        done = s .done ++ lineOf file position (h .m);
+        done = s .done ++ lineOf file family position (h .m);
         put = put-after (s .put) (put-in-part at end (omega arith) fits put);
         whole =
-            append-assoc (s .done) (lineOf file position (h .m)) (lines file (position + 1) (drop (position + 1) ms))
+            append-assoc (s .done) (lineOf file family position (h .m)) (lines file family (position + 1) (drop (position + 1) ms))
             ∙ ap (λ (l : List ℕ). s .done ++ l) (step (h .m) (h .later) (h .here) (h .after))
             ∙ s .whole;
         short = omega (arith, s .short, put .inside, mid-len at end out fits);
       }
     where
       step : (m : Module) (later : List Module) → drop position ms ≡ m ∷ later → drop (position + 1) ms ≡ later
-          → lineOf file position m ++ lines file (position + 1) (drop (position + 1) ms) ≡ lines file position (drop position ms)
+          → lineOf file family position m ++ lines file family (position + 1) (drop (position + 1) ms) ≡ lines file family position (drop position ms)
       step m later here after = rw (here, after, add-one)
 
   -- All are written.
-  pub all-put : length ms ≤ position → PutDown (lines file 0 ms) out₀ 0 out at
+  pub all-put : length ms ≤ position → PutDown (lines file family 0 ms) out₀ 0 out at
   unfolding lines
   all-put beyond =
-      let same : s .done ≡ lines file 0 ms =
-      sym (append-nil (s .done)) ∙ ap (λ (l : List Module). s .done ++ lines file position l) (sym (drop-of-length-le ms beyond)) ∙ s .whole in
+      let same : s .done ≡ lines file family 0 ms =
+      sym (append-nil (s .done)) ∙ ap (λ (l : List Module). s .done ++ lines file family position l) (sym (drop-of-length-le ms beyond)) ∙ s .whole in
       rw (← same) (s .put)

@@ -5,7 +5,8 @@ use mathlib.Core.List.{List}
 use native.Mathlib.Omega.{arith}
 use lib.ListN.{length, getD}
 use Rattle.meaning.specs.Verdict.{refused, verdict}
-use Rattle.meaning.specs.Calls.{Decision, Figures, refusal, answer, counting, countingOn}
+use Rattle.meaning.specs.Calls.{Decision, refusal, answer}
+use Rattle.meaning.specs.Family.{Summary, summary, summaryOn}
 use Rattle.meaning.specs.Listing.{line, lines, listingText, listing, listingScratch}
 use Rattle.open_finding.specs.Here.{Here}
 use Rattle.open_finding.specs.Finding.{siteOf}
@@ -19,9 +20,9 @@ use Rattle.list_file.specs.Sheet.{Listable, longestListing}
 module _ {file : List ℕ} {modules : ℕ} {image starts names nets sizes rooms : List ℕ} (o : Opened file modules image starts names nets sizes rooms)
   where
     -- The lines of an accepted file are its listing.
-    pub lines-listed : listing file ≡ lines file 0 (o .ms)
+    pub lines-listed : (family : List ℕ) → listing file family ≡ lines file family 0 (o .ms)
     unfolding listing
-    lines-listed = ap listingText (asks o (λ ms. answer (lines file 0 ms)))
+    lines-listed family = ap listingText (asks o (λ ms. answer (lines file family 0 ms)))
 
     -- With loads, scratch and room enough they can be written.
     abbrev pub listable :
@@ -45,27 +46,27 @@ module _ {file : List ℕ} {modules : ℕ} {image starts names nets sizes rooms 
       pub stands-here : Standing image starts nets site
       stands-here = rw site-is (stands o (own-found o h))
 
-      counted : counting file (h .m .number) listingScratch ≡ countingOn (h .m .number) listingScratch (o .ms) (h .m)
-      unfolding counting
-      counted = asks-of o (own-found o h) (countingOn (h .m .number) listingScratch)
+      counted : (family : List ℕ) → summary file (h .m .number) family listingScratch ≡ summaryOn family (h .m .number) listingScratch (o .ms) (h .m)
+      unfolding summary
+      counted family = asks-of o (own-found o h) (summaryOn family (h .m .number) listingScratch)
 
       pub line-here :
-          {out out′ : List ℕ} {r : ℕ}
+          (family : List ℕ) {out out′ : List ℕ} {r : ℕ}
           → ((s : Standing image starts nets site)
-          → PutDown (line (site .position) (site .number) (countingOn (site .number) listingScratch (s .ms) (s .found .m))) out 0 out′ r)
-          → PutDown (line position (h .m .number) (counting file (h .m .number) listingScratch)) out 0 out′ r
-      line-here {out} {out′} {r} put =
-          subst (λ (d : Decision Figures). PutDown (line position (h .m .number) d) out 0 out′ r) (sym counted)
+          → PutDown (line (site .position) (site .number) (summaryOn family (site .number) listingScratch (s .ms) (s .found .m))) out 0 out′ r)
+          → PutDown (line position (h .m .number) (summary file (h .m .number) family listingScratch)) out 0 out′ r
+      line-here family {out} {out′} {r} put =
+          subst (λ (d : Decision Summary). PutDown (line position (h .m .number) d) out 0 out′ r) (sym (counted family))
           (subst
           (λ (x : Site).
           (s : Standing image starts nets x)
-          → PutDown (line (x .position) (x .number) (countingOn (x .number) listingScratch (s .ms) (s .found .m))) out 0 out′ r)
+          → PutDown (line (x .position) (x .number) (summaryOn family (x .number) listingScratch (s .ms) (s .found .m))) out 0 out′ r)
           site-is put (stands o (own-found o h)))
 
 -- A refused file has one line.
-pub refusal-listed : (file : List ℕ) (n p : ℕ) → verdict file ≡ refused n p → listing file ≡ listingText (refusal n p)
+pub refusal-listed : (file family : List ℕ) (n p : ℕ) → verdict file ≡ refused n p → listing file family ≡ listingText (refusal n p)
 unfolding listing
-refusal-listed file n p e = ap listingText (refused-ends file n p e (λ ms. answer (lines file 0 ms)))
+refusal-listed file family n p e = ap listingText (refused-ends file n p e (λ ms. answer (lines file family 0 ms)))
 
 -- A text that was put down, known by another name.
 pub put-as :

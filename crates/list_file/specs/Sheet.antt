@@ -4,16 +4,17 @@ use mathlib.Core.Path.{_≡_, sym, _∙_}
 use mathlib.Core.List.{List}
 use lib.ListN.{length}
 use Rattle.meaning.specs.Reading.{mostModules}
-use Rattle.meaning.specs.Calls.{Decision, refusal, answer, Figures}
+use Rattle.meaning.specs.Calls.{Decision, refusal, answer}
+use Rattle.meaning.specs.Family.{Summary}
 use Rattle.meaning.specs.Listing.{listingScratch}
 use Rattle.open_file.specs.Prepared.{Opened}
 use Rattle.list_text.specs.Pieces.{PutDown}
 use Rattle.list_text.specs.Lines.{longestLine}
 
 -- A refusal has a number that is not 0, so that an answer can be told from it.
-abbrev pub Told : Decision Figures → Type 0
+abbrev pub Told : Decision Summary → Type 0
 Told (refusal number place) = 1 ≤ number
-Told (answer f) = 0 ≤ 0
+Told (answer s) = 0 ≤ 0
 
 -- A line for each of the most modules that a file has.
 abbrev pub longestListing : ℕ

@@ -1,8 +1,10 @@
 // The listing of a file: the text that the listing program prints. The file is read, checked and measured once, and then each module is
 // counted where it stands.
+pub mod chip; // chip.rt: the family that a file holds
 mod lines;
 pub mod printing;
 
+use families::Family;
 use open_file::Prepared;
 ghost use Prim.Native.Nat.{_≤_};
 ghost use mathlib.Core.Path.{_≡_};
@@ -15,6 +17,7 @@ ghost use Rattle.list_file.specs.Sheet.{longestListing};
 // The listing in lists that are long enough for the file.
 fn list_in(
     file: &[u8],
+    family: Family,
     image: &mut [u16],
     starts: &mut [usize],
     names: &mut [u16],
@@ -31,7 +34,7 @@ fn list_in(
     requires { ⌜ length (now image) ≤ length (now loads) ⌝ }
     requires { ⌜ length (now scratch) ≡ listingScratch ⌝ }
     requires { ⌜ longestListing ≤ length (now out) ⌝ }
-    ensures { λ r. ⌜ PutDown (listing (now (file .entry))) (now (out .entry)) 0 (now (out .exit)) r ⌝ }
+    ensures { λ r. ⌜ PutDown (listing (now (file .entry)) (family .delays)) (now (out .entry)) 0 (now (out .exit)) r ⌝ }
 {
     match open_file::prepare(file, image, starts, names, nets, sizes, rooms, first, slots) {
         Prepared::Refused { number, place } => {
@@ -45,6 +48,7 @@ fn list_in(
             sizes,
             rooms,
             modules,
+            family,
             loads,
             scratch,
             out,
@@ -52,9 +56,9 @@ fn list_in(
     }
 }
 
-// Writes the listing of a file at the front of `out`, which has room for 128 lines of the longest kind, and answers its length.
-pub fn list(file: &[u8], out: &mut [u8; 24192]) -> usize
-    ensures { λ r. ⌜ PutDown (listing (now (file .entry))) (now (out .entry)) 0 (now (out .exit)) r ⌝ }
+// Writes the listing of a file, with delays by a chip family last, at the front of `out`, which has room for 128 lines of the longest kind, and answers its length.
+pub fn list(file: &[u8], family: Family, out: &mut [u8; 26880]) -> usize
+    ensures { λ r. ⌜ PutDown (listing (now (file .entry)) (family .delays)) (now (out .entry)) 0 (now (out .exit)) r ⌝ }
 {
     let mut image = [0u16; 65535];
     let mut starts = [0usize; 128];
@@ -68,6 +72,7 @@ pub fn list(file: &[u8], out: &mut [u8; 24192]) -> usize
     let mut scratch = [0u32; 16384];
     list_in(
         file,
+        family,
         &mut image,
         &mut starts,
         &mut names,

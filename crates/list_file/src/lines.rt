@@ -1,11 +1,13 @@
 // The lines of an accepted file that stands ready in lists.
 use call_count::answers::Counted;
+use families::Family;
 use list_text::Counts;
 use open_finding::Site;
 ghost use Prim.Native.Nat.{_≤_};
 ghost use mathlib.Core.Path.{_≡_};
 ghost use lib.ListN.{length};
-ghost use Rattle.meaning.specs.Calls.{Decision, Figures as Meant, countingOn};
+ghost use Rattle.meaning.specs.Calls.{Decision};
+ghost use Rattle.meaning.specs.Family.{Summary, summaryOn};
 ghost use Rattle.meaning.specs.Listing.{line, lines, listingScratch};
 ghost use Rattle.open_finding.specs.Standing.{Standing};
 ghost use Rattle.call_count.specs.Answers.{countedOf};
@@ -17,7 +19,7 @@ ghost use Rattle.list_file.specs.Sheet.{Told, Listable};
 fn put_counted(position: usize, number: u16, counted: Counted, out: &mut [u8]) -> usize
     requires { ⌜ longestLine ≤ length (now out) ⌝ }
     ensures { λ r.
-        ⌜ ((decision : Decision Meant) → Told decision → counted ≡ countedOf decision
+        ⌜ ((decision : Decision Summary) → Told decision → counted ≡ countedOf decision
         → PutDown (line position number decision) (now (out .entry)) 0 (now (out .exit)) r) ⌝ }
 {
     let refused = counted.number;
@@ -31,6 +33,7 @@ fn put_counted(position: usize, number: u16, counted: Counted, out: &mut [u8]) -
             room: figures.room as u64,
             delay: figures.delay as u64,
             load: figures.load as u64,
+            family: figures.family as u64,
         };
         list_text::put_figures(position as u64, number as u64, counts, out)
     } else {
@@ -44,6 +47,7 @@ fn put_line(
     starts: &[usize],
     nets: &[usize],
     site: Site,
+    family: Family,
     loads: &mut [u32],
     scratch: &mut [u32],
     out: &mut [u8],
@@ -54,9 +58,9 @@ fn put_line(
     requires { ⌜ longestLine ≤ length (now out) ⌝ }
     ensures { λ r.
         ⌜ ((s : Standing (now (image .entry)) (now (starts .entry)) (now (nets .entry)) site)
-        → PutDown (line (site .position) (site .number) (countingOn (site .number) listingScratch (s .ms) (s .found .m))) (now (out .entry)) 0 (now (out .exit)) r) ⌝ }
+        → PutDown (line (site .position) (site .number) (summaryOn (family .delays) (site .number) listingScratch (s .ms) (s .found .m))) (now (out .entry)) 0 (now (out .exit)) r) ⌝ }
 {
-    let counted = call_count::figuring::count_at(image, starts, nets, site, scratch, loads);
+    let counted = call_count::figuring::count_at(image, starts, nets, site, family, scratch, loads);
     put_counted(site.position, site.number, counted, out)
 }
 
@@ -69,6 +73,7 @@ pub(crate) fn put_lines(
     sizes: &[u32],
     rooms: &[u32],
     modules: usize,
+    family: Family,
     loads: &mut [u32],
     scratch: &mut [u32],
     out: &mut [u8],
@@ -76,14 +81,23 @@ pub(crate) fn put_lines(
     requires { ⌜ Listable (now image) (now starts) (now names) (now nets) (now sizes) (now rooms) modules (now loads) (now scratch) (now out) ⌝ }
     ensures { λ r.
         ⌜ ((s : Listable (now (image .entry)) (now (starts .entry)) (now (names .entry)) (now (nets .entry)) (now (sizes .entry)) (now (rooms .entry)) modules (now (loads .entry)) (now (scratch .entry)) (now (out .entry)))
-        → PutDown (lines (s .file) 0 (s .opened .ms)) (now (out .entry)) 0 (now (out .exit)) r) ⌝ }
+        → PutDown (lines (s .file) (family .delays) 0 (s .opened .ms)) (now (out .entry)) 0 (now (out .exit)) r) ⌝ }
 {
     let mut at = 0;
     let mut position = 0;
     while position < modules {
         let site = open_finding::site_at(position, names[position], sizes, rooms);
-        let end = at + 189;
-        at += put_line(image, starts, nets, site, loads, scratch, &mut out[at..end]);
+        let end = at + 210;
+        at += put_line(
+            image,
+            starts,
+            nets,
+            site,
+            family,
+            loads,
+            scratch,
+            &mut out[at..end],
+        );
         position += 1;
     }
     at

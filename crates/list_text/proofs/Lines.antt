@@ -4,7 +4,8 @@ use mathlib.Core.Path.{_≡_, ap}
 use mathlib.Core.List.{List, [], _∷_, _++_, append-assoc}
 use native.Mathlib.Omega.{arith}
 use lib.ListN.{length, length-append}
-use Rattle.meaning.specs.Calls.{Figures, refusal, answer}
+use Rattle.meaning.specs.Calls.{refusal, answer}
+use Rattle.meaning.specs.Family.{Summary}
 use Rattle.meaning.specs.Listing.{decimal, spaced, space, lineFeed, refusedWord, line, listingText}
 use Rattle.list_text.specs.Pieces.{PutDown}
 use Rattle.list_text.specs.Rows.{behind}
@@ -21,11 +22,12 @@ pub row-reaches : (n : ℕ) (rest : List ℕ) {out : List ℕ} {at : ℕ} {out�
 row-reaches n rest d = omega (arith, d .next, length-of-spaced n rest)
 
 -- A module's figures stand in one row with its position and number.
-pub line-of-figures : (position number : ℕ) (f : Figures)
-    → spaced position (number ∷ f .inputs ∷ f .outputs ∷ f .gates ∷ f .size ∷ f .room ∷ f .delay ∷ f .load ∷ []) ++ (lineFeed ∷ [])
-    ≡ line position number (answer f)
+pub line-of-figures : (position number : ℕ) (s : Summary)
+    → (let f = s .figures in
+    spaced position (number ∷ f .inputs ∷ f .outputs ∷ f .gates ∷ f .size ∷ f .room ∷ f .delay ∷ f .load ∷ s .familyDelay ∷ []) ++ (lineFeed ∷ [])
+    ≡ line position number (answer s))
 unfolding line spaced
-line-of-figures position number f = simp append-assoc
+line-of-figures position number s = simp append-assoc
 
 pub line-of-refusal : (position number refused place : ℕ)
     → ((spaced position (number ∷ []) ++ (space ∷ (refusedWord ++ (space ∷ [])))) ++ decimal refused) ++ (lineFeed ∷ [])

@@ -78,6 +78,7 @@ pub struct Counts {
     pub room: u64,
     pub delay: u64,
     pub load: u64,
+    pub family: u64,
 }
 
 // Writes a module's line at the front of `out`, and answers its length. The line says nothing of the tally.
@@ -94,6 +95,7 @@ pub fn put_figures(position: u64, number: u64, counts: Counts, out: &mut [u8]) -
         counts.room,
         counts.delay,
         counts.load,
+        counts.family,
     ];
     let at = put_numbers(position, &rest, out, 0);
     end_line(out, at)

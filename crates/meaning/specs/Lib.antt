@@ -30,6 +30,7 @@ pub mod Calls
 pub mod Rows
 pub mod CallRules
 pub mod Work
+pub mod Family
 pub mod Listing
 pub mod Shelves
 pub mod Ndl

@@ -1,12 +1,13 @@
 -- The listing program's text (document 01, 'The listing program'): for each module in order one line of position, number, inputs,
--- outputs, gates, expanded size, room, delay and largest load; where its scratch of 16,384 entries is too small, `position number
--- refused 21`. A refused file gives one line, `refused NUMBER PLACE`; a file of no modules gives nothing. Lines end with a line feed.
+-- outputs, gates, expanded size, room, delay, largest load and, last, the family's delay (document 02, M-108); where its scratch of 16,384
+-- entries is too small, `position number refused 21`. A refused file gives one line, `refused NUMBER PLACE`; a file of no modules gives nothing. Lines end with a line feed.
 use Prim.Native.Nat.{ℕ, zero, suc, _+_, _/_, _%_}
 use mathlib.Core.Bool.{cond}
 use mathlib.Core.List.{List, [], _∷_, _++_}
 use lib.Dec.{ltb}
 use Rattle.meaning.specs.Syntax.{Module}
-use Rattle.meaning.specs.Calls.{Decision, refusal, answer, Figures, onFile, counting}
+use Rattle.meaning.specs.Calls.{Decision, refusal, answer, onFile}
+use Rattle.meaning.specs.Family.{Summary, summary}
 
 abbrev pub space : ℕ
 space = 32
@@ -32,25 +33,26 @@ abbrev pub refusedWord : List ℕ
 refusedWord = 114 ∷ 101 ∷ 102 ∷ 117 ∷ 115 ∷ 101 ∷ 100 ∷ []
 
 -- What a line says of a module after its position and number.
-abbrev pub figuresText : Decision Figures → List ℕ
+abbrev pub figuresText : Decision Summary → List ℕ
 figuresText (refusal number place) = refusedWord ++ (space ∷ decimal number)
-figuresText (answer f) =
-    spaced (f .inputs) (f .outputs ∷ f .gates ∷ f .size ∷ f .room ∷ f .delay ∷ f .load ∷ [])
+figuresText (answer s) =
+    let f = s .figures in
+    spaced (f .inputs) (f .outputs ∷ f .gates ∷ f .size ∷ f .room ∷ f .delay ∷ f .load ∷ s .familyDelay ∷ [])
 
-unfoldable pub line : (position number : ℕ) → Decision Figures → List ℕ
+unfoldable pub line : (position number : ℕ) → Decision Summary → List ℕ
 line position number figures = spaced position (number ∷ []) ++ (space ∷ (figuresText figures ++ (lineFeed ∷ [])))
 
 abbrev pub listingScratch : ℕ
 listingScratch = 16384
 
-unfoldable pub lines : (file : List ℕ) → (position : ℕ) → List Module → List ℕ
-lines file position [] = []
-lines file position (m ∷ ms) =
-    line position (m .number) (counting file (m .number) listingScratch) ++ lines file (suc position) ms
+unfoldable pub lines : (file family : List ℕ) → (position : ℕ) → List Module → List ℕ
+lines file family position [] = []
+lines file family position (m ∷ ms) =
+    line position (m .number) (summary file (m .number) family listingScratch) ++ lines file family (suc position) ms
 
 abbrev pub listingText : Decision (List ℕ) → List ℕ
 listingText (refusal number place) = refusedWord ++ (space ∷ (spaced number (place ∷ []) ++ (lineFeed ∷ [])))
 listingText (answer text) = text
 
-unfoldable pub listing : (file : List ℕ) → List ℕ
-listing file = listingText (onFile file (λ ms. answer (lines file 0 ms)))
+unfoldable pub listing : (file family : List ℕ) → List ℕ
+listing file family = listingText (onFile file (λ ms. answer (lines file family 0 ms)))

@@ -22,13 +22,12 @@ use Rattle.image.specs.Reading.{values-stand, readable-stands}
 use Rattle.image.specs.Walking.{needed}
 use Rattle.image.specs.Calling.{inputs-within}
 use Rattle.image.specs.declared.places.Header.{Header}
-use Rattle.run_walk.specs.Job.{atGate, jobMeaning, workOf}
+use Rattle.run_walk.specs.Work.{Work, meaningOf}
+use Rattle.run_walk.specs.Valuing.{valueWork}
 use Rattle.run_walk.specs.Running.{Runnable, Ran}
 use Rattle.run_engine.specs.Slots.{entered}
 use Rattle.run_walk.specs.Outputs.{outputs-are as ran-outputs}
 use Rattle.run_engine.specs.Calls.{Callable, answers, cleared}
-use Rattle.run_walk.specs.declared.gate.Job.{Job}
-use Rattle.run_walk.specs.declared.gate.Job.the-variants.{Value}
 
 module _ {image starts nets : List ℕ} {k given : ℕ} {scratch : List ℕ} (e : Callable image starts nets k given scratch) where
   pub needed-given : needed (e .scene .m) (e .scene .later) ≤ given
@@ -82,13 +81,13 @@ module _ {image starts nets : List ℕ} {k given : ℕ} {scratch : List ℕ} (e 
           enough = omega (arith, fed-size, needed-given, e .enough);
         }
 
-    module _ (job : Job) {scratch₂ : List ℕ} (ran : Ran (workOf job) (e .scene .m) (e .scene .later) scratch₁ scratch₂) where
+    module _ (work : Work ℕ) {scratch₂ : List ℕ} (ran : Ran work (e .scene .m) (e .scene .later) scratch₁ scratch₂) where
       inputs-loaded : take (length (e .scene .m .inputs)) scratch₁ ≡ vs
       inputs-loaded = ap₂ take (sym (f .fed)) (f .front) ∙ take-append-seam vs (drop (length vs) scratch)
 
       -- and then gives what the file says.
-      outputs-are : readSlots 0 scratch₂ (e .scene .m .outputs) ≡ answers job (e .rs) k vs
-      outputs-are = ran-outputs (e .scene) ran ∙ ap (answers job (e .rs) k) inputs-loaded
+      outputs-are : readSlots (work .none) scratch₂ (e .scene .m .outputs) ≡ answers work (e .rs) k vs
+      outputs-are = ran-outputs (e .scene) ran ∙ ap (answers work (e .rs) k) inputs-loaded
 
       -- Cleared, scratch holds nothing of the run.
       pub leaves-clean : {scratch₃ : List ℕ} → scratch₃ ≡ cleared given scratch₂ → scratch₃ ≡ cleared given scratch
@@ -108,13 +107,12 @@ module _ {image starts nets : List ℕ} {k given : ℕ} {scratch : List ℕ} (e 
         pub outputs-counted : h .to - h .from ≡ length (e .scene .m .outputs)
         outputs-counted = omega (arith, header .to)
 
-        pub outputs-read : valuesAt 0 image (h .from) (h .to) 0 scratch₂ ≡ answers job (e .rs) k vs
-        outputs-read = values-stand (h .from) (header .outputs) (header .to) 0 0 scratch₂ ∙ outputs-are
+        pub outputs-read : valuesAt (work .none) image (h .from) (h .to) 0 scratch₂ ≡ answers work (e .rs) k vs
+        outputs-read = values-stand (h .from) (header .outputs) (header .to) (work .none) 0 scratch₂ ∙ outputs-are
 
 -- From bytes a module gives bytes.
-pub answers-bytes : (rs : List Module) (k : ℕ) {vs : List ℕ} → Bytes vs → Bytes (answers Value rs k vs)
-unfolding atGate
+pub answers-bytes : (rs : List Module) (k : ℕ) {vs : List ℕ} → Bytes vs → Bytes (answers valueWork rs k vs)
 answers-bytes rs k vs = all-runFrames 0 (omega arith) gates-give rs .gives (16 + k) vs
   where
-    gates-give : Gives (λ b. b < 256) (jobMeaning Value)
+    gates-give : Gives (λ b. b < 256) (meaningOf valueWork)
     gates-give = record { gives = λ number {vs} a. more {x = gateCode number vs} (omega (arith, gate-code-small number vs)) none }

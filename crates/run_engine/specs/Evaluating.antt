@@ -15,11 +15,11 @@ use Rattle.image.specs.Resolved.{positionOf, resolve}
 use Rattle.image.specs.Fitting.{accepted-fits}
 use Rattle.image.specs.FramesMean.{frames-mean}
 use Rattle.gates.specs.ThreeValues.{value-of-code}
-use Rattle.run_walk.specs.Job.{atGate, jobMeaning}
+use Rattle.run_walk.specs.Work.{meaningOf}
+use Rattle.run_walk.specs.Valuing.{valueWork}
 use Rattle.run_engine.specs.Slots.{entered}
 use Rattle.run_engine.specs.Calls.{answers, Evaluated}
 use Rattle.run_engine.specs.Mapped.{Mapped, mapped-is, run-mapped}
-use Rattle.run_walk.specs.declared.gate.Job.the-variants.{Value}
 
 values-of-codes : (vs : List Val) → map value (map code vs) ≡ vs
 values-of-codes [] = refl
@@ -30,8 +30,8 @@ unfolding entered
 inputs-coded [] = refl
 inputs-coded (x ∷ xs) = ap (λ (l : List ℕ). code (value x) ∷ l) (inputs-coded xs)
 
-gates-coded : Respects (Mapped code) (jobMeaning Value) gateOutputs
-unfolding atGate gateCode
+gates-coded : Respects (Mapped code) (meaningOf valueWork) gateOutputs
+unfolding gateCode
 gates-coded =
     record {
       keeps = λ number {vs} {ws} related.
@@ -48,11 +48,11 @@ pub evaluated :
     → assoc number ms ≡ box m
     → (values : List ℕ)
     → length values ≡ length (m .inputs)
-    → answers Value (resolve ms) (positionOf number ms) (map entered values) ≡ map code (evaluate ms number (map value values))
+    → answers valueWork (resolve ms) (positionOf number ms) (map entered values) ≡ map code (evaluate ms number (map value values))
 unfolding evaluate
 evaluated {ms} accepted number m found values count =
-    frames-mean 0 (jobMeaning Value) (λ kind xs h. refl) (accepted-fits accepted) number m found (map entered values) (length-map values entered ∙ count)
-    ∙ ap (run 0 (jobMeaning Value) ms number) (inputs-coded values)
+    frames-mean 0 (meaningOf valueWork) (λ kind xs h. refl) (accepted-fits accepted) number m found (map entered values) (length-map values entered ∙ count)
+    ∙ ap (run 0 (meaningOf valueWork) ms number) (inputs-coded values)
     ∙ run-mapped code (known false) gates-coded ms number (map value values)
 
 -- What is promised of the buffer, said of the file.

@@ -1,4 +1,4 @@
--- What the contracts of `runner` cite, and the laws that turn them into what a file means.
+-- What the contracts of `run_engine` cite, and the laws that turn them into what a file means.
 pub mod Slots
 pub mod Calls
 pub mod Mapped

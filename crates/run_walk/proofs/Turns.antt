@@ -1,7 +1,7 @@
 -- A turn of the walk over a module's occurrences: at a gate, and where no net is driven. Each time the frame grows by what the occurrence
 -- refers to makes of its arguments, and the walk goes on behind it.
 use Prim.Native.Nat.{ℕ, suc, _+_, _-_, _≤_, _<_}
-use mathlib.Core.Path.{_≡_, refl, sym, ap, _∙_}
+use mathlib.Core.Path.{_≡_, refl, sym, ap, ap₂, _∙_}
 use mathlib.Core.List.{List, [], _∷_, _++_, append-nil}
 use native.Mathlib.Omega.{arith}
 use lib.ListN.{length, take, drop, set, length-set}
@@ -95,7 +95,7 @@ module _
 
       pub turn-gate :
           {v : A}
-          → v ≡ work .byRule rule (valuesAt (work .none) image (place .from) (place .to) 0 scratch)
+          → v ≡ work .byRule (place .refers) rule (valuesAt (work .none) image (place .from) (place .to) 0 scratch)
           → Progress work s (place .to) (left - 1) (filled + place .drives) (set scratch filled v)
       turn-gate {v} e =
           past
@@ -117,7 +117,7 @@ module _
           value : v ≡ work .atGate (o .refers) args
           value =
               e
-              ∙ ap (work .byRule rule) (arguments (h .turn) (work .none) scratch)
+              ∙ ap₂ (λ number xs. work .byRule number rule xs) (h .turn .read .refers) (arguments (h .turn) (work .none) scratch)
               ∙ work .rule-is (o .refers) rule arity own-kind args
               (length-of-readSlots (work .none) (take filled scratch) (o .takes)
               ∙ sym (gate .takes)

@@ -1,4 +1,4 @@
--- What a run works out for each net, of whatever type: what a gate makes of its arguments, by its number and by its rule, and what a net
+-- What a run works out for each net, of whatever type: what a gate makes of its arguments, by its number alone and by its rule too, and what a net
 -- reads as that nothing gave a value.
 use Prim.Native.Nat.{ℕ}
 use mathlib.Core.Path.{_≡_}
@@ -12,13 +12,13 @@ use Rattle.gates.specs.declared.Kind.the-variants.{Gate}
 pub record Work (A : Type 0) : Type 0 where
   pub none : A
   pub atGate : ℕ → List A → A
-  pub byRule : Rule → List A → A
+  pub byRule : ℕ → Rule → List A → A
   pub rule-is :
       (number : ℕ) (rule : Rule) (arity : ℕ)
       → kindOf number ≡ Gate rule arity
       → (xs : List A)
       → length xs ≡ arity
-      → byRule rule xs ≡ atGate number xs
+      → byRule number rule xs ≡ atGate number xs
 
 abbrev pub meaningOf : {A : Type 0} → Work A → Meaning A
 meaningOf work number xs = work .atGate number xs ∷ []

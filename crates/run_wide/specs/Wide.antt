@@ -46,4 +46,4 @@ rows-rule number rule arity k xs e =
     ∙ sym (ap (λ (kind : Kind). rowsKind kind xs) k)
 
 abbrev pub rowsWork : Work (List ℕ)
-rowsWork = record { none = []; atGate = λ number xs. rowsKind (kindOf number) xs; byRule = rowsResult; rule-is = rows-rule }
+rowsWork = record { none = []; atGate = λ number xs. rowsKind (kindOf number) xs; byRule = λ number. rowsResult; rule-is = rows-rule }

@@ -24,6 +24,7 @@ pub use call_print::print_text;
 pub use call_rewrite::rewrite;
 pub use call_rewrite::strict_check;
 pub use call_text::read_text;
+pub use families::Family;
 pub use judged::check;
 pub use write_order::adder;
 pub use write_order::alu;

@@ -2,7 +2,8 @@
 use Prim.Native.Nat.{ℕ}
 use mathlib.Core.Path.{_≡_, refl, sym, ap, subst, _∙_}
 use mathlib.Core.List.{List, [], _∷_}
-use Rattle.meaning.specs.Calls.{Decision, refusal, answer, Written, Figures, numberOf, placeOf}
+use Rattle.meaning.specs.Calls.{Decision, refusal, answer, Written, numberOf, placeOf}
+use Rattle.meaning.specs.Family.{Summary}
 use Rattle.meaning.specs.Work.{Ran, workAfter}
 use Rattle.call_count.specs.Answers.{countedOf}
 use Rattle.call_count.specs.declared.answers.Counted.{Counted}
@@ -76,7 +77,7 @@ named-refuses (refusal number place) before e is = (cc, (cc, cc))
 named-refuses (answer n) before e is = (cc, (cc, cc))
 
 -- What a count's answer holds, piece by piece.
-pub record Pieces (d : Decision Figures) (r : Counted) : Type 0 where
+pub record Pieces (d : Decision Summary) (r : Counted) : Type 0 where
   pub numberIs : r .number ≡ numberOf d
   pub placeIs : r .place ≡ placeOf d
   pub figuresAre :
@@ -87,13 +88,14 @@ pub record Pieces (d : Decision Figures) (r : Counted) : Type 0 where
       ∷ r .figures .room
       ∷ r .figures .delay
       ∷ r .figures .load
+      ∷ r .figures .family
       ∷ []
       ≡ figuresIn d
   pub tallyIs : r .figures .tally .counts ≡ tallyIn d
 
-of-count : (d : Decision Figures) → Pieces d (countedOf d)
+of-count : (d : Decision Summary) → Pieces d (countedOf d)
 of-count (refusal number place) = record { numberIs = refl; placeIs = refl; figuresAre = refl; tallyIs = refl }
-of-count (answer f) = record { numberIs = refl; placeIs = refl; figuresAre = refl; tallyIs = refl }
+of-count (answer s) = record { numberIs = refl; placeIs = refl; figuresAre = refl; tallyIs = refl }
 
-pub pieces : (d : Decision Figures) {r : Counted} → r ≡ countedOf d → Pieces d r
+pub pieces : (d : Decision Summary) {r : Counted} → r ≡ countedOf d → Pieces d r
 pieces d is = subst (Pieces d) (sym is) (of-count d)

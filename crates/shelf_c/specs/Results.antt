@@ -6,7 +6,8 @@ use mathlib.Core.Bool.{cond}
 use mathlib.Core.List.{List, [], _∷_}
 use lib.Dec.{eqb}
 use lib.ListN.{length, replicate}
-use Rattle.meaning.specs.Calls.{Decision, refusal, answer, Written, Figures, numberOf, placeOf}
+use Rattle.meaning.specs.Calls.{Decision, refusal, answer, Written, numberOf, placeOf}
+use Rattle.meaning.specs.Family.{Summary}
 use Rattle.answers.specs.declared.Writing.{Writing}
 use Rattle.answers.specs.declared.Writing.the-variants.{Wrote, Refused}
 
@@ -52,17 +53,19 @@ abbrev pub answerAfter : Decision ℕ → ℕ → ℕ
 answerAfter (refusal number place) before = before
 answerAfter (answer n) before = n
 
--- What a count hands back where its number is 0: seven figures and sixteen counts of gates.
-abbrev pub unlessRefused : Decision Figures → (of before : List ℕ) → List ℕ
+-- What a count hands back where its number is 0: eight figures and sixteen counts of gates.
+abbrev pub unlessRefused : Decision Summary → (of before : List ℕ) → List ℕ
 unlessRefused decision of before = cond (eqb (numberOf decision) 0) of before
 
-abbrev pub figuresIn : Decision Figures → List ℕ
-figuresIn (refusal number place) = replicate 7 0
-figuresIn (answer f) = f .inputs ∷ f .outputs ∷ f .gates ∷ f .size ∷ f .room ∷ f .delay ∷ f .load ∷ []
+abbrev pub figuresIn : Decision Summary → List ℕ
+figuresIn (refusal number place) = replicate 8 0
+figuresIn (answer s) =
+    let f = s .figures in
+    f .inputs ∷ f .outputs ∷ f .gates ∷ f .size ∷ f .room ∷ f .delay ∷ f .load ∷ s .familyDelay ∷ []
 
-abbrev pub tallyIn : Decision Figures → List ℕ
+abbrev pub tallyIn : Decision Summary → List ℕ
 tallyIn (refusal number place) = replicate 16 0
-tallyIn (answer f) = f .tally
+tallyIn (answer s) = s .figures .tally
 
 -- Each contract says of each result what it equals, so any two outcomes that it permits coincide: those of a call that writes,
 pub one-report :
@@ -92,7 +95,7 @@ one-number-report decision before one other = (one .0 ∙ sym (other .0), (one .
 
 -- and of a count. The check hands back a number and a place, each an equation.
 pub one-count-report :
-    (decision : Decision Figures) (figures tally : List ℕ) {figures₁ figures₂ tally₁ tally₂ : List ℕ}
+    (decision : Decision Summary) (figures tally : List ℕ) {figures₁ figures₂ tally₁ tally₂ : List ℕ}
     → (figures₁ ≡ unlessRefused decision (figuresIn decision) figures) × (tally₁ ≡ unlessRefused decision (tallyIn decision) tally)
     → (figures₂ ≡ unlessRefused decision (figuresIn decision) figures) × (tally₂ ≡ unlessRefused decision (tallyIn decision) tally)
     → (figures₁ ≡ figures₂) × (tally₁ ≡ tally₂)

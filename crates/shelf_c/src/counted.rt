@@ -1,28 +1,32 @@
 // The figures of a module, and what a file holds.
+use shelf::Family;
 use shelf::Listed;
 use shelf::Named;
 ghost use mathlib.Core.Path.{_≡_};
 ghost use lib.ListN.{length};
-ghost use Rattle.meaning.specs.Calls.{counting, numberOf, placeOf, scratchAfter, moduleCount, numberAt};
+ghost use Rattle.meaning.specs.Calls.{numberOf, placeOf, scratchAfter, moduleCount, numberAt};
+ghost use Rattle.meaning.specs.Family.{summary};
 ghost use Rattle.shelf_c.specs.Results.{answerAfter, unlessRefused, figuresIn, tallyIn};
 
-// `figures` gets inputs, outputs, gates, expanded size, room, delay and largest load.
+// `figures` gets inputs, outputs, gates, expanded size, room, delay, largest load and the family's delay.
 #[no_mangle]
 pub extern "C" fn shelf_count(
     file: &[u8],
     number: u16,
+    family: &[u8; 16],
     scratch: &mut [u32],
-    figures: &mut [u32; 7],
+    figures: &mut [u32; 8],
     tally: &mut [u32; 16],
     place: &mut usize,
 ) -> u16
-    ensures { λ r. ⌜ r ≡ numberOf (counting (now (file .entry)) number (length (now (scratch .entry)))) ⌝ }
-    ensures { λ _. ⌜ now (place .exit) ≡ placeOf (counting (now (file .entry)) number (length (now (scratch .entry)))) ⌝ }
-    ensures { λ _. ⌜ now (figures .exit) ≡ unlessRefused (counting (now (file .entry)) number (length (now (scratch .entry)))) (figuresIn (counting (now (file .entry)) number (length (now (scratch .entry))))) (now (figures .entry)) ⌝ }
-    ensures { λ _. ⌜ now (tally .exit) ≡ unlessRefused (counting (now (file .entry)) number (length (now (scratch .entry)))) (tallyIn (counting (now (file .entry)) number (length (now (scratch .entry))))) (now (tally .entry)) ⌝ }
-    ensures { λ _. ⌜ now (scratch .exit) ≡ scratchAfter (λ f. f .room) (counting (now (file .entry)) number (length (now (scratch .entry)))) (now (scratch .entry)) ⌝ }
+    ensures { λ r. ⌜ r ≡ numberOf (summary (now (file .entry)) number (now (family .entry)) (length (now (scratch .entry)))) ⌝ }
+    ensures { λ _. ⌜ now (place .exit) ≡ placeOf (summary (now (file .entry)) number (now (family .entry)) (length (now (scratch .entry)))) ⌝ }
+    ensures { λ _. ⌜ now (figures .exit) ≡ unlessRefused (summary (now (file .entry)) number (now (family .entry)) (length (now (scratch .entry)))) (figuresIn (summary (now (file .entry)) number (now (family .entry)) (length (now (scratch .entry))))) (now (figures .entry)) ⌝ }
+    ensures { λ _. ⌜ now (tally .exit) ≡ unlessRefused (summary (now (file .entry)) number (now (family .entry)) (length (now (scratch .entry)))) (tallyIn (summary (now (file .entry)) number (now (family .entry)) (length (now (scratch .entry))))) (now (tally .entry)) ⌝ }
+    ensures { λ _. ⌜ now (scratch .exit) ≡ scratchAfter (λ s. s .figures .room) (summary (now (file .entry)) number (now (family .entry)) (length (now (scratch .entry)))) (now (scratch .entry)) ⌝ }
 {
-    let counted = shelf::count(file, number, scratch);
+    let delays = *family;
+    let counted = shelf::count(file, number, Family { delays }, scratch);
     let refusal = counted.number;
     *place = counted.place;
     if refusal != 0 {
@@ -37,6 +41,7 @@ pub extern "C" fn shelf_count(
         found.room,
         found.delay,
         found.load,
+        found.family,
     ];
     let kinds = found.tally;
     let counts = kinds.counts;

@@ -2,7 +2,6 @@
 // arguments counted up, the last one fastest. The values are those that a run of a module finds.
 use gates::Kind;
 use libc::STDOUT_FILENO;
-use run_walk::gate::Job;
 ghost use Prim.Native.Nat.{_≤_};
 ghost use lib.ListN.{length};
 
@@ -67,9 +66,7 @@ fn value(number: u16, args: &[u32]) -> u32
 {
     let slots = [0u16, 1, 2, 3];
     match gates::kind_of(number) {
-        Kind::Gate(rule, _) => {
-            run_walk::gate::at_gate(Job::Value, rule, &slots, 0, args.len(), args)
-        }
+        Kind::Gate(rule, _) => { run_walk::gate::result(rule, &slots, 0, args.len(), args) }
         Kind::Module => 0,
     }
 }

@@ -5,7 +5,7 @@ fn main() {
     let mut file = io::large_buffer();
     let mut label = [0u8; 256];
     io::write_all(STDOUT_FILENO, b"1 65536 bytes:\n");
-    list_file::printing::print(&file);
+    list_file::printing::print(&file, families::unit());
     list_all(&mut label, &mut file);
 }
 
@@ -29,6 +29,6 @@ fn list_case(label: &mut [u8], file: &mut [u8]) -> bool {
     io::write_all(STDOUT_FILENO, &label[..labelled]);
     io::write_all(STDOUT_FILENO, b":\n");
     let count = test_cases::read_part(file);
-    list_file::printing::print(&file[..count]);
+    list_file::printing::print(&file[..count], families::unit());
     true
 }

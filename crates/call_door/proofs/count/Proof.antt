@@ -1,10 +1,10 @@
 use borrow.Author.Needs.{needs}
-use Rattle.meaning.specs.Calls.{counting}
+use Rattle.meaning.specs.Family.{summary}
 use Rattle.call_door.proofs.count.Statement.{statement}
 use Rattle.call_door.proofs.count.Tie as tie
 
 returns : tie.Need-returns
-unfolding counting
+unfolding summary
 returns c = c .before .before .before .before .answer .ensures .met
 
 pub count-spec : {M : Type 1} → statement M

@@ -10,4 +10,4 @@ unfolding running
 returns c = runs-as (running-writes _ _ _ _ _) (c .before .before .before .before .answer .ensures .met)
 
 pub evaluate-spec : {M : Type 1} → statement M
-evaluate-spec = tie.close (tie.spec (λ c κs. search needs) (λ c. search needs) (λ c. search needs) returns)
+evaluate-spec = tie.close (tie.spec (λ c κs. search needs) (λ c κs. search needs) (λ c. search needs) (λ c. search needs) returns)

@@ -10,4 +10,4 @@ unfolding rowsRunning
 returns c = runs-as (rows-running-writes _ _ _ _ _ _) (c .before .before .before .before .answer .ensures .met)
 
 pub evaluate-rows-spec : {M : Type 1} → statement M
-evaluate-rows-spec = tie.close (tie.spec (λ c κs. search needs) (λ c. search needs) (λ c. search needs) returns)
+evaluate-rows-spec = tie.close (tie.spec (λ c κs. search needs) (λ c κs. search needs) (λ c. search needs) (λ c. search needs) returns)

@@ -8,4 +8,4 @@ unfolding flattening
 returns c = c .before .before .before .before .answer .ensures .met
 
 pub flatten-spec : {M : Type 1} → statement M
-flatten-spec = tie.close (tie.spec (λ c κs. search needs) (λ c. search needs) (λ c. search needs) returns)
+flatten-spec = tie.close (tie.spec (λ c κs. search needs) (λ c κs. search needs) (λ c. search needs) (λ c. search needs) returns)

@@ -120,15 +120,26 @@ unfolding delay gateCount
 delay-below-gates ms number = delayBy-below-weight (λ kind. 1) ms number
 
 -- Slower gates, later outputs.
-largest-monotone : {xs ys : List ℕ} → Forall₂ _≤_ xs ys → largest xs ≤ largest ys
+pub largest-monotone : {xs ys : List ℕ} → Forall₂ _≤_ xs ys → largest xs ≤ largest ys
 unfolding largest
 largest-monotone none = omega arith
 largest-monotone (more h hs) = omega (arith, largest-monotone hs)
 
-still : (times : List ℕ) → Forall₂ _≤_ times times
+pub still : (times : List ℕ) → Forall₂ _≤_ times times
 still [] = none
 still (t ∷ times) = more (le-refl t) (still times)
 
+-- So gates that are slower keep every arrival as late or later,
+pub gates-slower :
+    (fast slow : ℕ → ℕ)
+    → ((kind : ℕ) → fast kind ≤ slow kind)
+    → Respects _≤_ (gateArrival fast) (gateArrival slow)
+gates-slower fast slow h = record { keeps = λ kind vs. more (later kind vs) none }
+  where
+    later : (kind : ℕ) {vs ws : List ℕ} → Forall₂ _≤_ vs ws → fast kind + largest vs ≤ slow kind + largest ws
+    later kind vs = omega (arith, h kind, largest-monotone vs)
+
+-- and the delay as long or longer.
 pub delayBy-monotone :
     (fast slow : ℕ → ℕ)
     → ((kind : ℕ) → fast kind ≤ slow kind)
@@ -136,9 +147,4 @@ pub delayBy-monotone :
     → delayBy fast ms number ≤ delayBy slow ms number
 unfolding delayBy arrivals
 delayBy-monotone fast slow h ms number =
-    let gates : Respects _≤_ (gateArrival fast) (gateArrival slow)
-    = record { keeps = λ kind vs. more (later kind vs) none } in
-    largest-monotone (run-related _≤_ 0 0 (le-refl 0) gates ms .keeps number (still _))
-  where
-    later : (kind : ℕ) {vs ws : List ℕ} → Forall₂ _≤_ vs ws → fast kind + largest vs ≤ slow kind + largest ws
-    later kind vs = omega (arith, h kind, largest-monotone vs)
+    largest-monotone (run-related _≤_ 0 0 (le-refl 0) (gates-slower fast slow h) ms .keeps number (still _))

@@ -16,7 +16,7 @@ use Rattle.meaning.specs.Layout.{each, numberBytes, encode}
 use Rattle.meaning.specs.Gates.{isGate}
 use Rattle.meaning.specs.Listing.{space, decimalWithin, decimal}
 use Rattle.meaning.specs.Ndl.{nameAt, letters, netText, afterComma, netsText, referenceText, lineEnd, keywordLine, occurrenceText, occurrencesText, moduleText, moduleWord, inputsWord, outputsWord, defineLines, endModuleLines, compileLines, endLines, ndlText}
-use Rattle.laws.specs.Written.{bytes-of-low, bytes-of-high, netsBytes, occurrenceBytes, moduleBytes, bytes-of-nets, bytes-of-occurrence, bytes-of-module, bytes-of-file}
+use Rattle.laws.specs.Written.{bytes-of-low, bytes-of-high, some-byte, netsBytes, occurrenceBytes, moduleBytes, bytes-of-nets, bytes-of-occurrence, bytes-of-module, bytes-of-file}
 use Rattle.laws.specs.Ndl.Numerals.{fewer}
 
 -- A number below a power of ten has no more digits than that.
@@ -48,15 +48,6 @@ long-numeral n small = go (decLt n 128)
     go (no high) =
         let large : 128 ≤ n = omega arith in
         rw (bytes-of-high n large) (omega (arith, few-digits 20 n 4 (omega arith)))
-
-some-byte : (n : ℕ) → 1 ≤ length (numberBytes n)
-some-byte n = go (decLt n 128)
-  where
-    go : Dec (n < 128) → 1 ≤ length (numberBytes n)
-    go (yes low) = rw (bytes-of-low n low) (omega arith)
-    go (no high) =
-        let large : 128 ≤ n = omega arith in
-        rw (bytes-of-high n large) (omega arith)
 
 long-more : (nets : List ℕ) → All Small nets → length (each afterComma nets) ≤ 8 * length (each numberBytes nets)
 unfolding each

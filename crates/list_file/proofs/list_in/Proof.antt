@@ -36,7 +36,7 @@ returns c =
     let put = c .before .before in
     let told = put .before .before .before in
     let made = ready (told .before .before) .prepare in
-    put-as (refusal-listed _ _ _ (broken _ _ _ _ _ _ _ (made .result) (made .ensures) _ _ (told .number .given .1))) (put .put-file-refusal .ensures)
+    put-as (refusal-listed _ _ _ _ (broken _ _ _ _ _ _ _ (made .result) (made .ensures) _ _ (told .number .given .1))) (put .put-file-refusal .ensures)
 
 returns-2 : tie.Need-returns-2
 returns-2 c =
@@ -46,7 +46,7 @@ returns-2 c =
     let made = ready (known .before .before) in
     let given = start made .pre in
     let o = opened _ _ _ _ _ _ _ (made .prepare .result) (made .prepare .ensures) _ (known .modules .given .1) in
-    put-as (lines-listed o)
+    put-as (lines-listed o _)
     (lines .put-lines .ensures (listable o (omega (arith, made .prepare .kept .1 .0, given .1 .0)) (given .1 .1 .0) (given .1 .1 .1)))
 
 pub list-in-spec : {M : Type 1} → statement M

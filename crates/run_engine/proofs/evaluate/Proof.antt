@@ -1,4 +1,4 @@
--- `runner::evaluate` meets its contract: the values are loaded, the outputs are read off the frame, and scratch is cleared. Assumes
+-- `run_engine::evaluate` meets its contract: the values are loaded, the outputs are read off the frame, and scratch is cleared. Assumes
 -- nothing.
 use mathlib.Core.Path.{sym, ap, subst, _∙_}
 use mathlib.Core.List.{List, _++_}
@@ -7,7 +7,7 @@ use native.Mathlib.Omega.{arith}
 use borrow.Author.Needs.{needs}
 use lib.ListN.{length, drop}
 use Rattle.meaning.specs.Ceilings.{Bytes}
-use Rattle.run_walk.specs.declared.gate.Job.the-variants.{Value}
+use Rattle.run_walk.specs.Valuing.{valueWork}
 use Rattle.image.specs.Scenes.{in-starts, module-stands, module-there}
 use Rattle.run_engine.proofs.Entering.{entries-bytes}
 use Rattle.run_engine.proofs.Answers as answers
@@ -64,11 +64,11 @@ give-requires c κs =
     let run = ran .run-module .ensures (answers.runnable call fed) in
     let header = placed .module-at .ensures (call .scene .m) (module-stands (call .scene)) in
     record {
-      readable = answers.outputs-readable call fed Value run header (ran .run-module .kept .1 .1 .1 .1 .1 .0);
+      readable = answers.outputs-readable call fed valueWork run header (ran .run-module .kept .1 .1 .1 .1 .0);
       bytes =
-          subst Bytes (sym (answers.outputs-read call fed Value run header))
+          subst Bytes (sym (answers.outputs-read call fed valueWork run header))
           (answers.answers-bytes (call .rs) (a .k) (entries-bytes (a .values .now)));
-      room = omega (arith, answers.outputs-counted call fed Value run header, e .fits);
+      room = omega (arith, answers.outputs-counted call fed valueWork run header, e .fits);
     }
 
 returns : tie.Need-returns
@@ -87,8 +87,8 @@ returns c e =
     record {
       outputs =
           given .give .ensures
-          ∙ ap (λ (l : List ℕ). l ++ drop (length l) (a .out .now)) (answers.outputs-read call fed Value run header);
-      clean = answers.leaves-clean call fed Value run (cleared .clear .ensures);
+          ∙ ap (λ (l : List ℕ). l ++ drop (length l) (a .out .now)) (answers.outputs-read call fed valueWork run header);
+      clean = answers.leaves-clean call fed valueWork run (cleared .clear .ensures);
     }
 
 pub evaluate-spec : {M : Type 1} → statement M

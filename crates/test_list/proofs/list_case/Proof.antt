@@ -27,6 +27,7 @@ list-case-spec =
     (λ c. search needs)
     slice-aggregate-print
     (λ c κs. search needs)
+    (λ c κs. search needs)
     (λ c. search needs)
     (λ c. search needs)
     (λ c. search needs))

@@ -5,8 +5,8 @@ use Rattle.list_file.proofs.lines.put_counted.Statement.{statement}
 use Rattle.list_file.proofs.lines.put_counted.Tie as tie
 
 -- Where the figures are known to be the answer.
-abbrev told : tie.After-struct-known7 → tie.Then1
-told c = c .before .before .before .before .before .before .before
+abbrev told : tie.After-struct-known8 → tie.Then1
+told c = c .before .before .before .before .before .before .before .before
 
 returns : tie.Need-returns
 returns c =
@@ -26,6 +26,7 @@ pub put-counted-spec : {M : Type 1} → statement M
 put-counted-spec =
     tie.close
     (tie.spec
+    (λ c. search needs)
     (λ c. search needs)
     (λ c. search needs)
     (λ c. search needs)

@@ -2,10 +2,10 @@
 use borrow.Author.Needs.{needs}
 use Prim.Native.Nat.{ℕ}
 use mathlib.Core.Path.{ap, _∙_}
-use Rattle.meaning.specs.Calls.{countingOn}
+use Rattle.meaning.specs.Family.{summaryOn}
 use Rattle.meaning.specs.Listing.{listingScratch}
 use Rattle.call_count.specs.Answers.{countedOf}
-use Rattle.list_file.proofs.Telling.{told-counting}
+use Rattle.list_file.proofs.Telling.{told-summary}
 use Rattle.list_file.proofs.lines.put_line.Statement.{statement}
 use Rattle.list_file.proofs.lines.put_line.Tie as tie
 
@@ -21,8 +21,9 @@ returns c s =
     let put = c .before .before in
     let entry = start (counted put .before .before) in
     let number = entry .args .site .number in
-    put .put-counted .ensures (countingOn number listingScratch (s .ms) (s .found .m)) (told-counting number listingScratch (s .ms) (s .found .m))
-    (counted put .count-at .ensures s .is ∙ ap (λ (n : ℕ). countedOf (countingOn number n (s .ms) (s .found .m))) (entry .pre .1 .1 .0))
+    let family = entry .args .family .delays in
+    put .put-counted .ensures (summaryOn family number listingScratch (s .ms) (s .found .m)) (told-summary family number listingScratch (s .ms) (s .found .m))
+    (counted put .count-at .ensures s .is ∙ ap (λ (n : ℕ). countedOf (summaryOn family number n (s .ms) (s .found .m))) (entry .pre .1 .1 .0))
 
 pub put-line-spec : {M : Type 1} → statement M
 put-line-spec =

@@ -14,14 +14,14 @@ use Rattle.list_file.proofs.lines.put_lines.Statement.{statement}
 use Rattle.list_file.proofs.lines.put_lines.Tie as tie
 
 abbrev Inv-loop : tie.InvT-loop
-Inv-loop image starts names nets sizes rooms modules loads₀ scratch₀ out₀ at₀ position₀ loads scratch out at position =
+Inv-loop image starts names nets sizes rooms modules family loads₀ scratch₀ out₀ at₀ position₀ loads scratch out at position =
     (position ≤ modules)
     × ((length loads ≡ length loads₀)
     × ((length scratch ≡ listingScratch)
-    × ((s : Listable image starts names nets sizes rooms modules loads₀ scratch₀ out₀) → Sofar (s .file) (s .opened .ms) position out₀ out at)))
+    × ((s : Listable image starts names nets sizes rooms modules loads₀ scratch₀ out₀) → Sofar (s .file) (family .delays) (s .opened .ms) position out₀ out at)))
 
 abbrev μ-loop : tie.MeasureT-loop
-μ-loop image starts names nets sizes rooms modules loads₀ scratch₀ out₀ at₀ position₀ loads scratch out at position = modules - position
+μ-loop image starts names nets sizes rooms modules family loads₀ scratch₀ out₀ at₀ position₀ loads scratch out at position = modules - position
 
 -- The function's entry from where the lists are known and from a turn of the loop, and the line from the turn's end.
 abbrev entered : tie.After-slice-known3 Inv-loop μ-loop → tie.Start Inv-loop μ-loop
@@ -74,7 +74,7 @@ add-at c =
     let sofar = turn .before .loop .inv .1 .1 .1 given in
     omega (
       arith,
-      line-here (given .opened) (here turn given) (site .site-at .ensures) (put .put-line .ensures) .inside,
+      line-here (given .opened) (here turn given) (site .site-at .ensures) (start (turn .before) .args .family .delays) (put .put-line .ensures) .inside,
       part-long sofar given (turn .loop-test .taken),
       low sofar given (turn .loop-test .taken),
     )
@@ -93,7 +93,7 @@ loop-again c =
           search needs,
           λ s.
               more (sofar s) (here turn s) _ refl (room (sofar given) given (turn .loop-test .taken))
-              (line-here (s .opened) (here turn s) (site .site-at .ensures) (put .put-line .ensures)),
+              (line-here (s .opened) (here turn s) (site .site-at .ensures) (start (turn .before) .args .family .delays) (put .put-line .ensures)),
         ),
       ),
     )
@@ -104,7 +104,7 @@ put-lines-spec =
     (tie.spec
     Inv-loop
     μ-loop
-    (λ c. (search needs, (refl, (entered c .pre .lent, λ s. none (s .file) (s .opened .ms) _))))
+    (λ c. (search needs, (refl, (entered c .pre .lent, λ s. none (s .file) (entered c .args .family .delays) (s .opened .ms) _))))
     (λ c. omega (arith, in-lists (start (c .before) .pre .opened) (c .loop-test .taken) .0))
     (λ c. in-lists (start (c .before .before) .pre .opened) (c .before .loop-test .taken) .0)
     (λ c κs. in-lists (start (c .before .before) .pre .opened) (c .before .loop-test .taken) .1)

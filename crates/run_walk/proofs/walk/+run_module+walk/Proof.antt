@@ -1,4 +1,4 @@
--- `walker::walk::run_module` and `walker::walk::walk` meet their contracts. A walk's turn is `turn-gate`, `turn-module`, or `turn-idle`
+-- `run_walk::walk::run_module` and `run_walk::walk::walk` meet their contracts. A walk's turn is `turn-gate`, `turn-module`, or `turn-idle`
 -- where no net is driven; at its end the module has run. Assumes nothing.
 mod Setting
 use Prim.Native.Nat.{ℕ, _-_, _<_}
@@ -8,7 +8,7 @@ use lib.ListN.{length}
 use Rattle.image.specs.Scenes.{in-starts, in-nets, module-stands, module-there, frame-is}
 use Rattle.image.specs.Walking.{occurrence-there}
 use Rattle.gates.specs.Gates.{module-of-kind}
-use Rattle.run_walk.specs.Job.{workOf}
+use Rattle.run_walk.specs.Valuing.{valueWork}
 use Rattle.run_walk.specs.Running.{Runnable, Walkable}
 use Rattle.run_walk.proofs.Progress.{walking-begins, finish}
 use Rattle.run_walk.proofs.Turns as turns
@@ -52,7 +52,7 @@ module _ (t : ℕ) where
 
   -- The slot that a gate fills is one of scratch.
   slot-there :
-      (c : walk-lts.After-at-gate (walk-claims t) (walk-at t) walk.Post Inv-loop μ-loop)
+      (c : walk-lts.After-result (walk-claims t) (walk-at t) walk.Post Inv-loop μ-loop)
       → let l = gate-read t (c .before .before .before) .before .before .loop in
       l .filled < length (l .scratch)
   slot-there c = let gate = c .before .before .before in turns.gate-room (own t (gate-read t gate)) (gate-kind t gate)
@@ -65,7 +65,7 @@ module _ (t : ℕ) where
   loop-again : walk-lts.Need-loop-again (walk-claims t) (walk-at t) walk.Post Inv-loop μ-loop
   loop-again c s ahead =
       let gate = c .before .before .before in
-      turns.turn-gate (here t (gate-read t gate) s ahead) (gate-kind t gate) (c .at-gate .ensures)
+      turns.turn-gate (here t (gate-read t gate) s ahead) (gate-kind t gate) (c .result .ensures)
 
   -- At a module, once its arguments are passed: its part of scratch begins within it.
   lent-inside : walk-lts.Need-sub-run-module (walk-claims t) (walk-at t) walk.Post Inv-loop μ-loop
@@ -96,8 +96,8 @@ module _ (t : ℕ) where
       let told = passed-from t passed in
       let now = own t (module-read t told) in
       let kind = module-kind t told in
-      modules.fetches now kind (passed .copy .ensures) (ran .run-module .last .1 .1 .1 .1 .1 .0)
-      (ran .run-module .kept .1 .1 .1 .1 .1 .0)
+      modules.fetches now kind (passed .copy .ensures) (ran .run-module .last .1 .1 .1 .1 .0)
+      (ran .run-module .kept .1 .1 .1 .1 .0)
       (passed .before .before .module-at .ensures (modules.sub now kind .m) (module-stands (modules.sub now kind)))
 
   loop-again-2 : walk-lts.Need-loop-again-2 (walk-claims t) (walk-at t) walk.Post Inv-loop μ-loop
@@ -108,8 +108,8 @@ module _ (t : ℕ) where
       let told = passed-from t passed in
       let now = here t (module-read t told) s ahead in
       let kind = module-kind t told in
-      modules.turn-module now kind (passed .copy .ensures) (ran .run-module .last .1 .1 .1 .1 .1 .0)
-      (ran .run-module .kept .1 .1 .1 .1 .1 .0)
+      modules.turn-module now kind (passed .copy .ensures) (ran .run-module .last .1 .1 .1 .1 .0)
+      (ran .run-module .kept .1 .1 .1 .1 .0)
       (passed .before .before .module-at .ensures (modules.sub now kind .m) (module-stands (modules.sub now kind)))
       (ran .run-module .ensures (modules.calls now kind (passed .copy .ensures)))
       (fetched .copy2 .ensures)
@@ -123,7 +123,7 @@ pub +run-module+walk-spec : {M : Type 1} → statement M
     (λ c. let known = c .before in in-starts (known .before .before .before .before .pre .1 .scene))
     (λ c κs. let known = c .before in module-there (known .before .before .before .before .pre .1 .scene))
     (λ c κs. let from = began t (c .before) in (omega (arith, from .pre .0), walkable t (c .before) (from .pre .1)))
-    (λ c. c .before .before .walk .kept .1 .1 .1 .1 .1 .1 .0)
+    (λ c. c .before .before .walk .kept .1 .1 .1 .1 .1 .0)
     (λ c s. c .before .before .walk .ensures (walkable t (c .before .before .before .before) s)))
     (λ t.
     walk-lts.spec (walk-claims t) (walk-at t) walk.Post Inv-loop μ-loop
@@ -133,7 +133,7 @@ pub +run-module+walk-spec : {M : Type 1} → statement M
     (λ c.
     let known = c .before .before .before in
     let a = known .before .before .before .args in
-    walking-begins (workOf (a .job)) (a .scratch .now))
+    walking-begins valueWork (a .scratch .now))
     (λ c κs. occurrence-there (omega (arith, c .loop-test .taken)) (own-progress t (c .before) .ahead))
     (λ c. omega arith)
     (add-filled t)

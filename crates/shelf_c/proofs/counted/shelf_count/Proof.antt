@@ -5,26 +5,27 @@ use Prim.Native.Nat.{ℕ}
 use borrow.Author.Needs.{needs}
 use borrow.Author.Tests.{eq-eqb, ne-eqb}
 use lib.ListN.{length}
-use Rattle.meaning.specs.Calls.{Decision, Figures, numberOf, counting}
+use Rattle.meaning.specs.Calls.{Decision, numberOf}
+use Rattle.meaning.specs.Family.{Summary, summary}
 use Rattle.shelf_c.specs.Results.{unlessRefused, figuresIn, tallyIn}
 use Rattle.shelf_c.proofs.Reporting.{pieces}
 use Rattle.shelf_c.proofs.counted.shelf_count.Statement.{statement}
 use Rattle.shelf_c.proofs.counted.shelf_count.Tie as tie
 
-kept : (d : Decision Figures) (of before : List ℕ) → (numberOf d ≡ 0 → ⊥) → before ≡ unlessRefused d of before
+kept : (d : Decision Summary) (of before : List ℕ) → (numberOf d ≡ 0 → ⊥) → before ≡ unlessRefused d of before
 kept d of before some = rw (ne-eqb (numberOf d) 0 some)
 
-given : (d : Decision Figures) (before : List ℕ) {of after : List ℕ} → numberOf d ≡ 0 → after ≡ of → after ≡ unlessRefused d of before
+given : (d : Decision Summary) (before : List ℕ) {of after : List ℕ} → numberOf d ≡ 0 → after ≡ of → after ≡ unlessRefused d of before
 given d before none is = rw (eq-eqb (numberOf d) 0 none) is
 
 abbrev start : tie.After-count → tie.Start
-start c = c .before .before .before .before
+start c = let lists = c .before .before in lists .before .before .before
 
 returns : tie.Need-returns
 returns c =
     let a = c .before .before .before in
     let args = start a .args in
-    let d = counting (args .file .now) (args .number) (length (args .scratch .now)) in
+    let d = summary (args .file .now) (args .number) (args .family .now) (length (args .scratch .now)) in
     let p = pieces d (a .count .ensures .is) in
     let some : numberOf d ≡ 0 → ⊥ = λ e. c .if1 .taken (p .numberIs ∙ e) in (
       p .numberIs,
@@ -39,7 +40,7 @@ returns-2 c =
     let answered = c .before .before .before .before in
     let a = answered .before .before .before in
     let args = start a .args in
-    let d = counting (args .file .now) (args .number) (length (args .scratch .now)) in
+    let d = summary (args .file .now) (args .number) (args .family .now) (length (args .scratch .now)) in
     let p = pieces d (a .count .ensures .is) in
     let none : numberOf d ≡ 0 = sym (p .numberIs) ∙ answered .if1 .left in (
       sym none,

@@ -13,7 +13,7 @@ use Rattle.gates.specs.Kind.{kindOf}
 use Rattle.gates.specs.declared.Kind.the-variants.{Gate, Module}
 use Rattle.image.specs.Walking.{Ahead, all-ahead, turn}
 use Rattle.image.specs.declared.places.Header.{Header}
-use Rattle.run_walk.specs.Job.{workOf}
+use Rattle.run_walk.specs.Valuing.{valueWork}
 use Rattle.run_walk.specs.Running.{Runnable, Walkable}
 use Rattle.run_walk.proofs.Progress.{Progress, Walking}
 use Rattle.run_walk.proofs.Turns.{Here}
@@ -24,16 +24,16 @@ use Rattle.run_walk.proofs.walk.walk.Reads as walk
 use Rattle.run_walk.proofs.walk.walk.Kinds as walk-kinds
 use Rattle.run_walk.proofs.walk.+run_module+walk.Lts-walk as walk-lts
 use Rattle.gates.proofs.kind_of.Reads as kind-of-reads
-use Rattle.run_walk.proofs.gate.at_gate.Reads as at-gate-reads
+use Rattle.run_walk.proofs.gate.result.Reads as result-reads
 use Rattle.image.proofs.places.module_at.Reads as module-at-reads
 use Rattle.image.proofs.places.occurrence_at.Reads as occurrence-at-reads
 use Rattle.run_walk.proofs.slots.copy.Reads as copy-reads
 
 abbrev pub μ-run-module : Measures 4 run-module-kinds.ps ℕ
-μ-run-module κs a = 2 * (length (a .1 .1 .0 .now) - a .1 .1 .1 .1 .0) + 1
+μ-run-module κs a = 2 * (length (a .1 .0 .now) - a .1 .1 .1 .0) + 1
 
 abbrev pub μ-walk : Measures 4 walk-kinds.ps ℕ
-μ-walk κs a = 2 * (length (a .1 .1 .0 .now) - a .1 .1 .1 .1 .0)
+μ-walk κs a = 2 * (length (a .1 .0 .now) - a .1 .1 .1 .0)
 
 abbrev pub run-module-at : ℕ → In 4 run-module-kinds.ps
 run-module-at t = and 4 run-module-kinds.ps (is 4 run-module-kinds.ps μ-run-module t) run-module.Pre
@@ -56,8 +56,8 @@ walk-claims t = (
   occurrence-at-reads.Learnt,
   kind-of-reads.Asked,
   kind-of-reads.Learnt,
-  at-gate-reads.Asked,
-  at-gate-reads.Learnt,
+  result-reads.Asked,
+  result-reads.Learnt,
   module-at-reads.Asked,
   module-at-reads.Learnt,
   copy-reads.Asked,
@@ -67,11 +67,11 @@ walk-claims t = (
 )
 
 abbrev pub Inv-loop : walk-lts.InvT-loop
-Inv-loop job image starts nets k scratch₀ frame at₀ left₀ filled₀ scratch at left filled =
-    Walking (workOf job) image starts nets k scratch₀ at₀ left₀ filled₀ at left filled scratch
+Inv-loop image starts nets k scratch₀ frame at₀ left₀ filled₀ scratch at left filled =
+    Walking valueWork image starts nets k scratch₀ at₀ left₀ filled₀ at left filled scratch
 
 abbrev pub μ-loop : walk-lts.MeasureT-loop
-μ-loop job image starts nets k scratch₀ frame at₀ left₀ filled₀ scratch at left filled = left
+μ-loop image starts nets k scratch₀ frame at₀ left₀ filled₀ scratch at left filled = left
 
 -- The module's own occurrences are all ahead at first.
 pub enter :
@@ -101,7 +101,7 @@ module _ (t : ℕ) where
   pub own-progress :
       (c : Looping)
       → let a = start c .args in
-      Progress (workOf (a .job)) (start c .pre .1 .runnable) (c .loop .at) (c .loop .left) (c .loop .filled) (c .loop .scratch)
+      Progress valueWork (start c .pre .1 .runnable) (c .loop .at) (c .loop .left) (c .loop .filled) (c .loop .scratch)
   own-progress c = let w = start c .pre .1 in c .loop .inv (w .runnable) (enter w)
 
   -- Once the occurrence's place is read, what is known of any module that can be run from the start,
@@ -111,7 +111,7 @@ module _ (t : ℕ) where
       let l = c .before .before .loop in
       (s : Runnable (a .image .now) (a .starts .now) (a .nets .now) (a .k) (a .scratch .now))
       → Ahead (a .image .now) (s .scene .m) (s .scene .later) (a .header .to + 1) (a .header .count) (a .header .inputs) (s .scene .m .occurrences)
-      → Here (workOf (a .job)) s (l .at) (l .left) (l .filled) (l .scratch) (c .occurrence-at .result)
+      → Here valueWork s (l .at) (l .left) (l .filled) (l .scratch) (c .occurrence-at .result)
   here c s ahead =
       let p = c .before .before .loop .inv s ahead in
       record { progress = p; turn = turn (omega (arith, c .before .loop-test .taken)) (p .ahead) (c .occurrence-at .ensures) }
@@ -121,7 +121,7 @@ module _ (t : ℕ) where
       (c : Reading)
       → let from = start (c .before .before) in
       let l = c .before .before .loop in
-      Here (workOf (from .args .job)) (from .pre .1 .runnable) (l .at) (l .left) (l .filled) (l .scratch) (c .occurrence-at .result)
+      Here valueWork (from .pre .1 .runnable) (l .at) (l .left) (l .filled) (l .scratch) (c .occurrence-at .result)
   own c = let w = start (c .before .before) .pre .1 in here c (w .runnable) (enter w)
 
   -- In the arm of a gate the number is that of a gate of the rule,

@@ -1,10 +1,9 @@
 -- Room is small: each net of a module stands in the file as a number of its own, and along a chain of references each module comes at
 -- most once. So the room of a module is at most the count of the numbers in its file.
-use Prim.Native.Nat.{ℕ, _+_, _≤_, _<_}
+use Prim.Native.Nat.{ℕ, _+_, _≤_}
 use mathlib.Core.Path.{_≡_}
 use mathlib.Core.Bool.{Bool, true, false, cond}
 use mathlib.Core.List.{List, [], _∷_, _++_}
-use native.Mathlib.Decide.{decLt}
 use native.Mathlib.Omega.{arith}
 use lib.Dec.{eqb}
 use lib.ListN.{length, length-append}
@@ -14,9 +13,13 @@ use Rattle.meaning.specs.Limits.{driven, netCount}
 use Rattle.meaning.specs.Reading.{mostBytes}
 use Rattle.meaning.specs.Ceilings.{Within}
 use Rattle.meaning.specs.Figures.{largestReferred, room}
 use Rattle.laws.specs.Bounds.{largest-within}
-use Rattle.laws.specs.Written.{bytes-of-low, bytes-of-high}
-use Rattle.image.specs.Pieces.{length-of-occurrence, length-of-module}
+use Rattle.laws.specs.Written.{some-byte}
+use Rattle.laws.specs.FastAdder.Numbers.{module-numbers}
+
+occurrence-numbers : (o : Occurrence) → length (occurrenceNumbers o) ≡ 3 + length (o .drives) + length (o .takes)
+unfolding occurrenceNumbers
+occurrence-numbers o = simp length-append (omega arith)
 
 driven-numbers : (os : List Occurrence) → length (driven os) ≤ length (each occurrenceNumbers os)
 unfolding driven each
@@ -26,15 +29,15 @@ driven-numbers (o ∷ os) =
       arith,
       length-append (o .drives) (driven os),
       length-append (occurrenceNumbers o) (each occurrenceNumbers os),
-      length-of-occurrence o,
+      occurrence-numbers o,
       driven-numbers os,
     )
 
 net-numbers : (m : Module) → netCount m ≤ length (moduleNumbers m)
 unfolding netCount
-net-numbers m = omega (arith, length-of-module m, driven-numbers (m .occurrences))
+net-numbers m = omega (arith, module-numbers m, driven-numbers (m .occurrences))
 
-room-numbers : (ms : List Module) (x : ℕ) → room ms x ≤ length (each moduleNumbers ms)
+pub room-numbers : (ms : List Module) (x : ℕ) → room ms x ≤ length (each moduleNumbers ms)
 unfolding room each
 room-numbers [] x = omega arith
 room-numbers (m ∷ later) x =
@@ -52,14 +55,7 @@ room-numbers (m ∷ later) x =
     go true below largest = omega (arith, both, net-numbers m)
     go false below largest = omega (arith, both)
 
--- A number has a byte at least.
-some-byte : (n : ℕ) → 1 ≤ length (numberBytes n)
-some-byte n = go (decLt n 128)
-  where
-    go : Dec (n < 128) → 1 ≤ length (numberBytes n)
-    go (yes low) = rw (bytes-of-low n low) (omega arith)
-    go (no high) = rw (bytes-of-high n (omega arith)) (omega arith)
-
+-- Each of a file's numbers has a byte at least.
 numbers-bytes : (xs : List ℕ) → length xs ≤ length (each numberBytes xs)
 unfolding each
 numbers-bytes [] = omega arith

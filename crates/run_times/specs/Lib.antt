@@ -1,0 +1,2 @@
+-- What the contracts of `run_times` cite.
+pub mod Times
