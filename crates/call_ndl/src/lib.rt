@@ -85,7 +85,7 @@ fn write_long(file: &[u8], names: &[u8], out: &mut [u8]) -> Writing
     )
 }
 
-// A short file should not pay for clearing long lists. Called from two places the long way stays a function of its own.
+// A short file should not pay for clearing long lists.
 pub fn write_ndl(file: &[u8], names: &[u8], out: &mut [u8]) -> Writing
     ensures { λ r. ⌜ Answers (ndlListing (now (file .entry)) (now (names .entry)) (length (now (out .entry)))) (now (out .entry)) (now (out .exit)) r ⌝ }
 {

@@ -68,7 +68,7 @@ fn print_long(file: &[u8], out: &mut [u8]) -> Writing
     print_in(file, &mut numbers, &mut image, &mut first, &mut slots, out)
 }
 
-// A short file should not pay for clearing long lists. Called from two places the long way stays a function of its own.
+// A short file should not pay for clearing long lists.
 pub fn print_text(file: &[u8], out: &mut [u8]) -> Writing
     ensures { λ r. ⌜ Answers (listPrinting (now (file .entry)) (length (now (out .entry)))) (now (out .entry)) (now (out .exit)) r ⌝ }
 {

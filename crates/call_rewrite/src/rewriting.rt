@@ -156,7 +156,7 @@ fn rewrite_long(file: &[u8], out: &mut [u8]) -> Writing
     rewrite_in(file, &mut numbers, &mut image, &mut first, &mut slots, out)
 }
 
-// A short file should not pay for clearing long lists. Called from two places the long way stays a function of its own.
+// A short file should not pay for clearing long lists.
 pub fn rewrite(file: &[u8], out: &mut [u8]) -> Writing
     ensures { λ r. ⌜ Answers (rewriting (now (file .entry)) (length (now (out .entry)))) (now (out .entry)) (now (out .exit)) r ⌝ }
 {

@@ -67,7 +67,7 @@ fn strict_long(file: &[u8]) -> Checked
     strict_in(file, &mut image, &mut first, &mut slots)
 }
 
-// A short file should not pay for clearing long lists. Called from two places the long way stays a function of its own.
+// A short file should not pay for clearing long lists.
 pub fn strict_check(file: &[u8]) -> Checked
     ensures { λ r. ⌜ r ≡ checkOf (strictVerdict (now (file .entry))) ⌝ }
 {
