@@ -1,12 +1,20 @@
-/* The sixteen gates: how many arguments, and the value on 0 to 3 by trying all fillings of the places that are not
+/* The sixteen gates: their names, how many arguments, and the value on 0 to 3 by trying all fillings of the places that are not
  * known, which are those of 2 and of 3. */
 #include "plain.h"
 
 static const int arities[KINDS] = {1, 1, 2, 3, 4, 2, 3, 4, 2, 2, 2, 3, 4, 2, 3, 4};
 
+static const char *const names[KINDS] = {"B-BUF", "B-NOT", "B-NAND", "B-NAND3", "B-NAND4", "B-OR",  "B-OR3",  "B-OR4",
+                                         "B-EQV", "B-XOR", "B-AND",  "B-AND3",  "B-AND4",  "B-NOR", "B-NOR3", "B-NOR4"};
+
 int plain_arity(int kind)
 {
     return arities[kind];
+}
+
+const char *plain_gate_name(int kind)
+{
+    return names[kind];
 }
 
 /* The Boolean function of the gate's name. */

@@ -1,64 +1,50 @@
 /* Listings for the board maker (request M-112): a checked file in the Network Description Language, the lines of document 002. */
 #include "plain.h"
 
-#include <stdarg.h>
-#include <stdio.h>
 #include <string.h>
 
-enum { NAMES = 16, NAME = 8, MOST_TEXT = 600000 };
-
-static char text[MOST_TEXT];
-static size_t text_len;
-
-static void say(const char *format, ...)
-{
-    va_list arguments;
-
-    va_start(arguments, format);
-    text_len += (size_t)vsnprintf(text + text_len, sizeof text - text_len, format, arguments);
-    va_end(arguments);
-}
+enum { NAMES = 16, NAME = 8 };
 
 static void say_nets(struct nets nets)
 {
     for (int i = 0; i < nets.count; i++)
-        say(i == 0 ? "N%d" : ",N%d", nets.net[i]);
+        plain_say(i == 0 ? "N%d" : ",N%d", nets.net[i]);
 }
 
 static void say_line(const char *keyword, struct nets nets)
 {
-    say("%s%s", keyword, nets.count > 0 ? " " : "");
+    plain_say("%s%s", keyword, nets.count > 0 ? " " : "");
     say_nets(nets);
-    say(";\n");
+    plain_say(";\n");
 }
 
 /* A gate by its name, which ends in front of the first space. */
 static void say_reference(const uint8_t *names, int number)
 {
     if (number >= KINDS) {
-        say("M%d", number);
+        plain_say("M%d", number);
         return;
     }
     for (int i = 0; i < NAME && names[NAME * number + i] != ' '; i++)
-        say("%c", names[NAME * number + i]);
+        plain_say("%c", names[NAME * number + i]);
 }
 
 static void say_module(const uint8_t *names, const struct module *module)
 {
-    say("MODULE M%d;\n", module->number);
+    plain_say("MODULE M%d;\n", module->number);
     say_line("INPUTS", module->inputs);
     say_line("OUTPUTS", module->outputs);
-    say("LEVEL FUNCTION;\nDEFINE\n");
+    plain_say("LEVEL FUNCTION;\nDEFINE\n");
     for (int i = 0; i < module->count; i++) {
-        say("G%d(", i);
+        plain_say("G%d(", i);
         say_nets(module->occurrences[i].drives);
-        say(") = ");
+        plain_say(") = ");
         say_reference(names, module->occurrences[i].refers);
-        say("(");
+        plain_say("(");
         say_nets(module->occurrences[i].takes);
-        say(");\n");
+        plain_say(");\n");
     }
-    say("END MODULE;\n\n");
+    plain_say("END MODULE;\n\n");
 }
 
 static int is_digit(uint8_t byte)
@@ -108,14 +94,10 @@ uint16_t plain_write_ndl(const uint8_t *file, size_t file_len, const uint8_t *na
         return plain_end(place, 29, 0);
     if (first_bad(names) < NAMES)
         return plain_end(place, 29, (size_t)first_bad(names));
-    text_len = 0;
-    say("COMPILE;\nDIRECTORY MASTER;\n\n");
+    plain_say_nothing();
+    plain_say("COMPILE;\nDIRECTORY MASTER;\n\n");
     for (int i = 0; i < plain_file.count; i++)
         say_module(names, &plain_file.modules[i]);
-    say("END COMPILE;\nEND;\n");
-    if (out_len < text_len)
-        return plain_end(place, 22, 0);
-    memcpy(out, text, text_len);
-    *written = text_len;
-    return plain_end(place, 0, 0);
+    plain_say("END COMPILE;\nEND;\n");
+    return plain_give_said(out, out_len, written, place);
 }

@@ -54,6 +54,7 @@ struct refusal plain_read(const uint8_t *bytes, size_t length, struct file *file
 
 /* gates.c */
 int plain_arity(int kind);
+const char *plain_gate_name(int kind);
 int plain_gate(int kind, const uint8_t *values);
 
 /* check.c: refusals 1 to 17. `sizes` gets the expanded size of each module */
@@ -82,14 +83,26 @@ extern struct file plain_file;
 extern uint32_t plain_sizes[MOST_MODULES];
 uint16_t plain_end(size_t *place, int number, size_t at);
 
-/* write.c: a file in the making. Flattened files and adders are far below this length */
+/* write.c: a file in the making */
 struct bytes {
     size_t length;
     uint8_t byte[MOST_BYTES];
 };
 void plain_put(struct bytes *bytes, uint32_t number);
 void plain_put_range(struct bytes *bytes, uint32_t first, uint32_t count); /* a list of numbers in order */
+size_t plain_put_file(struct bytes *bytes, const struct file *file);       /* how many bytes there are, also if too many */
 uint16_t plain_give(const struct bytes *answer, uint8_t *out, size_t out_len, size_t *written, size_t *place);
+
+/* say.c: a text in the making. Listings and printed files are far below its room */
+void plain_say_nothing(void); /* none so far */
+void plain_say(const char *format, ...);
+uint16_t plain_give_said(uint8_t *out, size_t out_len, size_t *written, size_t *place);
+
+/* text_names.c: numbers for the names of a text, in the order in which they come */
+extern struct names plain_module_names, plain_net_names;
+void plain_forget(struct names *names);
+void plain_forget_all_but_gates(struct names *names);
+int plain_number_of(struct names *names, const uint8_t *letters, size_t length);
 
 /* The calls */
 uint16_t plain_check(const uint8_t *file, size_t file_len, size_t *place);
@@ -114,6 +127,10 @@ uint16_t plain_join(const uint8_t *group, size_t group_len, const uint8_t *house
                     size_t out_len, uint16_t *which, size_t *written, size_t *place);
 uint16_t plain_write_ndl(const uint8_t *file, size_t file_len, const uint8_t *names, size_t names_len, uint8_t *out,
                          size_t out_len, size_t *written, size_t *place);
+uint16_t plain_read_text(const uint8_t *text, size_t text_len, uint8_t *out, size_t out_len, size_t *written,
+                         size_t *place);
+uint16_t plain_print_text(const uint8_t *file, size_t file_len, uint8_t *out, size_t out_len, size_t *written,
+                          size_t *place);
 uint16_t plain_adder(size_t width, uint8_t *out, size_t out_len, size_t *written, size_t *place);
 uint16_t plain_fast_adder(size_t width, uint8_t *out, size_t out_len, size_t *written, size_t *place);
 

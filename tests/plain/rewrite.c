@@ -143,43 +143,6 @@ static int too_large(void)
     return -1;
 }
 
-static void put_number(struct bytes *bytes, size_t *length, int number)
-{
-    *length += number < 128 ? 1 : 2;
-    if (*length <= MOST_BYTES)
-        plain_put(bytes, (uint32_t)number);
-}
-
-static void put_nets(struct bytes *bytes, size_t *length, struct nets nets)
-{
-    put_number(bytes, length, nets.count);
-    for (int i = 0; i < nets.count; i++)
-        put_number(bytes, length, nets.net[i]);
-}
-
-/* The bytes as far as they go, and how many there would be. */
-static size_t put_new_file(struct bytes *bytes)
-{
-    size_t length = 0;
-
-    bytes->length = 0;
-    put_number(bytes, &length, new_file.count);
-    for (int i = 0; i < new_file.count; i++) {
-        const struct module *module = &new_file.modules[i];
-
-        put_number(bytes, &length, module->number);
-        put_nets(bytes, &length, module->inputs);
-        put_nets(bytes, &length, module->outputs);
-        put_number(bytes, &length, module->count);
-        for (int j = 0; j < module->count; j++) {
-            put_nets(bytes, &length, module->occurrences[j].drives);
-            put_number(bytes, &length, module->occurrences[j].refers);
-            put_nets(bytes, &length, module->occurrences[j].takes);
-        }
-    }
-    return length;
-}
-
 uint16_t plain_rewrite(const uint8_t *file, size_t file_len, uint8_t *out, size_t out_len, size_t *written,
                        size_t *place)
 {
@@ -201,7 +164,7 @@ uint16_t plain_rewrite(const uint8_t *file, size_t file_len, uint8_t *out, size_
     at = too_large();
     if (at >= 0)
         return plain_end(place, 17, (size_t)at);
-    if (put_new_file(&answer) > MOST_BYTES)
+    if (plain_put_file(&answer, &new_file) > MOST_BYTES)
         return plain_end(place, 1, 0);
     return plain_give(&answer, out, out_len, written, place);
 }
