@@ -33,14 +33,17 @@ struct side {
     uint16_t (*strict_check)(const uint8_t *, size_t, size_t *);
     uint16_t (*rewrite)(const uint8_t *, size_t, uint8_t *, size_t, size_t *, size_t *);
     uint16_t (*read_text)(const uint8_t *, size_t, uint8_t *, size_t, size_t *, size_t *);
+    uint16_t (*print_text)(const uint8_t *, size_t, uint8_t *, size_t, size_t *, size_t *);
 };
 
 static const struct side ours = {shelf_check,   shelf_evaluate, shelf_evaluate_rows, shelf_count,
                                  shelf_flatten, shelf_adder,    shelf_fast_adder, shelf_counter, shelf_join,
-                                 shelf_write_ndl, shelf_strict_check, shelf_rewrite, shelf_read_text};
+                                 shelf_write_ndl, shelf_strict_check, shelf_rewrite, shelf_read_text,
+                                 shelf_print_text};
 static const struct side theirs = {tuned_check,   tuned_evaluate, tuned_evaluate_rows, tuned_count,
                                    tuned_flatten, tuned_adder,    tuned_fast_adder, tuned_counter, tuned_join,
-                                   tuned_write_ndl, tuned_strict_check, tuned_rewrite, tuned_read_text};
+                                   tuned_write_ndl, tuned_strict_check, tuned_rewrite, tuned_read_text,
+                                   tuned_print_text};
 
 /* What a row works on, and what it leaves for comparison. */
 static struct bench_file file;
@@ -70,6 +73,11 @@ static uint16_t rewrite(const struct side *side)
 static uint16_t read_text(const struct side *side)
 {
     return side->read_text(file.bytes, file.length, out, MOST, &written, &place);
+}
+
+static uint16_t print_text(const struct side *side)
+{
+    return side->print_text(file.bytes, file.length, out, MOST_OUT, &written, &place);
 }
 
 static uint16_t evaluate(const struct side *side)
@@ -320,6 +328,9 @@ static void listing_rows(void)
     for (size_t i = 0; i < sizeof files / sizeof *files; i++)
         row_on("ndl", files[i], write_ndl, files[i].numbers, " number");
     row_on("ndl", written_adder(1), write_ndl, 0, "");
+    for (size_t i = 0; i < sizeof files / sizeof *files; i++)
+        row_on("print", files[i], print_text, files[i].numbers, " number");
+    row_on("print", written_adder(1), print_text, 0, "");
 }
 
 static void withdrawn_rows(void)

@@ -1743,6 +1743,9 @@ static struct names module_names, net_names;
 
 enum { ALWAYS = 0xFFFFFFFF };
 
+static const char *const gate_names[GATES] = {"B-BUF", "B-NOT", "B-NAND", "B-NAND3", "B-NAND4", "B-OR", "B-OR3", "B-OR4",
+                                              "B-EQV", "B-XOR", "B-AND",  "B-AND3",  "B-AND4",  "B-NOR", "B-NOR3", "B-NOR4"};
+
 enum sort { OTHER, BLANK, LETTER, OPEN, CLOSE, QUOTE };
 
 static uint8_t sort_of[256];
@@ -1816,9 +1819,6 @@ static void forget(struct names *names)
 
 static void know_gates(void)
 {
-    static const char *const gate_names[GATES] = {"B-BUF", "B-NOT", "B-NAND", "B-NAND3", "B-NAND4", "B-OR", "B-OR3", "B-OR4",
-                                                  "B-EQV", "B-XOR", "B-AND",  "B-AND3",  "B-AND4",  "B-NOR", "B-NOR3", "B-NOR4"};
-
     sort_of[' '] = sort_of['\n'] = sort_of['\r'] = BLANK;
     sort_of['('] = OPEN;
     sort_of[')'] = CLOSE;
@@ -2037,6 +2037,107 @@ uint16_t TUNED(read_text)(const uint8_t *text, size_t text_len, uint8_t *out, si
     if (out_len < length)
         return end(place, 22, 0);
     memcpy(out, made_text, length);
+    *written = length;
+    return end(place, 0, 0);
+}
+
+/* ---- printed texts */
+
+/* A net with the space in front of it, as in " N16383", and a gate with all that stands between the last net it drives and
+ * its arguments, as in ") (B-NAND3". The last byte of each says how many there are. All of them are put, and what is too
+ * much is written over by what follows: at least 5 bytes behind a net, 9 behind a gate. */
+static uint8_t net_text[NUMBERS][8], gate_text[GATES][16];
+
+static void know_texts(void)
+{
+    for (uint32_t n = 0; n < NUMBERS; n++) {
+        memcpy(net_text[n], " N", 2);
+        net_text[n][7] = (uint8_t)(put_digits(net_text[n] + 2, n) - net_text[n]);
+    }
+    for (uint32_t i = 0; i < GATES; i++)
+        gate_text[i][15] = (uint8_t)(put_text(put_text(gate_text[i], ") ("), gate_names[i]) - gate_text[i]);
+}
+
+static inline uint8_t *put_net(uint8_t *to, uint32_t net)
+{
+    memcpy(to, net_text[net], 8);
+    return to + net_text[net][7];
+}
+
+/* A module's name behind its bracket: these take the place of the space and the N. */
+static inline uint8_t *put_module_name(uint8_t *to, uint32_t number)
+{
+    uint8_t *behind = put_net(to, number);
+
+    memcpy(to, "(M", 2);
+    return behind;
+}
+
+/* A list of nets but for its end: the bracket takes the place of the first space. */
+static inline uint8_t *put_open_list(uint8_t *to, const uint16_t *nets, uint32_t count)
+{
+    uint8_t *at = to + (count == 0);
+
+    for (uint32_t i = 0; i < count; i++)
+        at = put_net(at, nets[i]);
+    *to = '(';
+    return at;
+}
+
+static uint8_t *put_body(uint8_t *to, const uint16_t *at, uint32_t count)
+{
+    for (uint32_t i = 0; i < count; i++) {
+        uint32_t drives = at[0], refers = at[drives + 1], takes = at[drives + 2];
+
+        *to++ = '(';
+        to = put_open_list(to, at + 1, drives);
+        at += drives + 3;
+        if (refers < GATES) {
+            memcpy(to, gate_text[refers], 16);
+            to += gate_text[refers][15];
+        } else {
+            to = put_module_name(put_text(to, ") "), refers);
+        }
+        for (uint32_t j = 0; j < takes; j++)
+            to = put_net(to, at[j]);
+        at += takes;
+        to = i + 1 < count ? put_text(to, "))\n   ") : put_text(to, "))");
+    }
+    return to;
+}
+
+static uint8_t *put_printed(uint8_t *to)
+{
+    *to++ = '(';
+    for (uint32_t k = 0; k < module_count; k++) {
+        const struct module *m = &modules[k];
+
+        if (k > 0)
+            to = put_text(to, "\n ");
+        to = put_module_name(to, m->number);
+        to = put_open_list(put_text(to, " "), numbers + m->start + 2, m->ins);
+        to = put_open_list(put_text(to, ") "), numbers + m->outputs, m->outs);
+        to = put_body(put_text(to, ")\n  ("), numbers + m->body, m->runs);
+        to = put_text(to, "))");
+    }
+    return put_text(to, ")\n");
+}
+
+uint16_t TUNED(print_text)(const uint8_t *file, size_t file_len, uint8_t *out, size_t out_len, size_t *written, size_t *place)
+{
+    uint16_t no = open_file(file, file_len, place);
+    uint8_t *to = out_len < 6 * file_len ? listing : out;
+    size_t length;
+
+    if (no != 0)
+        return no;
+    if (net_text[0][0] == 0)
+        know_texts();
+    length = (size_t)(put_printed(to) - to);
+    if (out_len < length)
+        return end(place, 22, 0);
+    if (to == listing)
+        memcpy(out, listing, length);
     *written = length;
     return end(place, 0, 0);
 }

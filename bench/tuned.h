@@ -36,6 +36,7 @@ uint16_t TUNED(join)(const uint8_t *group, size_t group_len, const uint8_t *hous
 uint16_t TUNED(write_ndl)(const uint8_t *file, size_t file_len, const uint8_t *names, size_t names_len, uint8_t *out,
                           size_t out_len, size_t *written, size_t *place);
 uint16_t TUNED(read_text)(const uint8_t *text, size_t text_len, uint8_t *out, size_t out_len, size_t *written, size_t *place);
+uint16_t TUNED(print_text)(const uint8_t *file, size_t file_len, uint8_t *out, size_t out_len, size_t *written, size_t *place);
 uint16_t TUNED(adder)(size_t width, uint8_t *out, size_t out_len, size_t *written, size_t *place);
 uint16_t TUNED(fast_adder)(size_t width, uint8_t *out, size_t out_len, size_t *written, size_t *place);
 uint16_t TUNED(alu)(size_t width, uint8_t *out, size_t out_len, size_t *written, size_t *place);
