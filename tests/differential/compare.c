@@ -6,21 +6,22 @@
 #include "../plain/plain.h"
 #include "alus.h"
 #include "counters.h"
-#include "draft.h"
 #include "lend.h"
 #include "random.h"
 #include "shelf.h"
+#include "spell.h"
 
 #include <signal.h>
 #include <stdio.h>
 #include <stdlib.h>
 #include <string.h>
 
-/* A block of 1,024 rows of 192 values or outputs each is the largest, with some to spare. */
-enum { REFUSALS = 29, SCRATCH_MOST = 70000, OUT_MOST = 200000, VALUES_MOST = 200000 };
+/* A block of 1,024 rows of 192 values or outputs each is the largest, and the text of a file, with some to spare. */
+enum { REFUSALS = 34, SCRATCH_MOST = 70000, OUT_MOST = SHELF_TEXT_MOST + 1000, VALUES_MOST = 200000 };
 
-static const char *const call_names[CALLS] = {"check", "strict",  "rewrite", "modules",    "number_at", "evaluate", "rows",
-                                              "count", "flatten", "adder",   "fast_adder", "alu",       "counter"};
+static const char *const call_names[CALLS] = {"check",      "strict", "rewrite",    "modules", "number_at",
+                                              "evaluate",   "rows",   "count",      "flatten", "read_text",
+                                              "print_text", "adder",  "fast_adder", "alu",     "counter"};
 static long met[CALLS][REFUSALS];
 
 /* Flattened files that were counted, and counts of such of several levels, one by each reading. */
@@ -94,7 +95,7 @@ static void on_trap(int signal_number)
 void compare_start(uint64_t with_seed)
 {
     seed = with_seed;
-    file_lender = make_lender(FILE_ROOM);
+    file_lender = make_lender(TEXT_ROOM);
     values_lender = make_lender(VALUES_MOST);
     our_scratch = make_lender(SCRATCH_MOST * sizeof(uint32_t));
     plain_scratch = make_lender(SCRATCH_MOST * sizeof(uint32_t));
@@ -289,6 +290,27 @@ static void compare_flatten(uint16_t number, size_t scratch_len, size_t out_len)
     end_call_with_buffers();
 }
 
+static void take_file(const uint8_t *bytes, size_t length)
+{
+    file = bytes;
+    file_len = length;
+    lent_file = lend(&file_lender, length, bytes);
+}
+
+struct made compare_making(enum call call, making *library, making *plainly, const uint8_t *bytes, size_t length,
+                           size_t out_len)
+{
+    take_file(bytes, length);
+    begin(call);
+    given.out_len = out_len;
+    lend_scratch(&our_scratch);
+    lend_scratch(&plain_scratch);
+    ours.number = library(lent_file, file_len, lend(&our_out, out_len, NULL), out_len, &ours.result, &ours.place);
+    plain.number = plainly(file, file_len, lend(&plain_out, out_len, NULL), out_len, &plain.result, &plain.place);
+    end_call_with_buffers();
+    return (struct made){ours.number, ours.place, our_out.end - out_len, ours.result};
+}
+
 /* What flattening keeps of a module's figures, and what it makes plain: room and expanded size. */
 struct kept {
     uint32_t inputs, gates, size, room, delay, load, family;
@@ -335,8 +357,7 @@ static void compare_flattened(uint16_t number)
 
 /* ---- what to pass */
 
-/* The right length, one less, none, or more. */
-static size_t near(size_t right)
+size_t near(size_t right)
 {
     int roll = below(100);
 
@@ -502,9 +523,7 @@ void compare_file(const uint8_t *bytes, size_t length)
 {
     size_t modules = 0, place;
 
-    file = bytes;
-    file_len = length;
-    lent_file = lend(&file_lender, length, bytes);
+    take_file(bytes, length);
     plain_modules(file, file_len, &modules, &place);
     compare_check();
     compare_strict_check();
@@ -606,13 +625,18 @@ static int can_give(enum call call, int number)
         return 1;
     if (call == ADDER || call == FAST_ADDER || call == ALU || call == COUNTER)
         return number == 22 || number == 23;
+    if (call == READ_TEXT && number >= 2 && number <= 5)
+        return 0;
     if (number <= 17)
         return 1;
     switch (call) {
     case STRICT_CHECK:
         return number == 28;
     case REWRITE:
+    case PRINT_TEXT:
         return number == 22;
+    case READ_TEXT:
+        return number == 22 || number == 25 || number == 26 || number == 33;
     case NUMBER_AT:
         return number == 18;
     case EVALUATE:

@@ -14,6 +14,7 @@
 #include "random.h"
 #include "shelves.h"
 #include "rows.h"
+#include "texts.h"
 
 #include <stdio.h>
 #include <stdlib.h>
@@ -124,6 +125,10 @@ static void run_case(uint64_t seed, long number)
     compare_file(file.byte, file.length);
     if (percent(25))
         compare_listing(file.byte, file.length);
+    if (percent(50))
+        compare_printed(file.byte, file.length);
+    if (percent(50))
+        compare_a_text();
     if (percent(5))
         compare_writers();
     if (percent(20))
@@ -154,7 +159,7 @@ int main(int argc, char **argv)
     judge_alus();
     for (long i = 0; i < cases; i++)
         run_case(seed, first + i);
-    if ((!compare_summary() | !shelves_summary() | !listings_summary()) && cases >= ENOUGH) {
+    if ((!compare_summary() | !shelves_summary() | !listings_summary() | !texts_summary()) && cases >= ENOUGH) {
         printf("differential: FAILED: some number that a call can give was never met\n");
         return 1;
     }
