@@ -49,7 +49,7 @@ impl Fold {
 }
 
 // The value that a number stands for as 0, 1 or 2.
-fn coded(b: u32) -> u32
+pub fn coded(b: u32) -> u32
     ensures { λ r. ⌜ r ≡ code (value b) ⌝ }
 {
     if b < UNKNOWN { b } else { UNKNOWN }

@@ -41,36 +41,37 @@ spelled-below (short small s) l (suc i) = spelled-below s (behind l) i
 spelled-below (long high some small s) l zero = l .low 0 (omega arith) high
 spelled-below (long high some small s) l (suc i) = spelled-below s (behind (behind l)) i
 
--- The bytes in front of place i are passed, and `large` counts those above 3 that stand behind one of 128 or more.
-pub record Passed (file : List ℕ) (large i : ℕ) : Type 0 where
+-- The bytes in front of place i are passed, and where `most` is at most 64 no two of them are a number of 512 or more.
+pub record Passed (file : List ℕ) (most i : ℕ) : Type 0 where
   pub some : 1 ≤ i
-  pub fewer : large ≤ i
   pub few : length file ≤ 1024
-  pub low : large ≡ 0 → Low file i
+  pub low : most ≤ 64 → Low file i
 
 pub passed-first : {file : List ℕ} → length file ≤ 1024 → Passed file 0 1
-passed-first few =
-    record { some = omega arith; fewer = omega arith; few = few; low = λ nothing. record { low = λ j inside. absurd (omega arith) } }
+passed-first few = record { some = omega arith; few = few; low = λ light. record { low = λ j inside. absurd (omega arith) } }
 
-module _ {file : List ℕ} {large i : ℕ} (p : Passed file large i) where
-  -- A byte that is counted,
-  pub passed-large : Passed file (large + 1) (i + 1)
-  passed-large = record { some = omega arith; fewer = omega arith; few = p .few; low = λ nothing. absurd (omega arith) }
+-- One byte more, with its weight; the larger of the weights stays.
+pub passed-more :
+    {file : List ℕ} {most i here next : ℕ}
+    → Passed file most i
+    → getD file (i - 1) 0 < 256
+    → (here ≤ 64 → 128 ≤ getD file (i - 1) 0 → getD file i 0 < 4)
+    → most ≤ next
+    → here ≤ next
+    → Passed file next (i + 1)
+passed-more {i = i} p byte small kept counted =
+    record {
+      some = omega arith;
+      few = p .few;
+      low =
+          λ light.
+          low-more i (p .some) (λ high. omega (arith, small (omega (arith, counted)) high)) (p .low (omega (arith, kept)));
+    }
 
-  -- and one that is not, since it is below 4 or stands behind one below 128.
-  pub passed-low : getD file (i - 1) 0 < 256 → (128 ≤ getD file (i - 1) 0 → getD file i 0 < 4) → Passed file large (i + 1)
-  passed-low byte small =
-      record {
-        some = omega arith;
-        fewer = omega arith;
-        few = p .few;
-        low = λ nothing. low-more i (p .some) (λ high. omega (arith, small high)) (p .low nothing);
-      }
-
-  -- At the end, with nothing counted.
-  pub passed-all : length file ≤ i → large ≡ 0 → Short file
-  passed-all end nothing =
-      record {
-        few = p .few;
-        small = λ ms reads. record { below = spelled-below (holds-spelled file ms reads) (low-less (length file) end (p .low nothing)) };
-      }
+-- At the end, with none above 64.
+pub passed-all : {file : List ℕ} {most i : ℕ} → Passed file most i → length file ≤ i → most ≤ 64 → Short file
+passed-all {file} p end light =
+    record {
+      few = p .few;
+      small = λ ms reads. record { below = spelled-below (holds-spelled file ms reads) (low-less (length file) end (p .low light)) };
+    }

@@ -1,6 +1,7 @@
 // What happens at a gate: its value, by its rule.
 use gates::Rule;
 use gates::folds::Fold;
+use gates::folds::coded;
 ghost use mathlib.Core.Path.{_≡_};
 ghost use mathlib.Core.List.{map};
 ghost use lib.ListN.{length};
@@ -8,13 +9,16 @@ ghost use Rattle.meaning.specs.Values.{value, code};
 ghost use Rattle.gates.specs.Folds.{folded, resultOf};
 ghost use Rattle.image.specs.Slots.{Readable, valuesAt};
 
-// The values at the slots folded into one.
+// The values at the slots folded into one, from the first of them on: most gates have two arguments, and take one step.
 fn folded(fold: Fold, image: &[u16], from: usize, to: usize, scratch: &[u32]) -> u32
     requires { ⌜ Readable (now image) from to 0 (length (now scratch)) ⌝ }
     ensures { λ r. ⌜ r ≡ code (folded fold (map value (valuesAt 0 (now (image .entry)) from to 0 (now (scratch .entry))))) ⌝ }
 {
-    let mut v = fold.start();
-    for i in from..to {
+    if to <= from {
+        return fold.start();
+    }
+    let mut v = coded(scratch[image::entry(image, from)]);
+    for i in from + 1..to {
         v = fold.step(v, scratch[image::entry(image, i)]);
     }
     v
