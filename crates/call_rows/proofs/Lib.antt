@@ -2,4 +2,3 @@
 pub mod LargestDecides
 pub mod RefusingRows
 pub mod AnsweringRows
-pub mod Resizing

@@ -11,7 +11,6 @@ ghost use Rattle.meaning.specs.Rows.{rowsEvaluationOn};
 ghost use Rattle.meaning.specs.Work.{rowsRunningOn};
 ghost use Rattle.open_finding.specs.Standing.{Standing};
 
-mod space;
 mod values;
 
 // Refusals 19 to 22 in their order, then the runs, of at most 1,024 rows.
@@ -61,7 +60,7 @@ fn block_at(
             place: 0,
         };
     }
-    crate::space::run(256, image, starts, nets, site, rows, values, out);
+    rows_space::run(256, image, starts, nets, site, rows, values, out);
     image::buffers::clear(room, scratch);
     Writing::Wrote(outputs)
 }

@@ -1,24 +1,18 @@
 // The command `gimlet`, all of it but where its words come from: so that it can be held to stored lines. It decides nothing itself. Each
 // answer is one line on standard output; a refusal has a second line that says in words which rule it is and what the place means.
-mod asking; // asking.rt: check, strict, list, count and run
-mod chips; // chips.rt: families, and list and count by one
-mod counted; // counted.rt: the figures of a module
-mod files; // files.rt: bytes in, bytes out
-mod listing; // listing.rt: a listing for a board maker
-mod making; // making.rt: rewrite, flatten, the adders, the ALU and counter
-mod placing; // placing.rt: file and file-sequence
-mod printing; // printing.rt: a file as a text
-mod refusing; // refusing.rt: refusals in words
-mod rows; // rows.rt: rows
-mod saying; // saying.rt: lines, what could not be carried out, and the help
-mod shelves; // shelves.rt: find and join
-mod telling; // telling.rt: rows, how it ended
-mod texts; // texts.rt: texts in the place of files
-mod words; // words.rt: the words of a command line
-
-use making::Order;
-use words::is;
-use words::word_at;
+use command_asking::asking;
+use command_asking::chips;
+use command_asking::rows;
+use command_making::listing;
+use command_making::making;
+use command_making::making::Order;
+use command_making::placing;
+use command_making::printing;
+use command_making::shelves;
+use command_words::saying;
+use command_words::words;
+use command_words::words::is;
+use command_words::words::word_at;
 
 // Performs the command of a line, whose words each end with a byte of 0.
 pub fn perform(line: &[u8]) {

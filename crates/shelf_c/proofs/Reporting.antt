@@ -1,7 +1,7 @@
 -- The numbers read off the library's answer are those of the decision.
 use Prim.Native.Nat.{ℕ}
 use mathlib.Core.Path.{_≡_, refl, sym, ap, subst, _∙_}
-use mathlib.Core.List.{List, [], _∷_}
+use mathlib.Core.List.{List}
 use Rattle.meaning.specs.Calls.{Decision, refusal, answer, Written, numberOf, placeOf}
 use Rattle.meaning.specs.Family.{Summary}
 use Rattle.meaning.specs.Work.{Ran, workAfter}
@@ -16,7 +16,8 @@ use Rattle.answers.specs.Answers.{writingOf}
 use Rattle.answers.specs.Running.{RunsAs}
 use Rattle.answers.specs.declared.Run.{Run}
 use Rattle.answers.specs.declared.Writing.{Writing}
-use Rattle.shelf_c.specs.Results.{answerAfter, workLeft, Reports, ReportsRun, numberIn, writtenIn, workIn, placeIn, figuresIn, tallyIn}
+use Rattle.c_reports.specs.Read.{numberIn, writtenIn, workIn, placeIn, figuresOf}
+use Rattle.shelf_c.specs.Results.{answerAfter, workLeft, Reports, ReportsRun, figuresIn, tallyIn}
 
 of-decision : (d : Decision Written) (before : ℕ) → Reports d (numberIn (writingOf d)) before (writtenIn (writingOf d) before) (placeIn (writingOf d))
 of-decision (refusal number place) before = record { numberIs = refl; writtenIs = refl; placeIs = refl }
@@ -80,17 +81,7 @@ named-refuses (answer n) before e is = (cc, (cc, cc))
 pub record Pieces (d : Decision Summary) (r : Counted) : Type 0 where
   pub numberIs : r .number ≡ numberOf d
   pub placeIs : r .place ≡ placeOf d
-  pub figuresAre :
-      r .figures .inputs
-      ∷ r .figures .outputs
-      ∷ r .figures .gates
-      ∷ r .figures .size
-      ∷ r .figures .room
-      ∷ r .figures .delay
-      ∷ r .figures .load
-      ∷ r .figures .family
-      ∷ []
-      ≡ figuresIn d
+  pub figuresAre : figuresOf (r .figures) ≡ figuresIn d
   pub tallyIs : r .figures .tally .counts ≡ tallyIn d
 
 of-count : (d : Decision Summary) → Pieces d (countedOf d)

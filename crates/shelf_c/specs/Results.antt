@@ -8,8 +8,6 @@ use lib.Dec.{eqb}
 use lib.ListN.{length, replicate}
 use Rattle.meaning.specs.Calls.{Decision, refusal, answer, Written, numberOf, placeOf}
 use Rattle.meaning.specs.Family.{Summary}
-use Rattle.answers.specs.declared.Writing.{Writing}
-use Rattle.answers.specs.declared.Writing.the-variants.{Wrote, Refused}
 
 -- How many bytes of the output buffer were written.
 abbrev pub writtenAfter : Decision Written → ℕ → ℕ
@@ -30,23 +28,6 @@ pub record Reports (decision : Decision Written) (number before written place : 
 pub record ReportsRun (decision : Decision Written) (done number before written workBefore work place : ℕ) : Type 0 where
   pub reported : Reports decision number before written place
   pub workIs : work ≡ workLeft decision done workBefore
-
--- The same numbers, read off the library's answer.
-abbrev pub numberIn : Writing → ℕ
-numberIn (Wrote count) = 0
-numberIn (Refused number place) = number
-
-abbrev pub writtenIn : Writing → ℕ → ℕ
-writtenIn (Wrote count) before = count
-writtenIn (Refused number place) before = before
-
-abbrev pub workIn : Writing → (done before : ℕ) → ℕ
-workIn (Wrote count) done before = done
-workIn (Refused number place) done before = before
-
-abbrev pub placeIn : Writing → ℕ
-placeIn (Wrote count) = 0
-placeIn (Refused number place) = place
 
 -- What a call that answers one number hands back.
 abbrev pub answerAfter : Decision ℕ → ℕ → ℕ

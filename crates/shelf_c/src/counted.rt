@@ -1,4 +1,5 @@
 // The figures of a module, and what a file holds.
+use c_reports::in_order;
 use shelf::Family;
 use shelf::Listed;
 use shelf::Named;
@@ -33,16 +34,7 @@ pub extern "C" fn shelf_count(
         return refusal;
     }
     let found = counted.figures;
-    *figures = [
-        found.inputs,
-        found.outputs,
-        found.gates,
-        found.size,
-        found.room,
-        found.delay,
-        found.load,
-        found.family,
-    ];
+    *figures = in_order(found);
     let kinds = found.tally;
     let counts = kinds.counts;
     *tally = counts;

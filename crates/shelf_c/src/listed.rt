@@ -1,5 +1,5 @@
 // A listing for the board maker.
-use crate::written::report;
+use c_reports::report;
 ghost use mathlib.Core.Path.{_≡_};
 ghost use lib.ListN.{length};
 ghost use Rattle.meaning.specs.Calls.{outAfter};

@@ -4,33 +4,9 @@ ghost use lib.ListN.{length};
 ghost use Rattle.meaning.specs.Calls.{evaluation, flattening, outAfter, scratchAfter};
 ghost use Rattle.meaning.specs.Rows.{rowsEvaluation};
 ghost use Rattle.meaning.specs.Work.{running, rowsRunning, workAfter};
-ghost use Rattle.shelf_c.specs.Results.{Reports, ReportsRun, numberIn, writtenIn, workIn, placeIn};
-use crate::written::report;
-use shelf::Run;
-use shelf::Writing;
-
-// Hands back the four numbers of a run that was answered; of a refusal only two.
-fn report_run(run: Run, written: &mut usize, work: &mut u32, place: &mut usize) -> u16
-    ensures { λ r. ⌜ r ≡ numberIn (run .writing) ⌝ }
-    ensures { λ _. ⌜ now (written .exit) ≡ writtenIn (run .writing) (now (written .entry)) ⌝ }
-    ensures { λ _. ⌜ now (work .exit) ≡ workIn (run .writing) (run .work) (now (work .entry)) ⌝ }
-    ensures { λ _. ⌜ now (place .exit) ≡ placeIn (run .writing) ⌝ }
-{
-    let done = run.work;
-    let writing = run.writing;
-    match writing {
-        Writing::Wrote(count) => {
-            *written = count;
-            *work = done;
-            *place = 0;
-            0
-        }
-        Writing::Refused { number, place: at } => {
-            *place = at;
-            number
-        }
-    }
-}
+ghost use Rattle.shelf_c.specs.Results.{Reports, ReportsRun};
+use c_reports::report;
+use c_reports::report_run;
 
 #[no_mangle]
 pub extern "C" fn shelf_evaluate(

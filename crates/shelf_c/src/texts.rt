@@ -1,5 +1,5 @@
 // A text in the published list form, read to a file, and a file printed as such a text.
-use crate::written::report;
+use c_reports::report;
 ghost use mathlib.Core.Path.{_≡_};
 ghost use lib.ListN.{length};
 ghost use Rattle.meaning.specs.Calls.{outAfter};

@@ -6,7 +6,7 @@ ghost use Rattle.meaning.specs.Calls.{outAfter};
 ghost use Rattle.meaning.specs.Withdrawn.{strictVerdict, rewriting};
 ghost use Rattle.answers.specs.Judged.{checkOf, checkedNumber, checkedPlace};
 ghost use Rattle.shelf_c.specs.Results.{Reports};
-use crate::written::report;
+use c_reports::report;
 
 #[no_mangle]
 pub extern "C" fn shelf_strict_check(file: &[u8], place: &mut usize) -> u16

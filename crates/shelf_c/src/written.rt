@@ -1,5 +1,5 @@
 // Modules written to order.
-use shelf::Writing;
+use c_reports::report;
 ghost use mathlib.Core.Path.{_≡_};
 ghost use lib.ListN.{length};
 ghost use Rattle.meaning.specs.Adder.{adder as adderOf};
@@ -7,26 +7,7 @@ ghost use Rattle.meaning.specs.FastAdder.{fastAdder as fastAdderOf};
 ghost use Rattle.meaning.specs.Alu.{alu as aluOf};
 ghost use Rattle.meaning.specs.Counter.{counter as counterOf};
 ghost use Rattle.meaning.specs.Calls.{writing, outAfter};
-ghost use Rattle.shelf_c.specs.Results.{Reports, numberIn, writtenIn, placeIn};
-
-// Hands back the three numbers of an answer; of a refusal only two.
-pub(crate) fn report(answer: Writing, written: &mut usize, place: &mut usize) -> u16
-    ensures { λ r. ⌜ r ≡ numberIn answer ⌝ }
-    ensures { λ _. ⌜ now (written .exit) ≡ writtenIn answer (now (written .entry)) ⌝ }
-    ensures { λ _. ⌜ now (place .exit) ≡ placeIn answer ⌝ }
-{
-    match answer {
-        Writing::Wrote(count) => {
-            *written = count;
-            *place = 0;
-            0
-        }
-        Writing::Refused { number, place: at } => {
-            *place = at;
-            number
-        }
-    }
-}
+ghost use Rattle.shelf_c.specs.Results.{Reports};
 
 #[no_mangle]
 pub extern "C" fn shelf_adder(

@@ -37,7 +37,8 @@ returns c =
 
 returns-2 : tie.Need-returns-2
 returns-2 c =
-    let answered = c .before .before .before .before in
+    let ordered = c .before .before in
+    let answered = ordered .before .before in
     let a = answered .before .before .before in
     let args = start a .args in
     let d = summary (args .file .now) (args .number) (args .family .now) (length (args .scratch .now)) in
@@ -47,11 +48,11 @@ returns-2 c =
       (
         p .placeIs,
         (
-          given d (args .figures .now) none (p .figuresAre),
+          given d (args .figures .now) none (ordered .in-order .ensures ∙ p .figuresAre),
           (given d (args .tally .now) none (p .tallyIs), a .count .ensures .scratch),
         ),
       ),
     )
 
 pub shelf-count-spec : {M : Type 1} → statement M
-shelf-count-spec = tie.close (tie.spec (λ c κs. search needs) (λ c. search needs) returns (λ c. search needs) returns-2)
+shelf-count-spec = tie.close (tie.spec (λ c κs. search needs) (λ c. search needs) returns (λ c κs. search needs) (λ c. search needs) returns-2)

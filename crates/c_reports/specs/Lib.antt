@@ -1,0 +1,2 @@
+-- What the C face reads off the library's answers.
+pub mod Read

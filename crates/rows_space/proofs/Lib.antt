@@ -1,0 +1,2 @@
+-- What the proof of the pick cites.
+pub mod Resizing
