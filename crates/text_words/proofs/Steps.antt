@@ -7,7 +7,7 @@ use mathlib.Core.Bool.{Bool, true, false, cond, _&&_}
 use mathlib.Core.List.{List, [], _∷_, map}
 use lib.Dec.{eqb}
 use lib.ListN.{length, getD, take, drop, drop-of-length-le, length-drop}
-use lib.Seq.{drop-cons}
+use lib.Seq.{drop-cons, drop-drop}
 use borrow.Author.Tests.{eq-eqb, ne-eqb}
 use Rattle.meaning.specs.ListForm.{Name, kindOf, capital}
 use Rattle.meaning.specs.ListNumbers.{sameName}
@@ -15,7 +15,7 @@ use Rattle.meaning.specs.ListCall.{word}
 use Rattle.text_modes.specs.Modes.{kindCode}
 use Rattle.text_modes.specs.Ends.{spelt}
 use Rattle.text_words.specs.declared.Cursor.{Cursor}
-use Rattle.text_words.specs.Seeking.{going, atLevel, cursorAfter, behind, toAtom, asWritten, moduleFrom, nameAt, firstNamed, Sought}
+use Rattle.text_words.specs.Seeking.{going, atLevel, cursorAfter, behind, toAtom, pastAtom, atomFrom, asWritten, moduleFrom, nameAt, firstNamed, Sought}
 
 -- What the search makes of a bracket.
 module _ (code level depth more : ℕ) where
@@ -104,6 +104,30 @@ module _ (text : List ℕ) (from i : ℕ) (s : Nearing text from i) where
   unfolding toAtom
   no-atom l = record { few = s .few; is = drop-of-length-le text l ∙ sym (s .is ∙ rw (drop-of-length-le text l)) }
 
+-- Atoms are passed one by one.
+pub record Passing (text : List ℕ) (from more i left : ℕ) : Type 0 where
+  pub few : i ≤ length text
+  pub rest : List ℕ
+  pub here : drop i text ≡ toAtom rest
+  pub is : atomFrom more (drop from text) ≡ atomFrom left rest
+
+pub passing-first : (text : List ℕ) (from more i : ℕ) → Sought text i (toAtom (drop from text)) → Passing text from more i more
+passing-first text from more i s = record { few = s .few; rest = drop from text; here = s .is; is = refl }
+
+pub passing-on : (text : List ℕ) (from more i left end j : ℕ) → Passing text from more i left → 0 < left
+    → end ≡ i + length (word (drop i text)) → Sought text j (toAtom (drop end text)) → Passing text from more j (left - 1)
+unfolding atomFrom
+passing-on text from more i zero end j p l e s = absurd (omega arith)
+passing-on text from more i (suc left) end j p l e s =
+    let less : suc left - 1 ≡ left = omega arith in
+    let past : drop end text ≡ pastAtom (toAtom (p .rest)) =
+    ap (λ n. drop n text) e ∙ sym (drop-drop (length (word (drop i text))) i text) ∙ ap pastAtom (p .here) in
+    rw less (record { few = s .few; rest = pastAtom (toAtom (p .rest)); here = s .is ∙ ap toAtom past; is = p .is })
+
+pub passed-all : (text : List ℕ) (from more i left : ℕ) → Passing text from more i left → left ≡ 0 → Sought text i (atomFrom more (drop from text))
+unfolding atomFrom
+passed-all text from more i left p z = record { few = p .few; is = p .here ∙ sym (p .is ∙ ap (λ n. atomFrom n (p .rest)) z) }
+
 -- An atom ends inside its text.
 pub end-within : (text : List ℕ) (i end : ℕ) → i ≤ length text → end ≡ i + length (word (drop i text)) → end ≤ length text
 end-within text i end l e = omega (arith, spelt (drop i text) .few, length-drop i text)
@@ -156,12 +180,12 @@ abbrev pub Unnamed : (text name : List ℕ) (k : ℕ) → Type 0
 Unnamed text name k = (k ≤ 128) × (firstNamed 128 0 text (map capital name) ≡ firstNamed (128 - k) k text (map capital name))
 
 module _ (text name word′ : List ℕ) (k : ℕ) (t : Bool) (l : k < 128) (inv : Unnamed text name k)
-    (w : word′ ≡ asWritten (toAtom (moduleFrom k text))) (e : t ≡ sameName (map capital word′) (map capital name)) where
+    (w : word′ ≡ asWritten (atomFrom 0 (moduleFrom k text))) (e : t ≡ sameName (map capital word′) (map capital name)) where
   turn : firstNamed 128 0 text (map capital name) ≡ cond t k (firstNamed (128 - (k + 1)) (k + 1) text (map capital name))
   unfolding firstNamed
   turn =
       let less : 128 - k ≡ suc (128 - (k + 1)) = omega arith in
-      let as-read : map capital word′ ≡ nameAt text k = ap (map capital) w ∙ spelt (toAtom (moduleFrom k text)) .is in
+      let as-read : map capital word′ ≡ nameAt text k = ap (map capital) w ∙ spelt (atomFrom 0 (moduleFrom k text)) .is in
       inv .1 ∙ rw (less, add-one k, ← as-read, e)
 
   pub named-here : t ≡ true → k ≡ firstNamed 128 0 text (map capital name)

@@ -1,16 +1,16 @@
 -- The search for a list by its brackets, over the parts that a text consists of.
-use Prim.Native.Nat.{ℕ, suc, _+_, _-_, _≤_, _<_}
+use Prim.Native.Nat.{ℕ, zero, suc, _+_, _-_, _≤_, _<_}
 use native.Mathlib.Omega.{arith}
-use mathlib.Core.Path.{_≡_, refl, _∙_, ap}
+use mathlib.Core.Path.{_≡_, refl, sym, _∙_, ap}
 use mathlib.Core.Bool.{Bool, true, false, cond}
 use mathlib.Core.List.{List, [], _∷_, _++_, map, append-assoc}
 use lib.Dec.{eqb}
 use lib.ListN.{length}
 use borrow.Author.Tests.{eq-eqb, ne-eqb}
-use Rattle.meaning.specs.ListForm.{Name, opening, closing, Kind, letter, space, Kind.sign as signKind, kindOf, Part, sign, atom, inBrackets, partsOf, Letters, last, then, Written, ended, spaced, signed, named}
+use Rattle.meaning.specs.ListForm.{Name, Sign, mark, opening, closing, stray, Kind, letter, space, Kind.sign as signKind, kindOf, capital, Part, sign, atom, inBrackets, partsOf, Letters, last, then, Written, ended, spaced, signed, named}
 use Rattle.text_modes.specs.Modes.{signCode, kindCode}
 use Rattle.text_words.specs.declared.Cursor.{Cursor}
-use Rattle.text_words.specs.Seeking.{cursorAfter, behind}
+use Rattle.text_words.specs.Seeking.{going, atLevel, cursorAfter, behind}
 
 unfoldable pub behindParts : (level depth more : ℕ) → List Part → List Part
 behindParts level depth more [] = []
@@ -92,17 +92,18 @@ closed : (level depth more : ℕ) (ps : List Part) → behindParts level (suc de
 unfolding behindParts
 closed level depth more ps = let less : suc depth - 1 ≡ depth = omega arith in ap (λ d. behindParts level d more ps) less
 
--- A list above the level, what it holds, and its end.
-pub pass-list : (level low : ℕ) {ps : List Part} → level < low → Passed level low ps → Passed level low (inBrackets ps)
+-- A list of another level, what it holds, and its end.
+pub over-list : (level low depth more : ℕ) {ps : List Part} (qs : List Part) → (depth ≡ level → ⊥) → low ≤ suc depth → Passed level low ps
+    → behindParts level depth more (inBrackets ps ++ qs) ≡ behindParts level depth more qs
 unfolding inBrackets behindParts
-pass-list level low {ps} above p = record { on = on }
-  where
-    on : (depth more : ℕ) (qs : List Part) → low ≤ depth → behindParts level depth more (inBrackets ps ++ qs) ≡ behindParts level depth more qs
-    on depth more qs h =
-        opened level depth more ((ps ++ (sign closing ∷ [])) ++ qs) (λ e. omega arith)
-        ∙ ap (behindParts level (suc depth) more) (append-assoc ps (sign closing ∷ []) qs)
-        ∙ p .on (suc depth) more (sign closing ∷ qs) (omega arith)
-        ∙ closed level depth more qs
+over-list level low depth more {ps} qs apart h p =
+    opened level depth more ((ps ++ (sign closing ∷ [])) ++ qs) apart
+    ∙ ap (behindParts level (suc depth) more) (append-assoc ps (sign closing ∷ []) qs)
+    ∙ p .on (suc depth) more (sign closing ∷ qs) h
+    ∙ closed level depth more qs
+
+pub pass-list : (level low : ℕ) {ps : List Part} → level < low → Passed level low ps → Passed level low (inBrackets ps)
+pass-list level low above p = record { on = λ depth more qs h. over-list level low depth more qs (λ e. omega arith) (omega arith) p }
 
 -- Of the lists of the level, one after the other, the one that is sought.
 pub in-order : {A : Type 0} (level : ℕ) (inner : A → List Part) → ((x : A) → Passed level (suc level) (inner x))

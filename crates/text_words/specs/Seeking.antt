@@ -1,7 +1,7 @@
--- Where a module and its name stand in a text, by the brackets: what is found is the text from there on.
-use Prim.Native.Nat.{ℕ, zero, suc, _-_, _≤_}
+-- Where a list or an atom stands in a text, by its brackets and by counting: what is found is the text from there on.
+use Prim.Native.Nat.{ℕ, zero, suc, _+_, _-_, _≤_}
 use mathlib.Core.Path.{_≡_}
-use mathlib.Core.Bool.{true, false, cond}
+use mathlib.Core.Bool.{Bool, true, false, cond}
 use mathlib.Core.List.{List, [], _∷_}
 use lib.Dec.{eqb}
 use lib.ListN.{length, take, drop}
@@ -11,7 +11,6 @@ use Rattle.meaning.specs.ListCall.{word}
 use Rattle.text_modes.specs.Modes.{kindCode}
 use Rattle.text_words.specs.declared.Cursor.{Cursor}
 
--- A search that goes on.
 abbrev pub going : (depth more : ℕ) → Cursor
 going depth more = record { met = false; depth = depth; more = more }
 
@@ -38,9 +37,22 @@ unfoldable pub toAtom : List ℕ → List ℕ
 toAtom [] = []
 toAtom (b ∷ text) = cond (eqb (kindCode (kindOf b)) 4) (b ∷ text) (toAtom text)
 
--- Modules are the lists inside the one outer bracket.
+-- The text behind the atom that it begins with.
+abbrev pub pastAtom : List ℕ → List ℕ
+pastAtom text = drop (length (word text)) text
+
+-- The text from the atom on that has so many before it.
+unfoldable pub atomFrom : ℕ → List ℕ → List ℕ
+atomFrom zero text = toAtom text
+atomFrom (suc more) text = atomFrom more (pastAtom (toAtom text))
+
+-- Modules are the lists inside the one outer bracket; in a module, with its own bracket open too, occurrences are the lists inside its
+-- third list, the only one that has lists inside.
 abbrev pub moduleFrom : (position : ℕ) → List ℕ → List ℕ
 moduleFrom position text = behind 1 0 position text
+
+abbrev pub occurrenceFrom : (position occurrence : ℕ) → List ℕ → List ℕ
+occurrenceFrom position occurrence text = behind 3 2 occurrence (moduleFrom position text)
 
 -- A place from which a text goes on so.
 pub record Sought (text : List ℕ) (r : ℕ) (rest : List ℕ) : Type 0 where
@@ -53,7 +65,7 @@ asWritten text = take (length (word text)) text
 
 -- The name of the module at a position; empty where the text has none there.
 abbrev pub nameAt : List ℕ → (position : ℕ) → Name
-nameAt text position = word (toAtom (moduleFrom position text))
+nameAt text position = word (atomFrom 0 (moduleFrom position text))
 
 -- The first of some positions, from one on, whose module has a name; the position behind them where none has.
 unfoldable pub firstNamed : (left position : ℕ) → List ℕ → Name → ℕ

@@ -1,5 +1,6 @@
-// Names as they stand in a text of the list form: the name of the module at a position, and the position of the module of a name. A module is
-// found by its brackets (specs/Seeking.antt); that what is found is the name of the module that the text lists is a law (specs/Listed.antt).
+// Names as they stand in a text of the list form: the name of the module at a position, the position of the module of a name, and the atoms
+// of an occurrence. Lists are found by their brackets, atoms by counting (specs/Seeking.antt); that these are the names of what the text
+// lists is a law (specs/Listed.antt).
 use text_modes::atom_end;
 use text_modes::kind;
 use text_names::capital;
@@ -11,7 +12,7 @@ ghost use lib.ListN.{length, drop};
 ghost use Rattle.meaning.specs.ListForm.{kindOf, capital};
 ghost use Rattle.meaning.specs.ListNumbers.{sameName};
 ghost use Rattle.text_modes.specs.Modes.{kindCode};
-ghost use Rattle.text_words.specs.Seeking.{cursorAfter, behind, toAtom, Sought, asWritten, moduleFrom, firstNamed};
+ghost use Rattle.text_words.specs.Seeking.{cursorAfter, behind, toAtom, atomFrom, Sought, asWritten, moduleFrom, occurrenceFrom, firstNamed};
 
 // Where the search for a list stands: whether its opening bracket is met, how many brackets are open, and how many lists of the level are
 // still to be passed.
@@ -107,22 +108,51 @@ fn next_atom(text: &[u8], from: usize) -> usize
     i
 }
 
-// The next atom, as it stands.
-fn atom_at<'a>(text: &'a [u8], from: usize) -> &'a [u8]
+// Where an atom begins that has so many in front of it from a place on.
+fn atom_from(text: &[u8], from: usize, more: usize) -> usize
     requires { ⌜ from ≤ length (now text) ⌝ }
-    ensures { λ r. ⌜ now r ≡ asWritten (toAtom (drop from (now (text .entry)))) ⌝ }
+    ensures { λ r. ⌜ Sought (now (text .entry)) r (atomFrom more (drop from (now (text .entry)))) ⌝ }
 {
-    let start = next_atom(text, from);
+    let mut i = next_atom(text, from);
+    let mut left = more;
+    while 0 < left {
+        i = next_atom(text, atom_end(text, i));
+        left -= 1;
+    }
+    i
+}
+
+// An atom as it stands, by how many are in front of it from a place on.
+pub fn atom_at<'a>(text: &'a [u8], from: usize, more: usize) -> &'a [u8]
+    requires { ⌜ from ≤ length (now text) ⌝ }
+    ensures { λ r. ⌜ now r ≡ asWritten (atomFrom more (drop from (now (text .entry)))) ⌝ }
+{
+    let start = atom_from(text, from, more);
     let end = atom_end(text, start);
     &text[start..end]
 }
 
+// Behind the bracket of the module at a position.
+fn module_from(text: &[u8], position: usize) -> usize
+    ensures { λ r. ⌜ Sought (now (text .entry)) r (moduleFrom position (now (text .entry))) ⌝ }
+{
+    behind(text, 0, 1, 0, position)
+}
+
+// Behind the bracket of an occurrence of that module. The nets that it drives come first, then the name that it refers to, then its arguments.
+pub fn occurrence_from(text: &[u8], position: usize, occurrence: usize) -> usize
+    ensures { λ r. ⌜ Sought (now (text .entry)) r (occurrenceFrom position occurrence (now (text .entry))) ⌝ }
+{
+    let from = module_from(text, position);
+    behind(text, from, 3, 2, occurrence)
+}
+
 // The name of the module at a position.
 pub fn module_name<'a>(text: &'a [u8], position: usize) -> &'a [u8]
-    ensures { λ r. ⌜ now r ≡ asWritten (toAtom (moduleFrom position (now (text .entry)))) ⌝ }
+    ensures { λ r. ⌜ now r ≡ asWritten (atomFrom 0 (moduleFrom position (now (text .entry)))) ⌝ }
 {
-    let from = behind(text, 0, 1, 0, position);
-    atom_at(text, from)
+    let from = module_from(text, position);
+    atom_at(text, from, 0)
 }
 
 fn is_alike(one: u8, other: u8) -> bool

@@ -5,11 +5,11 @@ use Rattle.text_words.proofs.atom_at.Tie as tie
 use Rattle.text_words.proofs.atom_at.Reads as reads
 use Rattle.text_words.proofs.atom_at.Lts as lts
 use Rattle.text_modes.proofs.atom_end.Reads as atom-end-reads
-use Rattle.text_words.proofs.next_atom.Reads as next-atom-reads
+use Rattle.text_words.proofs.atom_from.Reads as atom-from-reads
 
 -- src/lib.rt:130:9
-next-atom-requires : tie.Need-next-atom-requires
-next-atom-requires c κs = search needs
+atom-from-requires : tie.Need-atom-from-requires
+atom-from-requires c κs = search needs
 
 -- src/lib.rt:131:9
 atom-end-requires : tie.Need-atom-end-requires
@@ -25,17 +25,17 @@ part-result-start c = search needs
 
 -- src/lib.rt:132:5
 part-result-end : tie.Need-part-result-end
-part-result-end c = end-within _ _ _ (c .before .next-atom .ensures .few) (c .atom-end .ensures)
+part-result-end c = end-within _ _ _ (c .before .atom-from .ensures .few) (c .atom-end .ensures)
 
 -- src/lib.rt:126:1
 returns : tie.Need-returns
-returns c = atom-there _ _ _ _ (c .before .before .next-atom .ensures) (c .before .atom-end .ensures)
+returns c = atom-there _ _ _ _ (c .before .before .atom-from .ensures) (c .before .atom-end .ensures)
 
 pub atom-at-spec : {M : Type 1} → statement M
 atom-at-spec =
     tie.close
     (tie.spec
-    next-atom-requires
+    atom-from-requires
     atom-end-requires
     sub-result
     part-result-start
