@@ -140,7 +140,7 @@ fn say_line(text: &[u8], number: u16, place: usize) {
     say(b"^\n");
 }
 
-// The module by its name, and the rule that it breaks.
+// The module by its name, and the rule that it breaks; where an occurrence breaks it, which one, and by what.
 fn say_module(text: &[u8], number: u16, place: usize) {
     say(b"module ");
     say(text_words::module_name(text, place));
@@ -151,4 +151,8 @@ fn say_module(text: &[u8], number: u16, place: usize) {
         _ => command_words::refusing::say_rule(number),
     }
     end_line();
+    match number {
+        11..=14 => fault_line::print(text, number, place),
+        _ => {}
+    }
 }

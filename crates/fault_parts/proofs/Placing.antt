@@ -1,7 +1,7 @@
 -- Where modules stand, one after the other.
-use Prim.Native.Nat.{ℕ, zero, suc, _+_, _-_, _≤_, _<_}
+use Prim.Native.Nat.{ℕ, _+_, _-_, _≤_, _<_}
 use native.Mathlib.Omega.{arith}
-use mathlib.Core.Path.{_≡_, refl, sym, _∙_, ap, subst}
+use mathlib.Core.Path.{_≡_, refl, sym, subst}
 use mathlib.Core.Bool.{Bool, true, false}
 use mathlib.Core.List.{List, [], _∷_, _++_}
 use lib.Dec.{eqb}
@@ -11,11 +11,11 @@ use lib.Seq.{getD-set-same, getD-set-other}
 use Rattle.meaning.specs.Syntax.{Occurrence, Module}
 use Rattle.meaning.specs.Layout.{each, occurrenceNumbers, moduleNumbers, fileNumbers}
 use Rattle.image.specs.Stands.{Stands, stands-front, stands-skip, stands-tail, stands-whole}
-use Rattle.image.specs.Pieces.{moved, module-at, length-of-module}
+use Rattle.image.specs.Pieces.{moved, length-of-module}
 use Rattle.image.specs.Places.{HeaderOf, OccurrenceThere, PlaceOf, ModuleThere}
 use Rattle.image.specs.declared.places.Header.{Header}
 use Rattle.image.specs.declared.places.Place.{Place}
-use Rattle.check_sizes.specs.Behind.{Here, here, behind, inside}
+use Rattle.check_sizes.specs.Behind.{here, behind, inside}
 use Rattle.check_lists.specs.Filed.{At, Filed}
 use Rattle.fault_parts.specs.Asked.{Whole}
 

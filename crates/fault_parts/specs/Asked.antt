@@ -1,13 +1,12 @@
 -- What the functions ask: the numbers of a file, and where its modules stand among them; and what a table of marks knows.
-use Prim.Native.Nat.{ℕ, _+_, _≤_, _<_}
+use Prim.Native.Nat.{ℕ, _≤_}
 use mathlib.Core.Path.{_≡_}
-use mathlib.Core.Bool.{Bool, true, false, cond}
-use mathlib.Core.List.{List, [], _∷_, _++_}
-use lib.ListN.{length, getD, drop}
-use Rattle.meaning.specs.Syntax.{Occurrence, Module}
-use Rattle.meaning.specs.Layout.{occurrenceNumbers, moduleNumbers, fileNumbers}
+use mathlib.Core.Bool.{Bool, cond}
+use mathlib.Core.List.{List}
+use lib.ListN.{length, getD}
+use Rattle.meaning.specs.Syntax.{Module}
+use Rattle.meaning.specs.Layout.{fileNumbers}
 use Rattle.meaning.specs.Boxlist.{member, Found, box, F}
-use Rattle.image.specs.Stands.{Stands}
 use Rattle.check_lists.specs.Filed.{At, Filed}
 
 -- The numbers of a file.

@@ -2,7 +2,7 @@
 use Prim.Native.Nat.{ℕ, _+_, _<_}
 use native.Mathlib.Omega.{arith}
 use mathlib.Core.Path.{_≡_, refl, sym, _∙_, ap, subst}
-use mathlib.Core.List.{List, [], _∷_, _++_, append-nil}
+use mathlib.Core.List.{List, [], _++_, append-nil}
 use lib.ListN.{length, getD, take, drop}
 use Rattle.meaning.specs.Syntax.{Module}
 use Rattle.meaning.specs.Layout.{moduleNumbers}

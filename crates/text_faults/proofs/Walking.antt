@@ -1,8 +1,8 @@
 -- Occurrences, one after the other.
-use Prim.Native.Nat.{ℕ, zero, suc, _+_, _≤_, _<_}
+use Prim.Native.Nat.{ℕ, suc, _+_, _≤_, _<_}
 use native.Mathlib.Omega.{arith}
 use native.Mathlib.Numerals.{add-one}
-use mathlib.Core.Path.{_≡_, refl, sym, _∙_, ap, subst}
+use mathlib.Core.Path.{_≡_, refl, sym, _∙_, ap}
 use mathlib.Core.List.{List, [], _∷_, _++_}
 use lib.ListN.{length}
 use borrow.Author.Tests.{lt-ltb, le-ltb}
@@ -10,7 +10,6 @@ use Rattle.meaning.specs.Syntax.{Occurrence, Module}
 use Rattle.meaning.specs.Layout.{each, occurrenceNumbers}
 use Rattle.image.specs.Stands.{Stands, stands-front, stands-skip}
 use Rattle.image.specs.Pieces.{moved}
-use Rattle.image.specs.Places.{OccurrenceThere}
 use Rattle.fault_parts.specs.Asked.{Marked}
 use Rattle.text_faults.specs.declared.Fault.{Fault}
 use Rattle.text_faults.specs.Faults.{entries, faultIn, noFault, firstFault}

@@ -1,11 +1,11 @@
 -- A file that is refused with 11 to 14 has at the refusal's place a module whose first occurrence at fault is the one that is found.
-use Prim.Native.Nat.{ℕ, zero, suc, _+_, _≤_, _<_}
+use Prim.Native.Nat.{ℕ, suc, _+_, _≤_}
 use native.Mathlib.Omega.{arith}
-use mathlib.Core.Path.{_≡_, refl, sym, _∙_, ap, subst}
+use mathlib.Core.Path.{_≡_, refl, _∙_, ap}
 use mathlib.Core.Bool.{Bool, true, false, not}
-use mathlib.Core.List.{List, [], _∷_, _++_}
-use lib.ListN.{length, drop}
-use Rattle.meaning.specs.Syntax.{Occurrence, Module}
+use mathlib.Core.List.{List, [], _∷_}
+use lib.ListN.{drop}
+use Rattle.meaning.specs.Syntax.{Module}
 use Rattle.meaning.specs.Boxlist.{disjoint, duplicates, subset, assoc, isBox}
 use Rattle.meaning.specs.Limits.{driven, numberOk, netsOk, sizeOk}
 use Rattle.meaning.specs.Verdict.{Verdict, good, refused, keep, andThen, bodyVerdict, moduleVerdict, modulesVerdict, sizesVerdict, fileVerdict}

@@ -1,7 +1,7 @@
 -- A text that is refused with 11 to 14: what is found is the first occurrence at fault of the module at the refusal's place.
 use Prim.Native.Nat.{ℕ}
 use native.Mathlib.Omega.{arith}
-use mathlib.Core.Path.{_≡_, refl, _∙_}
+use mathlib.Core.Path.{_≡_, refl}
 use mathlib.Core.Bool.{Bool, true, false, cond}
 use mathlib.Core.List.{List}
 use lib.Dec.{leb}
@@ -9,7 +9,7 @@ use lib.ListN.{length}
 use Rattle.meaning.specs.Layout.{encode}
 use Rattle.meaning.specs.Reading.{mostBytes}
 use Rattle.meaning.specs.Verdict.{Verdict, good, refused, fileVerdict}
-use Rattle.meaning.specs.Calls.{Decision, refusal, answer, demand, ifGood, Written, fitting}
+use Rattle.meaning.specs.Calls.{Decision, refusal, answer, demand, ifGood, fitting}
 use Rattle.meaning.specs.ListForm.{ListedModule, Lists}
 use Rattle.meaning.specs.ListNumbers.{numbered}
 use Rattle.meaning.specs.ListCall.{mostText, reading, onListed, shelving, listReading}

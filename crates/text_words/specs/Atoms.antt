@@ -1,9 +1,9 @@
 -- Counting atoms finds those of the parts that a text consists of.
-use Prim.Native.Nat.{ℕ, zero, suc}
+use Prim.Native.Nat.{ℕ}
 use native.Mathlib.Omega.{arith}
 use mathlib.Core.Path.{_≡_, refl, _∙_, ap}
 use mathlib.Core.List.{List, [], _∷_, _++_, map}
-use lib.ListN.{length, drop, length-map}
+use lib.ListN.{length, length-map}
 use lib.Seq.{drop-append-seam}
 use Rattle.meaning.specs.ListForm.{Name, Sign, mark, opening, closing, stray, Kind, letter, space, Kind.sign as signKind, kindOf, capital, Part, sign, atom, Letters, last, then, Follows, nothing, aSign, aSpace, Written, ended, spaced, signed, named}
 use Rattle.meaning.specs.ListCall.{word}

@@ -1,16 +1,16 @@
 -- The search for a list by its brackets, over the parts that a text consists of.
-use Prim.Native.Nat.{ℕ, zero, suc, _+_, _-_, _≤_, _<_}
+use Prim.Native.Nat.{ℕ, suc, _+_, _-_, _≤_, _<_}
 use native.Mathlib.Omega.{arith}
-use mathlib.Core.Path.{_≡_, refl, sym, _∙_, ap}
+use mathlib.Core.Path.{_≡_, refl, _∙_, ap}
 use mathlib.Core.Bool.{Bool, true, false, cond}
 use mathlib.Core.List.{List, [], _∷_, _++_, map, append-assoc}
 use lib.Dec.{eqb}
 use lib.ListN.{length}
 use borrow.Author.Tests.{eq-eqb, ne-eqb}
-use Rattle.meaning.specs.ListForm.{Name, Sign, mark, opening, closing, stray, Kind, letter, space, Kind.sign as signKind, kindOf, capital, Part, sign, atom, inBrackets, partsOf, Letters, last, then, Written, ended, spaced, signed, named}
+use Rattle.meaning.specs.ListForm.{Name, opening, closing, Kind, letter, space, Kind.sign as signKind, kindOf, Part, sign, atom, inBrackets, partsOf, Letters, last, then, Written, ended, spaced, signed, named}
 use Rattle.text_modes.specs.Modes.{signCode, kindCode}
 use Rattle.text_words.specs.declared.Cursor.{Cursor}
-use Rattle.text_words.specs.Seeking.{going, atLevel, cursorAfter, behind}
+use Rattle.text_words.specs.Seeking.{cursorAfter, behind}
 
 unfoldable pub behindParts : (level depth more : ℕ) → List Part → List Part
 behindParts level depth more [] = []

@@ -1,12 +1,12 @@
 -- What is found in a text is what it lists: the name of a module, and the atoms of an occurrence.
-use Prim.Native.Nat.{ℕ, zero, suc, _+_, _≤_, _<_}
+use Prim.Native.Nat.{ℕ, _+_, _<_}
 use native.Mathlib.Omega.{arith}
 use mathlib.Core.Path.{_≡_, refl, sym, _∙_, ap, subst}
 use mathlib.Core.List.{List, [], _∷_, _++_, map, append-assoc}
 use lib.ListN.{length}
 use Rattle.meaning.specs.ListForm.{Name, ListedOccurrence, ListedModule, mark, opening, closing, Part, sign, atom, inBrackets, partsOf, netParts, occurrenceParts, moduleParts, listParts, Written, Lists, plain, quoted}
 use Rattle.meaning.specs.ListCall.{word}
-use Rattle.text_words.specs.Seeking.{behind, atomFrom, moduleFrom, occurrenceFrom}
+use Rattle.text_words.specs.Seeking.{atomFrom, moduleFrom, occurrenceFrom}
 use Rattle.text_words.specs.Brackets.{behindParts, parts-behind, Passed, pass-both, pass-atom, pass-atoms, pass-each, opened, over-list, pass-list, in-order}
 use Rattle.text_words.specs.Atoms.{atomsIn, atom-found}
 

@@ -3,10 +3,6 @@ use Rattle.text_words.specs.Seeking.{behind}
 use borrow.Author.Needs.{needs}
 use Rattle.text_words.proofs.occurrence_from.Statement.{statement}
 use Rattle.text_words.proofs.occurrence_from.Tie as tie
-use Rattle.text_words.proofs.occurrence_from.Reads as reads
-use Rattle.text_words.proofs.occurrence_from.Lts as lts
-use Rattle.text_words.proofs.behind.Reads as behind-reads
-use Rattle.text_words.proofs.module_from.Reads as module-from-reads
 
 module-from-requires : tie.Need-module-from-requires
 module-from-requires c κs = search needs

@@ -1,14 +1,12 @@
-use Prim.Native.Nat.{ℕ, _-_, _≤_}
+use Prim.Native.Nat.{ℕ, _-_}
 use native.Mathlib.Omega.{arith}
-use mathlib.Core.Path.{_≡_, refl, sym, _∙_}
+use mathlib.Core.Path.{_≡_, refl, _∙_}
 use mathlib.Core.List.{List}
-use lib.ListN.{length, getD, drop, length-set}
+use lib.ListN.{length, length-set}
 use Rattle.fault_parts.specs.Asked.{Marked}
 use Rattle.fault_parts.proofs.Marking.{Going, going-first, going-on, going-last}
 use Rattle.fault_parts.proofs.marks.mark_all.Statement.{statement}
 use Rattle.fault_parts.proofs.marks.mark_all.Tie as tie
-use Rattle.fault_parts.proofs.marks.mark_all.Reads as reads
-use Rattle.fault_parts.proofs.marks.mark_all.Lts as lts
 
 abbrev Inv-loop : tie.InvT-loop
 Inv-loop list marks₀ i₀ marks i = (length marks ≡ length marks₀) × ((known : List ℕ) → Marked marks₀ known → Going list known marks i)
@@ -16,35 +14,27 @@ Inv-loop list marks₀ i₀ marks i = (length marks ≡ length marks₀) × ((kn
 abbrev μ-loop : tie.MeasureT-loop
 μ-loop list marks₀ i₀ marks i = length list - i
 
--- src/marks.rt:48:5
 loop-holds : tie.Need-loop-holds Inv-loop μ-loop
 loop-holds c = (refl, λ known m. going-first _ known _ m)
 
--- src/marks.rt:49:15
 mul-marks : tie.Need-mul-marks Inv-loop μ-loop
 mul-marks c = omega arith
 
--- src/marks.rt:49:15
 shared-slice-read-marks : tie.Need-shared-slice-read-marks Inv-loop μ-loop
 shared-slice-read-marks c = omega arith
 
--- src/marks.rt:49:15
 cast-marks : tie.Need-cast-marks Inv-loop μ-loop
 cast-marks c = omega (arith, c .shared-slice-known .given (c .before .before .loop .i))
 
--- src/marks.rt:49:9
 slice-write-marks : tie.Need-slice-write-marks Inv-loop μ-loop
 slice-write-marks c = omega (arith, c .shared-slice-known .given (c .before .before .loop .i), c .before .before .loop .inv .0)
 
--- src/marks.rt:50:9
 add-i : tie.Need-add-i Inv-loop μ-loop
 add-i c = omega arith
 
--- src/marks.rt:48:5
 loop-less : tie.Need-loop-less Inv-loop μ-loop
 loop-less c = omega arith
 
--- src/marks.rt:48:5
 loop-again : tie.Need-loop-again Inv-loop μ-loop
 loop-again c =
     let turn = c .before in (
@@ -54,11 +44,9 @@ loop-again c =
           (omega (arith, c .shared-slice-known .given (turn .before .loop .i), turn .before .loop .inv .0)) (turn .before .loop .inv .1 known m),
     )
 
--- src/marks.rt:43:1
 same-length : tie.Need-same-length Inv-loop μ-loop
 same-length c = c .before .loop .inv .0
 
--- src/marks.rt:43:1
 returns : tie.Need-returns Inv-loop μ-loop
 returns c known m = going-last _ known _ _ (c .loop-test .left) (c .before .loop .inv .1 known m)
 

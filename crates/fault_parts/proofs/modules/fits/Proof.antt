@@ -4,16 +4,10 @@ use Rattle.fault_parts.proofs.Seeking.{gate-unfit, gate-fit, module-fit
 use borrow.Author.Needs.{needs}
 use Rattle.fault_parts.proofs.modules.fits.Statement.{statement}
 use Rattle.fault_parts.proofs.modules.fits.Tie as tie
-use Rattle.fault_parts.proofs.modules.fits.Reads as reads
-use Rattle.fault_parts.proofs.modules.fits.Lts as lts
-use Rattle.gates.proofs.kind_of.Reads as kind-of-reads
-use Rattle.fault_parts.proofs.modules.fits_module.Reads as fits-module-reads
 
--- src/modules.rt:105:11
 kind-of-requires : tie.Need-kind-of-requires
 kind-of-requires c κs = search needs
 
--- src/modules.rt:106:23
 enum-known-arity : tie.Need-enum-known-arity
 enum-known-arity c = search needs
 
@@ -21,7 +15,6 @@ enum-known-arity c = search needs
 abbrev start : tie.After-kind-of → tie.Start
 start c = c .before .before .before
 
--- src/modules.rt:108:17
 returns : tie.Need-returns
 returns c p takes drives t d =
     let arity = c .before .before in
@@ -30,15 +23,12 @@ returns c p takes drives t d =
     let known = sym (kind .kind-of .ensures) ∙ arity .arity .given .1 in
     gate-unfit number takes drives _ (gate-told number known) (λ e. c .if1 .taken (gate-of-kind number known .arity-is ∙ e ∙ sym t))
 
--- src/modules.rt:112:25
 enum-told : tie.Need-enum-told
 enum-told c = search needs
 
--- src/modules.rt:112:25
 fits-module-requires : tie.Need-fits-module-requires
 fits-module-requires c κs = search needs
 
--- src/modules.rt:91:1
 returns-2 : tie.Need-returns-2
 returns-2 c p takes drives t d =
     let arity = c .before .before in
@@ -47,7 +37,6 @@ returns-2 c p takes drives t d =
     let known = sym (kind .kind-of .ensures) ∙ arity .arity .given .1 in
     gate-fit number takes drives _ (gate-told number known) (sym (gate-of-kind number known .arity-is) ∙ c .if1 .left ∙ t) _ d
 
--- src/modules.rt:91:1
 returns-3 : tie.Need-returns-3
 returns-3 c p takes drives t d =
     let told = c .before in

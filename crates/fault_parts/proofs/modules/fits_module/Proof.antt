@@ -7,12 +7,7 @@ use Rattle.fault_parts.proofs.Seeking.{missed, Hit, hit, hit-in, hit-st
 use borrow.Author.Needs.{needs}
 use Rattle.fault_parts.proofs.modules.fits_module.Statement.{statement}
 use Rattle.fault_parts.proofs.modules.fits_module.Tie as tie
-use Rattle.fault_parts.proofs.modules.fits_module.Reads as reads
-use Rattle.fault_parts.proofs.modules.fits_module.Lts as lts
-use Rattle.image.proofs.places.module_at.Reads as module-at-reads
-use Rattle.fault_parts.proofs.modules.find.Reads as find-reads
 
--- src/modules.rt:79:9
 find-requires : tie.Need-find-requires
 find-requires c κs = search needs
 
@@ -25,25 +20,20 @@ met :
     → Hit (p .ms) (assoc (start c .args .number) (drop (start c .args .from) (p .ms))) (c .before .find .result)
 met c p = hit (c .before .find .ensures p) (λ e. c .if1 .left (e ∙ sym (p .counted)))
 
--- src/modules.rt:81:9
 returns : tie.Need-returns
 returns c p takes drives t d =
     let e = missed (c .before .find .ensures p) (c .if1 .taken ∙ p .counted) in
     ap (λ f. submoduleOkp f takes drives) (sym e)
 
--- src/modules.rt:83:37
 mul-module-at : tie.Need-mul-module-at
 mul-module-at c = let h = hit-in (start c .pre .0) (met c (start c .pre .0)) in omega arith
 
--- src/modules.rt:83:37
 shared-slice-read-module-at : tie.Need-shared-slice-read-module-at
 shared-slice-read-module-at c = let e = c .before in hit-in (start e .pre .0) (met e (start e .pre .0))
 
--- src/modules.rt:83:9
 module-at-requires : tie.Need-module-at-requires
 module-at-requires c κs = let e = c .before in hit-there (start e .pre .0) (met e (start e .pre .0))
 
--- src/modules.rt:85:9
 returns-2 : tie.Need-returns-2
 returns-2 c p takes drives t d =
     let read = c .before .before in
@@ -51,7 +41,6 @@ returns-2 c p takes drives t d =
     let header = read .module-at .ensures (h .m) (hit-stands p h) in
     unfit (h .m) takes drives _ _ t d _ (header .inputs) (c .if2 .taken) ∙ ap (λ f. submoduleOkp f takes drives) (sym (h .is))
 
--- src/modules.rt:87:15
 sub-result : tie.Need-sub-result
 sub-result c =
     let read = c .before .before .before in
@@ -59,7 +48,6 @@ sub-result c =
     let h = met (read .before .before) p in
     omega (arith, read .module-at .ensures (h .m) (hit-stands p h) .to)
 
--- src/modules.rt:65:1
 returns-3 : tie.Need-returns-3
 returns-3 c p takes drives t d =
     let read = c .before .before .before in

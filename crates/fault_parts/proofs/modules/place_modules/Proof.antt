@@ -6,9 +6,6 @@ use Rattle.fault_parts.specs.Asked.{Whole}
 use Rattle.fault_parts.proofs.Placing.{Placing, placing-first, placing-on, module-there, all-placed}
 use Rattle.fault_parts.proofs.modules.place_modules.Statement.{statement}
 use Rattle.fault_parts.proofs.modules.place_modules.Tie as tie
-use Rattle.fault_parts.proofs.modules.place_modules.Reads as reads
-use Rattle.fault_parts.proofs.modules.place_modules.Lts as lts
-use Rattle.fault_parts.proofs.modules.module_end.Reads as module-end-reads
 
 abbrev Inv-loop : tie.InvT-loop
 Inv-loop numbers modules starts₀ at₀ k₀ starts at k = (length starts ≡ length starts₀) × ((w : Whole numbers) → Placing numbers starts (w .ms) at k)
@@ -26,31 +23,24 @@ in-file c w = omega (arith, begun c .pre .0 w .0, c .loop-test .taken)
 in-list : (c : tie.In-loop Inv-loop μ-loop) → c .before .loop .k < length (c .before .loop .starts)
 in-list c = omega (arith, begun c .pre .0 (begun c .pre .1) .1, c .before .loop .inv .0, c .loop-test .taken)
 
--- src/modules.rt:41:5
 loop-holds : tie.Need-loop-holds Inv-loop μ-loop
 loop-holds c = (refl, λ w. placing-first _ _ w)
 
--- src/modules.rt:42:9
 mul-starts : tie.Need-mul-starts Inv-loop μ-loop
 mul-starts c = let h = in-list c in omega arith
 
--- src/modules.rt:42:9
 slice-write-starts : tie.Need-slice-write-starts Inv-loop μ-loop
 slice-write-starts c = in-list c
 
--- src/modules.rt:43:9
 module-end-requires : tie.Need-module-end-requires Inv-loop μ-loop
 module-end-requires c κs = let w = begun c .pre .1 in module-there (c .before .loop .inv .1 w) (in-file c w)
 
--- src/modules.rt:44:9
 add-k : tie.Need-add-k Inv-loop μ-loop
 add-k c = omega arith
 
--- src/modules.rt:41:5
 loop-less : tie.Need-loop-less Inv-loop μ-loop
 loop-less c = omega arith
 
--- src/modules.rt:41:5
 loop-again : tie.Need-loop-again Inv-loop μ-loop
 loop-again c =
     let turn = c .before in (
@@ -58,11 +48,9 @@ loop-again c =
       λ w. placing-on (turn .before .loop .inv .1 w) (in-file turn w) (in-list turn) _ (c .module-end .ensures),
     )
 
--- src/modules.rt:34:1
 same-length : tie.Need-same-length Inv-loop μ-loop
 same-length c = c .before .loop .inv .0
 
--- src/modules.rt:34:1
 returns : tie.Need-returns Inv-loop μ-loop
 returns c w =
     let sized = c .before .before .before .before .pre .0 w in

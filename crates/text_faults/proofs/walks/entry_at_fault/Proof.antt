@@ -3,8 +3,6 @@ use Rattle.text_faults.specs.Faults.{entryAtFault}
 use borrow.Author.Needs.{needs}
 use Rattle.text_faults.proofs.walks.entry_at_fault.Statement.{statement}
 use Rattle.text_faults.proofs.walks.entry_at_fault.Tie as tie
-use Rattle.text_faults.proofs.walks.entry_at_fault.Reads as reads
-use Rattle.text_faults.proofs.walks.entry_at_fault.Lts as lts
 
 returns : tie.Need-returns
 unfolding entryAtFault

@@ -1,23 +1,14 @@
 use Prim.Native.Nat.{ℕ, _+_, _-_}
 use native.Mathlib.Omega.{arith}
-use mathlib.Core.Path.{_≡_, refl, sym, _∙_, ap}
-use mathlib.Core.List.{_++_}
+use mathlib.Core.Path.{_≡_, _∙_, ap}
 use lib.ListN.{length, drop}
 use Rattle.image.specs.Places.{PlaceOf}
 use Rattle.fault_parts.specs.Fronts.{newFront, knownFront}
-use Rattle.fault_parts.specs.Asked.{Marked}
 use Rattle.meaning.specs.Boxlist.{arityOkp}
 use Rattle.text_faults.proofs.Entries.{part-is, fault-is, all-new, marked-all}
 use borrow.Author.Needs.{needs}
 use Rattle.text_faults.proofs.walks.fault_in.Statement.{statement}
 use Rattle.text_faults.proofs.walks.fault_in.Tie as tie
-use Rattle.text_faults.proofs.walks.fault_in.Reads as reads
-use Rattle.text_faults.proofs.walks.fault_in.Lts as lts
-use Rattle.fault_parts.proofs.marks.count_known.Reads as count-known-reads
-use Rattle.fault_parts.proofs.marks.learn.Reads as learn-reads
-use Rattle.fault_parts.proofs.modules.fits.Reads as fits-reads
-use Rattle.image.proofs.places.occurrence_at.Reads as occurrence-at-reads
-use Rattle.text_faults.proofs.walks.entry_at_fault.Reads as entry-at-fault-reads
 
 -- The start, the occurrence that was read, and where its parts stand.
 abbrev begun : tie.After-occurrence-at → tie.Start

@@ -1,6 +1,6 @@
 use Prim.Native.Nat.{ℕ, _+_, _-_}
 use native.Mathlib.Omega.{arith}
-use mathlib.Core.Path.{_≡_, _∙_}
+use mathlib.Core.Path.{_≡_}
 use mathlib.Core.List.{[]}
 use lib.ListN.{length, getD}
 use Rattle.image.specs.Places.{HeaderOf}
@@ -10,11 +10,6 @@ use Rattle.text_faults.proofs.Beginning.{Beginning, beginning, inputs, 
 use borrow.Author.Needs.{needs}
 use Rattle.text_faults.proofs.walks.first_fault.Statement.{statement}
 use Rattle.text_faults.proofs.walks.first_fault.Tie as tie
-use Rattle.text_faults.proofs.walks.first_fault.Reads as reads
-use Rattle.text_faults.proofs.walks.first_fault.Lts as lts
-use Rattle.fault_parts.proofs.marks.mark_all.Reads as mark-all-reads
-use Rattle.image.proofs.places.module_at.Reads as module-at-reads
-use Rattle.text_faults.proofs.walks.walk.Reads as walk-reads
 
 -- The start, the module that is read there, and its header.
 abbrev begun : tie.After-module-at → tie.Start

@@ -1,4 +1,4 @@
-use Prim.Native.Nat.{ℕ, _+_, _-_, _≤_}
+use Prim.Native.Nat.{_-_}
 use native.Mathlib.Omega.{arith}
 use mathlib.Core.Path.{_≡_, refl, _∙_}
 use lib.ListN.{length, drop}
@@ -8,10 +8,6 @@ use Rattle.text_faults.specs.Body.{Body}
 use Rattle.text_faults.proofs.Walking.{Walking, walking-first, Facing, facing, walking-stops, walking-on, walking-last}
 use Rattle.text_faults.proofs.walks.walk.Statement.{statement}
 use Rattle.text_faults.proofs.walks.walk.Tie as tie
-use Rattle.text_faults.proofs.walks.walk.Reads as reads
-use Rattle.text_faults.proofs.walks.walk.Lts as lts
-use Rattle.image.proofs.places.occurrence_at.Reads as occurrence-at-reads
-use Rattle.text_faults.proofs.walks.fault_in.Reads as fault-in-reads
 
 abbrev Inv-loop : tie.InvT-loop
 Inv-loop numbers starts modules from body count marks₀ at₀ i₀ marks at i =

@@ -1,0 +1,3 @@
+-- Facts that the proofs cite.
+pub mod Numbers
+pub mod Texts

@@ -1,0 +1,2 @@
+-- What the line names.
+pub mod Named

@@ -1,0 +1,4 @@
+((PICK (A B) (S)
+  ((() (NONE))
+   ((S) (B-not A B))))
+ (NONE () () ()))

@@ -1,0 +1,8 @@
+'((FULL-ADDER (A B C) (SUM CARRY)
+   (((SUM1 CARRY1) (HALF-ADDER A B))
+    ((SUM CARRY2) (HALF-ADDER SUM1 C))
+    ((CARRY) (B-OR CARRY1 CARRY2))))
+  (HALF-ADDER (A B) (SUM CARRY)
+   (((SUM) (B-XOR A B))
+    ((CARRY
+      a) (SPLIT A B)))))
