@@ -93,12 +93,6 @@ pub name-found : {text : List ℕ} (before : List ListedModule) (m : ListedModul
 unfolding atomsIn
 name-found before m later l = atom-found [] (m .name) _ (module-written before m later l) refl
 
-atoms-both : (ps qs : List Part) → atomsIn (ps ++ qs) ≡ atomsIn ps ++ atomsIn qs
-unfolding atomsIn
-atoms-both [] qs = refl
-atoms-both (sign s ∷ ps) qs = atoms-both ps qs
-atoms-both (atom a ∷ ps) qs = ap (λ as′. a ∷ as′) (atoms-both ps qs)
-
 atoms-all : (names : List Name) (qs : List Part) → atomsIn (map atom names ++ qs) ≡ names ++ atomsIn qs
 unfolding atomsIn
 atoms-all [] qs = refl
