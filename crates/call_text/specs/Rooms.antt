@@ -14,9 +14,13 @@ use Rattle.text_reader.specs.declared.Extent.{Extent}
 use Rattle.text_reader.specs.Reading.{Readable, Reads}
 use Rattle.text_file.specs.Filing.{Ready, afterReading}
 
--- Lists for short texts and for all.
+-- Lists for short texts, for longer ones and for all.
 pub record Short (text numbers : List ℕ) : Type 0 where
   pub most : length text ≤ 2048
+  pub room : 2 * length text + 2 ≤ length numbers
+
+pub record Middle (text numbers : List ℕ) : Type 0 where
+  pub most : length text ≤ 32768
   pub room : 2 * length text + 2 ≤ length numbers
 
 pub record Long (text numbers : List ℕ) : Type 0 where
@@ -43,7 +47,12 @@ readable text numbers n l room tree =
     let long : length (replicate {A = ℕ} n 0) ≡ n = length-replicate n 0 in
     record { blank = zeros n; numbers-room = room; tree-room = omega arith; text-most = l }
 
--- The long lists, said for any length, so that none is written out.
+-- The longer lists, said for any length, so that none is written out.
+middle-of : (text : List ℕ) (n : ℕ) → length text ≤ 32768 → 65538 ≤ n → Middle text (replicate n 0)
+middle-of text n l m =
+    let long : length (replicate {A = ℕ} n 0) ≡ n = length-replicate n 0 in
+    record { most = l; room = omega arith }
+
 long-of : (text : List ℕ) (n : ℕ) → length text ≤ 262144 → 524290 ≤ n → Long text (replicate n 0)
 long-of text n l m =
     let long : length (replicate {A = ℕ} n 0) ≡ n = length-replicate n 0 in
@@ -56,6 +65,12 @@ ready-of text numbers r n m h e l w =
     let wide : length (replicate {A = ℕ} m 0) ≡ m = length-replicate m 0 in
     record { reads = h; room = omega arith; few = omega arith }
 
+same-few : 65538 ≤ 65538
+same-few = omega arith
+
+fewer-numbers : 65538 < 4194304
+fewer-numbers = omega arith
+
 same-many : 524290 ≤ 524290
 same-many = omega arith
 
@@ -67,6 +82,13 @@ all-bytes = omega arith
 
 pub long-numbers : (text : List ℕ) → length text ≤ 262144 → Long text (replicate 524290 0)
 long-numbers text l = long-of text 524290 l same-many
+
+pub middle-numbers : (text : List ℕ) → length text ≤ 32768 → Middle text (replicate 65538 0)
+middle-numbers text l = middle-of text 65538 l same-few
+
+pub ready-middle : (text numbers : List ℕ) (r : Extent) → Reads text numbers r → length numbers ≡ length (replicate {A = ℕ} 65538 0)
+    → Ready text r numbers (replicate 65535 0)
+ready-middle text numbers r h e = ready-of text numbers r 65538 65535 h e fewer-numbers all-bytes
 
 pub ready-long : (text numbers : List ℕ) (r : Extent) → Reads text numbers r → length numbers ≡ length (replicate {A = ℕ} 524290 0)
     → Ready text r numbers (replicate 65535 0)

@@ -4,13 +4,13 @@ use answers::Writing;
 use text_file::answer;
 use text_reader::Extent;
 use text_reader::read;
-ghost use Prim.Native.Nat.{_≤_};
+ghost use Prim.Native.Nat.{_≤_, _<_};
 ghost use lib.ListN.{length};
 ghost use Rattle.meaning.specs.ListCall.{listReading};
 ghost use Rattle.answers.specs.Answers.{Answers};
 ghost use Rattle.text_reader.specs.Reading.{Reads};
 ghost use Rattle.text_file.specs.Filing.{afterReading};
-ghost use Rattle.call_text.specs.Rooms.{Short, Long};
+ghost use Rattle.call_text.specs.Rooms.{Short, Middle, Long};
 
 // Reading in a tree that is long enough for a text of 2,048 bytes.
 fn read_short(text: &[u8], numbers: &mut [u16]) -> Extent
@@ -18,6 +18,15 @@ fn read_short(text: &[u8], numbers: &mut [u16]) -> Extent
     ensures { λ r. ⌜ Reads (now (text .entry)) (now (numbers .exit)) r ⌝ }
 {
     let mut tree = [0u32; 8704];
+    read(text, numbers, &mut tree)
+}
+
+// Of 32,768 bytes.
+fn read_middle(text: &[u8], numbers: &mut [u16]) -> Extent
+    requires { ⌜ Middle (now text) (now numbers) ⌝ }
+    ensures { λ r. ⌜ Reads (now (text .entry)) (now (numbers .exit)) r ⌝ }
+{
+    let mut tree = [0u32; 131584];
     read(text, numbers, &mut tree)
 }
 
@@ -41,6 +50,16 @@ fn file_short(text: &[u8], out: &mut [u8]) -> Writing
     answer(text, extent, &numbers, &mut bytes, out)
 }
 
+fn file_middle(text: &[u8], out: &mut [u8]) -> Writing
+    requires { ⌜ length (now text) ≤ 32768 ⌝ }
+    ensures { λ r. ⌜ Answers (afterReading (now (text .entry)) (length (now (out .entry)))) (now (out .entry)) (now (out .exit)) r ⌝ }
+{
+    let mut numbers = [0u16; 65538];
+    let extent = read_middle(text, &mut numbers);
+    let mut bytes = [0u8; 65535];
+    answer(text, extent, &numbers, &mut bytes, out)
+}
+
 fn file_long(text: &[u8], out: &mut [u8]) -> Writing
     requires { ⌜ length (now text) ≤ 262144 ⌝ }
     ensures { λ r. ⌜ Answers (afterReading (now (text .entry)) (length (now (out .entry)))) (now (out .entry)) (now (out .exit)) r ⌝ }
@@ -51,17 +70,27 @@ fn file_long(text: &[u8], out: &mut [u8]) -> Writing
     answer(text, extent, &numbers, &mut bytes, out)
 }
 
-// In the lists for texts of so many bytes, or in the longest. The function calls itself: into such a function LLVM takes no large array of another, so a
-// short text does not pay for the stack of a long one.
+// The next size.
+fn larger(size: usize) -> usize
+    requires { ⌜ size < 262144 ⌝ }
+    ensures { λ r. ⌜ (size < r) × (r ≤ 262144) ⌝ }
+{
+    if size < 32768 { 32768 } else { 262144 }
+}
+
+// In the lists for texts of so many bytes, or in longer ones. The function calls itself: into such a function LLVM takes no large array of another, so a
+// text does not pay for the stack of a longer one.
 fn file(size: usize, text: &[u8], out: &mut [u8]) -> Writing
     requires { ⌜ length (now text) ≤ 262144 ⌝ }
     ensures { λ r. ⌜ Answers (afterReading (now (text .entry)) (length (now (out .entry)))) (now (out .entry)) (now (out .exit)) r ⌝ }
 {
     if size < text.len() {
-        return file(262144, text, out);
+        return file(larger(size), text, out);
     }
     if size <= 2048 {
         file_short(text, out)
+    } else if size <= 32768 {
+        file_middle(text, out)
     } else {
         file_long(text, out)
     }

@@ -13,7 +13,7 @@ pub struct Marks {
 }
 
 // Whether `(` is too much: over 128 modules (mode 2), over 4,096 occurrences (mode 9).
-pub fn is_full(mode: u8, numbers: &[u16], marks: Marks) -> bool
+pub fn is_full(mode: usize, numbers: &[u16], marks: Marks) -> bool
     requires { ⌜ Testable mode (now numbers) marks ⌝ }
     ensures { λ r. ⌜ r ≡ openedOver mode (deskOf (now (numbers .entry)) marks) ⌝ }
 {
@@ -36,7 +36,7 @@ fn raise(numbers: &mut [u16], place: usize)
 }
 
 // `(`.
-pub fn open(mode: u8, numbers: &mut [u16], marks: Marks) -> Marks
+pub fn open(mode: usize, numbers: &mut [u16], marks: Marks) -> Marks
     requires { ⌜ Opening mode (now numbers) marks ⌝ }
     ensures { λ r. ⌜ Opens mode (now (numbers .entry)) marks (now (numbers .exit)) r ⌝ }
 {

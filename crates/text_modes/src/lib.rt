@@ -47,7 +47,7 @@ pub fn kind(b: u8) -> u8
 }
 
 // The mode behind `(`.
-fn after_open(mode: u8) -> u8
+fn after_open(mode: usize) -> usize
     requires { ⌜ mode < 19 ⌝ }
     ensures { λ r. ⌜ r ≡ modeAfter mode 1 ⌝ }
 {
@@ -66,7 +66,7 @@ fn after_open(mode: u8) -> u8
 }
 
 // The mode behind `)`.
-fn after_close(mode: u8) -> u8
+fn after_close(mode: usize) -> usize
     requires { ⌜ mode < 19 ⌝ }
     ensures { λ r. ⌜ r ≡ modeAfter mode 2 ⌝ }
 {
@@ -84,7 +84,7 @@ fn after_close(mode: u8) -> u8
 }
 
 // The mode behind an atom.
-fn after_atom(mode: u8) -> u8
+fn after_atom(mode: usize) -> usize
     requires { ⌜ mode < 19 ⌝ }
     ensures { λ r. ⌜ r ≡ modeAfter mode 4 ⌝ }
 {
@@ -100,7 +100,7 @@ fn after_atom(mode: u8) -> u8
 }
 
 // The mode that a part leads to; 18 where it may not stand.
-pub fn after(mode: u8, part: u8) -> u8
+pub fn after(mode: usize, part: u8) -> usize
     requires { ⌜ mode < 19 ⌝ }
     requires { ⌜ part < 5 ⌝ }
     ensures { λ r. ⌜ r ≡ modeAfter mode part ⌝ }

@@ -14,9 +14,10 @@ ghost use Prim.Native.Nat.{_<_};
 ghost use Rattle.text_reader.specs.Reading.{closed, Turnable, Openable, AtomAt, NameAt, NetAt, Turned};
 
 // The mode, the marks on the desk, how many names and nets are known, the root of the module's nets, and how many nodes the tree of
-// names has.
+// names has. The mode is as wide as the others: behind a byte the rest of its word would be copied at each part, in pieces for which a
+// processor has to wait.
 pub struct State {
-    pub mode: u8,
+    pub mode: usize,
     pub marks: Marks,
     pub names: usize,
     pub nets: usize,
@@ -32,7 +33,7 @@ pub struct Turn {
 }
 
 // `)`: behind a module the next one has nets of its own.
-fn close(state: State, mode: u8) -> State
+fn close(state: State, mode: usize) -> State
     requires { ⌜ state .count < 1048576 ⌝ }
     ensures { λ r. ⌜ r ≡ closed state mode ⌝ }
 {
@@ -61,7 +62,7 @@ fn close(state: State, mode: u8) -> State
 fn turn_open(
     text: &[u8],
     i: usize,
-    mode: u8,
+    mode: usize,
     state: State,
     numbers: &mut [u16],
     tree: &[u32],
@@ -97,7 +98,7 @@ fn turn_name(
     text: &[u8],
     i: usize,
     end: usize,
-    mode: u8,
+    mode: usize,
     state: State,
     numbers: &mut [u16],
     tree: &mut [u32],
@@ -135,7 +136,7 @@ fn turn_net(
     text: &[u8],
     i: usize,
     end: usize,
-    mode: u8,
+    mode: usize,
     state: State,
     numbers: &mut [u16],
     tree: &mut [u32],

@@ -10,31 +10,24 @@ use Rattle.call_text.proofs.file_long.Lts as lts
 use Rattle.call_text.proofs.read_long.Reads as read-long-reads
 use Rattle.text_file.proofs.answer.Reads as answer-reads
 
--- src/lib.rt:49:34
 slice-aggregate-read-long : tie.Need-slice-aggregate-read-long
 slice-aggregate-read-long c = sym (length-replicate {A = ℕ} 524290 0)
 
--- src/lib.rt:49:9
 read-long-requires : tie.Need-read-long-requires
 read-long-requires c κs = long-numbers _ (c .before .before .before .pre)
 
--- src/lib.rt:51:26
 slice-aggregate-answer : tie.Need-slice-aggregate-answer
 slice-aggregate-answer c = search needs
 
--- src/lib.rt:51:36
 slice-aggregate-answer-2 : tie.Need-slice-aggregate-answer-2
 slice-aggregate-answer-2 c = search needs
 
--- src/lib.rt:51:5
 answer-requires : tie.Need-answer-requires
 answer-requires c κs = ready-long _ _ (c .before .before .before .before .read-long .result) (c .before .before .before .before .read-long .ensures) (c .before .before .before .before .read-long .kept .1 .0)
 
--- src/lib.rt:44:1
 same-length : tie.Need-same-length
 same-length c = search needs
 
--- src/lib.rt:44:1
 returns : tie.Need-returns
 returns c = c .before .before .before .answer .ensures
 

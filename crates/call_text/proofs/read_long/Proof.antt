@@ -10,19 +10,15 @@ use Rattle.call_text.proofs.read_long.Reads as reads
 use Rattle.call_text.proofs.read_long.Lts as lts
 use Rattle.text_reader.proofs.read.Reads as read-reads
 
--- src/lib.rt:30:25
 slice-aggregate-read : tie.Need-slice-aggregate-read
 slice-aggregate-read c = sym (length-replicate {A = ℕ} 1049088 0)
 
--- src/lib.rt:30:5
 read-requires : tie.Need-read-requires
 read-requires c κs = let most : _ = c .before .before .before .before .pre .most in readable _ _ 1049088 most (c .before .before .before .before .pre .room) (omega (arith, most))
 
--- src/lib.rt:25:1
 same-length : tie.Need-same-length
 same-length c = c .before .before .before .read .kept .1 .0
 
--- src/lib.rt:25:1
 returns : tie.Need-returns
 returns c = c .before .before .before .read .ensures
 
