@@ -1,4 +1,5 @@
 // What is at fault in a module of a text that was refused with 11 to 14. The text is read once more, in lists of the call's own.
+use call_text::read_long;
 use fault_parts::modules::place_modules;
 use text_faults::Fault;
 use text_faults::first_fault;
@@ -10,7 +11,6 @@ ghost use Rattle.meaning.specs.ListCall.{reading};
 ghost use Rattle.text_reader.specs.Reading.{Reads};
 ghost use Rattle.fault_parts.specs.Asked.{Whole};
 ghost use Rattle.text_faults.specs.Faults.{noFault, faultAt, faultOf, textFault};
-ghost use Rattle.call_text.specs.Rooms.{Long};
 
 fn none() -> Fault
     ensures { λ r. ⌜ r ≡ noFault 0 ⌝ }
@@ -48,21 +48,13 @@ fn after_reading(text: &[u8], extent: Extent, numbers: &[u16], position: usize) 
     in_numbers(&numbers[..count], position)
 }
 
-// In a tree that is long enough for every text: a text is read so once after a refusal, and there are no short lists.
-fn read(text: &[u8], numbers: &mut [u16]) -> Extent
-    requires { ⌜ Long (now text) (now numbers) ⌝ }
-    ensures { λ r. ⌜ Reads (now (text .entry)) (now (numbers .exit)) r ⌝ }
-{
-    let mut tree = [0u32; 1049088];
-    text_reader::read(text, numbers, &mut tree)
-}
-
+// In lists that are long enough for every text: a text is read so once after a refusal, and there are no short ones.
 fn of_listed(text: &[u8], position: usize) -> Fault
     requires { ⌜ length (now text) ≤ 262144 ⌝ }
     ensures { λ r. ⌜ r ≡ faultOf (reading (now (text .entry))) position ⌝ }
 {
     let mut numbers = [0u16; 524290];
-    let extent = read(text, &mut numbers);
+    let extent = read_long(text, &mut numbers);
     after_reading(text, extent, &numbers, position)
 }
 

@@ -31,7 +31,7 @@ fn read_middle(text: &[u8], numbers: &mut [u16]) -> Extent
 }
 
 // And of 262,144 bytes.
-fn read_long(text: &[u8], numbers: &mut [u16]) -> Extent
+pub fn read_long(text: &[u8], numbers: &mut [u16]) -> Extent
     requires { ⌜ Long (now text) (now numbers) ⌝ }
     ensures { λ r. ⌜ Reads (now (text .entry)) (now (numbers .exit)) r ⌝ }
 {

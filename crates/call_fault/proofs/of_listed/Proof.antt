@@ -6,11 +6,11 @@ use borrow.Author.Needs.{needs}
 use Rattle.call_fault.proofs.of_listed.Statement.{statement}
 use Rattle.call_fault.proofs.of_listed.Tie as tie
 
-slice-aggregate-read : tie.Need-slice-aggregate-read
-slice-aggregate-read c = sym (length-replicate {A = ℕ} 524290 0)
+slice-aggregate-read-long : tie.Need-slice-aggregate-read-long
+slice-aggregate-read-long c = sym (length-replicate {A = ℕ} 524290 0)
 
-read-requires : tie.Need-read-requires
-read-requires c κs = long-numbers _ (c .before .before .pre)
+read-long-requires : tie.Need-read-long-requires
+read-long-requires c κs = long-numbers _ (c .before .before .pre)
 
 slice-aggregate-after-reading : tie.Need-slice-aggregate-after-reading
 slice-aggregate-after-reading c = search needs
@@ -25,8 +25,8 @@ pub of-listed-spec : {M : Type 1} → statement M
 of-listed-spec =
     tie.close
     (tie.spec
-    slice-aggregate-read
-    read-requires
+    slice-aggregate-read-long
+    read-long-requires
     slice-aggregate-after-reading
     after-reading-requires
     returns)
