@@ -1,4 +1,6 @@
 // A table of counts as lines: number, count, and a bar of at most 50 marks.
+#![tactic(auto)]
+
 use libc::STDOUT_FILENO;
 use std::num::wrapping_add_u64;
 

@@ -1,4 +1,6 @@
 // Where a number becomes bytes: in a lent buffer, at a place. The layout is that of specs/Layout.antt in `meaning`.
+#![tactic(auto)]
+
 ghost use Rattle.std.specs.Prelude.{◌+◌, ◌≤◌, length};
 ghost use Rattle.meaning.specs.Ceilings.{Small};
 ghost use Rattle.meaning.specs.Layout.{number_bytes};

@@ -1,4 +1,6 @@
 // What the C face hands back of the library's answers: numbers through pointers, and of a refusal none but the place.
+#![tactic(auto)]
+
 ghost use Rattle.std.specs.Prelude.{◌≡◌};
 ghost use Rattle.c_reports.specs.Read.{number_in, written_in, work_in, place_in, figures_of};
 

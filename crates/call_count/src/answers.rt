@@ -3,13 +3,13 @@ ghost use Rattle.std.specs.Prelude.{◌≡◌};
 ghost use Rattle.call_count.specs.Answers.{refused_with};
 
 // How many gates of each kind. Adding to it is not public: that is the engines' own record.
-#[derive(Drop)]
+#[derive(Clone, Copy)]
 pub struct Tally {
     pub counts: [u32; 16],
 }
 
 // The figures of a module: `delay` is its unit delay, `family` its delay by a chip family.
-#[derive(Drop)]
+#[derive(Clone, Copy)]
 pub struct Figures {
     pub inputs: u32,
     pub outputs: u32,
@@ -23,7 +23,7 @@ pub struct Figures {
 }
 
 // The number and place of a refusal, with all figures 0; or number 0 and place 0, with the figures.
-#[derive(Drop)]
+#[derive(Clone, Copy)]
 pub struct Counted {
     pub number: u16,
     pub place: usize,

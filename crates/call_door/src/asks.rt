@@ -6,14 +6,14 @@ use answers::{Listed, Named, Run, Writing};
 use call_count::answers::Counted;
 
 // What is asked of a module, and done in lists of its own.
-#[derive(Drop)]
+#[derive(Clone, Copy)]
 pub enum Own {
     Count,
     Flatten,
 }
 
 // What is asked of a module.
-#[derive(Drop)]
+#[derive(Clone, Copy)]
 pub enum Task {
     Evaluate,
     Rows(usize),
@@ -21,7 +21,7 @@ pub enum Task {
 }
 
 // What is asked of a file.
-#[derive(Drop)]
+#[derive(Clone, Copy)]
 pub enum Ask {
     Modules,
     NumberAt(usize),
@@ -29,7 +29,7 @@ pub enum Ask {
 }
 
 // A field for each kind of answer. A refusal is in all of them, an answer in its own.
-#[derive(Drop)]
+#[derive(Clone, Copy)]
 pub struct Sheet {
     pub writing: Writing,
     pub work: u32,

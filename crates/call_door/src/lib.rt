@@ -1,4 +1,6 @@
 // The calls on a file.
+#![tactic(auto)]
+
 pub mod asks;
 pub mod opening;
 mod working;

@@ -1,4 +1,6 @@
 // Evaluation: a module of a file run on values, some of which may be unknown.
+#![tactic(auto)]
+
 ghost use Rattle.std.specs.Prelude.{length, ◌≡◌};
 ghost use Rattle.answers.specs.Settled.{Settles};
 ghost use Rattle.answers.specs.Running.{Runs, work_with};

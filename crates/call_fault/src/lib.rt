@@ -1,4 +1,6 @@
 // What is at fault in a module of a text that was refused with 11 to 14. The text is read once more, in lists of the call's own.
+#![tactic(auto)]
+
 ghost use Rattle.std.specs.Prelude.{◌≡◌, ◌≤◌, length, drop};
 ghost use Rattle.meaning.specs.ListCall.{reading};
 ghost use Rattle.text_reader.specs.Reading.{Reads};

@@ -1,4 +1,6 @@
 // Flattening: one module of a file with all that it refers to set down in it, written as a file of its own.
+#![tactic(auto)]
+
 ghost use Rattle.std.specs.Prelude.{◌+◌, ◌≤◌, ◌≡◌, ltb, length};
 ghost use Rattle.meaning.specs.Figures.{gate_count};
 ghost use Rattle.meaning.specs.Calls.{flattening_on};

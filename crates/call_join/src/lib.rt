@@ -1,5 +1,7 @@
 // One file joined of two: the group's modules in order, then the house's whose numbers the group lacks; and the check of it. All is put
 // together in a list of the call's own, so that a refusal changes nothing that was lent.
+#![tactic(auto)]
+
 ghost use Rattle.meaning.specs.Shelves.{joining};
 ghost use Rattle.join_ending.specs.Joins.{Joins};
 ghost use Rattle.call_join.specs.Begun.{Begun, join_house, Spaces};

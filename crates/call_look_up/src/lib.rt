@@ -1,4 +1,6 @@
 // The look-up of a module in two files: out of the group's if it has the number, otherwise out of the house's. Each file needs only to read.
+#![tactic(auto)]
+
 mod seeking; // seeking.rt: one file
 
 ghost use Rattle.std.specs.Prelude.{◌≡◌};
@@ -9,7 +11,7 @@ use crate::seeking::{Sought, seek};
 
 // Where the bytes of a module stand, in which of the two files; or the refusal, and which file it is about: 1 the group's, 2 the house's,
 // 0 neither.
-#[derive(Drop)]
+#[derive(Clone, Copy)]
 pub enum Looked {
     Group {
         start: usize,

@@ -7,7 +7,7 @@ use open_finding::Place;
 use open_places::Noted;
 
 // Where the bytes of the first module of the number stand; or there is none; or the refusal of a file that does not read.
-#[derive(Drop)]
+#[derive(Clone, Copy)]
 pub(crate) enum Sought {
     At { start: usize, length: usize },
     Absent,

@@ -1,4 +1,6 @@
 // A listing of a file for the board maker. The text is written from the file's own numbers, which stay beside the image when the file is checked.
+#![tactic(auto)]
+
 ghost use Rattle.std.specs.Prelude.{length};
 ghost use Rattle.meaning.specs.Ndl.{ndl_listing};
 ghost use Rattle.answers.specs.Answers.{Answers};

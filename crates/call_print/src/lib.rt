@@ -1,4 +1,6 @@
 // A file as a text in the published list form, written from the file's own numbers, which stay beside the image when the file is checked.
+#![tactic(auto)]
+
 ghost use Rattle.std.specs.Prelude.{length};
 ghost use Rattle.meaning.specs.ListPrint.{list_printing};
 ghost use Rattle.answers.specs.Answers.{Answers};

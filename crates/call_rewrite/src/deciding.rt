@@ -5,7 +5,7 @@ ghost use Rattle.call_rewrite.specs.Growing.{Grown, Decides};
 
 use rewrite_counts::ceilings::Kept;
 
-#[derive(Drop)]
+#[derive(Clone, Copy)]
 pub(crate) enum Decided {
     Stays,
     Go,

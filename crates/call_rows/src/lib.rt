@@ -1,4 +1,6 @@
 // A block of rows: a module of a file run on many rows of values at once.
+#![tactic(auto)]
+
 ghost use Rattle.std.specs.Prelude.{◌*◌, ◌≤◌, ◌≡◌, length};
 ghost use Rattle.answers.specs.Settled.{Settles};
 ghost use Rattle.answers.specs.Running.{Runs};

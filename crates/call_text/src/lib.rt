@@ -1,5 +1,7 @@
 // A text in the published list form becomes a file: 33, then 25 or 26 where reading says so, then 1, 6 to 17 and 22. All is put together in
 // lists of the call's own, so that a refusal changes nothing that was lent.
+#![tactic(auto)]
+
 ghost use Rattle.std.specs.Prelude.{◌≤◌, ◌<◌, length};
 ghost use Rattle.meaning.specs.ListCall.{list_reading};
 ghost use Rattle.answers.specs.Answers.{Answers};

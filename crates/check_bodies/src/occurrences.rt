@@ -6,7 +6,7 @@ use check_sizes::Sums;
 
 // How a walk over occurrences goes on or ends: fine so far, with the place behind them, the count of nets and the sums over their
 // references, or the rule that one of them breaks.
-#[derive(Drop)]
+#[derive(Clone, Copy)]
 pub enum Walked {
     Fine {
         next: usize,

@@ -8,7 +8,7 @@ ghost use Rattle.check_lists.specs.References.{reference_of};
 use gates::Kind;
 
 // What a reference comes to: a gate, the module at a position, or the rule that it breaks.
-#[derive(Drop)]
+#[derive(Clone, Copy)]
 pub enum Reference {
     Gate,
     Module(usize),

@@ -6,7 +6,7 @@ use check_bodies::occurrences::Walked;
 use check_sizes::Sums;
 
 // What the check of a module comes to: its count of nets and the sums over its references, or the rule that it breaks.
-#[derive(Drop)]
+#[derive(Clone, Copy)]
 pub enum Checked {
     Fine { nets: usize, sums: Sums },
     Broken(u16),

@@ -1,11 +1,13 @@
 // Expanded size and room of a module, and rule 17. Both are sums over its references: a gate adds itself, a module its figures, which come
 // from tables by its position.
+#![tactic(auto)]
+
 ghost use Rattle.std.specs.Prelude.{◌≡◌, ◌+◌, ◌<◌, ◌^◌, length, get_or};
 ghost use Rattle.check_sizes.specs.Walks.{no_sums, plus_gate, plus_module};
 ghost use Rattle.check_sizes.specs.Kept.{Keepable, Kept};
 
 // Over some occurrences of a module: its expanded size, and the largest room among the modules that they refer to.
-#[derive(Drop)]
+#[derive(Clone, Copy)]
 pub struct Sums {
     pub size: u32,
     pub room: u32,

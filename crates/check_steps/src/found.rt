@@ -5,7 +5,7 @@ ghost use Rattle.check_steps.specs.Found.{Repeating, Known, over_of};
 
 // How the check ended: all fine; no rule of 6 to 16 is broken, but a size is over its limit; or the rule that is broken first. And the
 // module's position.
-#[derive(Drop)]
+#[derive(Clone, Copy)]
 pub enum Found {
     Fine,
     Over { place: usize },

@@ -1,5 +1,7 @@
 // The command `gimlet`, all of it but where its words come from: so that it can be held to stored lines. It decides nothing itself. Each
 // answer is one line on standard output; a refusal has a second line that says in words which rule it is and what the place means.
+#![tactic(auto)]
+
 use command_asking::{asking, chips, rows};
 use command_making::making::Order;
 use command_making::{listing, making, placing, printing, shelves};

@@ -4,7 +4,7 @@ use rows_file::{Loaded, front};
 use shelf::Family;
 
 // The family of a file that was named, where it holds one.
-#[derive(Drop)]
+#[derive(Clone, Copy)]
 struct Choice {
     good: bool,
     family: Family,
@@ -53,7 +53,7 @@ pub fn count(chip: &[u8], path: &[u8], number: &[u8]) {
 }
 
 // What a word says of a gate.
-#[derive(Drop)]
+#[derive(Clone, Copy)]
 enum Delay {
     Of(u8),
     Other,

@@ -12,7 +12,7 @@ pub fn keep(made: Writing, bytes: &[u8], path: &[u8]) {
 }
 
 // What is written to order.
-#[derive(Drop)]
+#[derive(Clone, Copy)]
 pub enum Order {
     Adder,
     FastAdder,

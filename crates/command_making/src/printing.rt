@@ -3,7 +3,7 @@ use command_words::words::Parsed;
 use rows_file::{Loaded, front};
 use shelf::Writing;
 
-#[derive(Drop)]
+#[derive(Clone, Copy)]
 enum Wanted {
     All,
     Module(u16),

@@ -62,7 +62,7 @@ pub fn is(word: &[u8], name: &[u8]) -> bool {
 }
 
 // What a word says in decimal.
-#[derive(Drop)]
+#[derive(Clone, Copy)]
 pub enum Parsed {
     Number(u16),
     Other,

@@ -6,7 +6,7 @@ use crate::lines::{Kind, Line, kind_of};
 use crate::records::{Tally, close_record, file_record, put};
 
 // How far a file is read: the line that is read, how many bases of the record stand in the buffer, and the records before it.
-#[derive(Drop)]
+#[derive(Clone, Copy)]
 pub struct Reading {
     pub line: Line,
     pub filled: usize,

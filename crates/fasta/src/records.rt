@@ -9,7 +9,7 @@ use std::num::wrapping_add_u64;
 
 // The records that are complete: how many they are and how many words they have; or the first that was refused, with how many records
 // stand before it.
-#[derive(Drop)]
+#[derive(Clone, Copy)]
 pub enum Tally {
     Counted {
         records: u64,

@@ -1,11 +1,13 @@
 // A file of bases, plain or in FASTA, read from a descriptor and filed. What its bytes come to is worked out by `fasta`; here they are only
 // read.
+#![tactic(auto)]
+
 ghost use Rattle.std.specs.Prelude.{◌≡◌, length};
 
 use fasta::Tally;
 
 // What became of a file.
-#[derive(Drop)]
+#[derive(Clone, Copy)]
 pub enum Ended {
     Filed(Tally),
     Unread,

@@ -1,5 +1,7 @@
 // The line that says which occurrence of a text is at fault where the text is refused with 11 to 14: its position from 1, the nets that it drives,
 // and the net or name at fault, all as they stand in the text.
+#![tactic(auto)]
+
 ghost use Rattle.std.specs.Prelude.{◌≤◌, length};
 
 use libc::STDOUT_FILENO;

@@ -1,5 +1,7 @@
 // Words of bases on standard input, one a line, to shelves: a line for each word, with its shelf or how it is refused. A line ends with a line
 // feed; carriage returns are taken out.
+#![tactic(auto)]
+
 use filing::Placed;
 use libc::{STDIN_FILENO, STDOUT_FILENO};
 

@@ -1,5 +1,7 @@
 // Filing words of bases on shelves: the word's 32 bits go through the written leading-zero counter, and what it counts is the shelf. A
 // package above the library: it sees what `shelf` promises, and no crate behind it.
+#![tactic(auto)]
+
 mod bases;
 mod counter;
 mod rows;
@@ -19,14 +21,14 @@ use crate::shelves::shelf_at;
 use crate::words::run_words;
 
 // Of a word: its shelf, or a refusal with its number and place.
-#[derive(Drop)]
+#[derive(Clone, Copy)]
 pub enum Placed {
     Shelf(u8),
     Refused { number: u16, place: usize },
 }
 
 // Of a sequence: how many words it has, or a refusal.
-#[derive(Drop)]
+#[derive(Clone, Copy)]
 pub enum Sorted {
     Words(usize),
     Refused { number: u16, place: usize },

@@ -1,5 +1,7 @@
 // The C face of filing: each public function of `filing` under its name. A slice is a pointer and a length. The result is 0 for an answer
 // or the number of the refusal; further results are written through pointers. include/filing.h says it all in C's words.
+#![tactic(auto)]
+
 ghost use Rattle.std.specs.Prelude.{◌≡◌, length};
 ghost use Rattle.meaning.specs.Calls.{number_of, place_of};
 ghost use Rattle.meaning.specs.Filing.{filing_word, filing_sequence, table_after};

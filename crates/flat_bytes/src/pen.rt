@@ -4,7 +4,7 @@ ghost use Rattle.bytes_out.specs.Filled.{Put};
 ghost use Rattle.flat_bytes.specs.Gates.{Settable, gate_at};
 
 // How far the new module has come: the number that the next gate drives, and the place behind the bytes of the gates so far.
-#[derive(Drop)]
+#[derive(Clone, Copy)]
 pub struct Pen {
     pub next: u16,
     pub at: usize,

@@ -1,4 +1,6 @@
 // Flattening: the walk of evaluation over the image of a checked file, with nets of the new module for values.
+#![tactic(auto)]
+
 ghost use Rattle.flat_engine.specs.Flat.{Flattenable, Flattened};
 
 use flat_bytes::pen::Pen;
@@ -7,7 +9,7 @@ mod slots;
 mod walk;
 
 // Where the gates of a flattened file end, and where all of its bytes do.
-#[derive(Drop)]
+#[derive(Clone, Copy)]
 pub struct Ends {
     pub gates: usize,
     pub whole: usize,

@@ -2,6 +2,8 @@
 // nothing that was lent: so the walk writes to a list of its own, in entries of its own, of two bytes since they hold nets of the flattened
 // module; what is lent is written only when the call is sure to be answered. A module that is small gets short lists, so that it does not
 // pay for clearing long ones.
+#![tactic(auto)]
+
 ghost use Rattle.std.specs.Prelude.{◌≤◌, length};
 ghost use Rattle.meaning.specs.Calls.{flat_file, fitting};
 ghost use Rattle.answers.specs.Settled.{Settles};

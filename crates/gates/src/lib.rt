@@ -1,4 +1,6 @@
 // The sixteen gates: one decision over gate numbers, from which the count of arguments and the rule of the value come.
+#![tactic(auto)]
+
 ghost use Rattle.std.specs.Prelude.{◌≡◌};
 ghost use Rattle.gates.specs.Kind.{kind_of};
 
@@ -6,7 +8,7 @@ pub mod folds;
 pub mod pairs;
 
 // What a gate makes of its arguments, however many they are. With one argument B-BUF is an AND and B-NOT a NAND.
-#[derive(Drop)]
+#[derive(Clone, Copy)]
 pub enum Rule {
     And,
     Nand,
@@ -17,7 +19,7 @@ pub enum Rule {
 }
 
 // What a number stands for: a gate, with its rule and its count of arguments, or a module.
-#[derive(Drop)]
+#[derive(Clone, Copy)]
 pub enum Kind {
     Gate(Rule, usize),
     Module,

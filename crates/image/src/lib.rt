@@ -1,4 +1,6 @@
 // Reading the image of a checked file by place, and the lists that walks over it work in.
+#![tactic(auto)]
+
 ghost use Rattle.std.specs.Prelude.{◌≡◌, ◌<◌, length, get_or};
 
 pub mod buffers;

@@ -6,7 +6,7 @@ ghost use Rattle.image.specs.Places.{ModuleThere, HeaderOf, OccurrenceThere, Pla
 
 // Of a module: how many inputs it has, the places of its outputs, and how many occurrences it has. Their count is at `to`, and the
 // occurrences stand behind it.
-#[derive(Drop)]
+#[derive(Clone, Copy)]
 pub struct Header {
     pub inputs: usize,
     pub from: usize,
@@ -32,7 +32,7 @@ pub fn module_at(image: &[u16], at: usize) -> Header
 
 // Of an occurrence: how many nets it drives, the number that it refers to, and the places of its arguments. The nets that it drives end
 // two places before `from`, and the next occurrence stands at `to`.
-#[derive(Drop)]
+#[derive(Clone, Copy)]
 pub struct Place {
     pub drives: usize,
     pub refers: u16,

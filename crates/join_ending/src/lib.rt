@@ -1,5 +1,7 @@
 // The end of joining: the modules of the joined file stand gathered from place 2 on, and the count is put in front of them, in one byte or two;
 // then the check, and the room in the buffer.
+#![tactic(auto)]
+
 ghost use Rattle.std.specs.Prelude.{◌≡◌, length};
 ghost use Rattle.meaning.specs.Calls.{if_good, fitting};
 ghost use Rattle.meaning.specs.Verdict.{file_verdict};
@@ -12,7 +14,7 @@ use answers::{Listed, Writing};
 use write_joined::Gathered;
 
 // How many bytes were written, or the refusal and which file it is about: 1 the group's, 2 the house's, 0 neither.
-#[derive(Drop)]
+#[derive(Clone, Copy)]
 pub enum Joining {
     Wrote(usize),
     Refused {

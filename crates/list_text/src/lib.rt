@@ -1,4 +1,6 @@
 // The listing's text: numbers in decimal, and the lines of specs/Listing.antt in `meaning`.
+#![tactic(auto)]
+
 ghost use Rattle.std.specs.Prelude.{ℕ, ◌+◌, ◌*◌, ◌≤◌, ◌<◌, List, [], ◌∷◌, length};
 ghost use Rattle.meaning.specs.Calls.{refusal, answer};
 ghost use Rattle.meaning.specs.Listing.{line_feed, spaced, line, listing_text};
@@ -68,7 +70,7 @@ fn end_line(out: &mut [u8], at: usize) -> usize
 }
 
 // What a line says of a module after its position and number.
-#[derive(Drop)]
+#[derive(Clone, Copy)]
 pub struct Counts {
     pub inputs: u64,
     pub outputs: u64,

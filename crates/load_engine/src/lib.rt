@@ -1,4 +1,6 @@
 // Tally and largest load of a module in one walk over its occurrences, on the image of a checked file.
+#![tactic(auto)]
+
 ghost use Rattle.std.specs.Prelude.{◌≡◌, ◌++◌, ◌+◌, ◌≤◌, length, drop, replicate};
 ghost use Rattle.meaning.specs.Figures.{tally};
 ghost use Rattle.meaning.specs.Loads.{largest_load};
@@ -12,7 +14,7 @@ use load_steps::{add_inside, add_loads, keep, kept_at, largest};
 use tally_engine::Tally;
 
 // What a module weighs: its gates of each kind, and the largest load of a net.
-#[derive(Drop)]
+#[derive(Clone, Copy)]
 pub struct Weighed {
     pub tally: Tally,
     pub load: u32,

@@ -1,5 +1,7 @@
 // The steps of working out loads of nets: each place where a net stands as an argument adds 1 at a gate, and at a module the load of that
 // input inside it; and where a module drives the net, the load of that output inside it is added.
+#![tactic(auto)]
+
 ghost use Rattle.std.specs.Prelude.{◌≡◌, ◌-◌, ◌≤◌, length, get_or, take};
 ghost use Rattle.std.proofs.Math.Seq.{paste};
 ghost use Rattle.meaning.specs.Figures.{largest};

@@ -1,10 +1,12 @@
 // The sixteen gate names of a listing: which are good, and the first that is bad or used before.
+#![tactic(auto)]
+
 ghost use Rattle.std.specs.Prelude.{◌<◌, ◌≡◌, ◌&&◌, leb, length};
 ghost use Rattle.meaning.specs.Ndl.{name_at, letters, every, like_module, good_name, same_name, used_in, first_bad};
 ghost use Rattle.ndl_names.specs.Kinds.{belongs, spelled};
 
 // What a byte of a name can be.
-#[derive(Drop)]
+#[derive(Clone, Copy)]
 enum Kind {
     Space,
     Digit,

@@ -14,7 +14,7 @@ use ndl_pieces::numerals::put_named;
 use write_pieces::bytes::copy;
 
 // How far the text has come: the place of the file's next number, and the place behind the text.
-#[derive(Drop)]
+#[derive(Clone, Copy)]
 pub struct Pen {
     pub from: usize,
     pub at: usize,

@@ -1,5 +1,7 @@
 // A file read, checked and measured as by `open_file`, for a call that writes from the file's own numbers: these stay in a list beside the image, so
 // that the file's bytes are read once.
+#![tactic(auto)]
+
 ghost use Rattle.std.specs.Prelude.{List, ◌≡◌, length};
 ghost use Rattle.meaning.specs.Syntax.{Module};
 ghost use Rattle.check_steps.specs.Found.{Laidout};
@@ -12,7 +14,7 @@ use open_file::Prepared;
 use read_file::Reading;
 
 // Ready, with its counts of modules and of numbers; or the refusal.
-#[derive(Drop)]
+#[derive(Clone, Copy)]
 pub enum Beside {
     Ready { modules: usize, numbers: usize },
     Refused { number: u16, place: usize },

@@ -1,4 +1,6 @@
 // A file read, checked and measured: refusals 1 to 17, and what every call on an accepted file rests on.
+#![tactic(auto)]
+
 ghost use Rattle.std.specs.Prelude.{◌≡◌};
 ghost use Rattle.open_file.specs.Prepared.{Space, prepared_of, Prepares};
 
@@ -6,7 +8,7 @@ use check_steps::found::Found;
 use read_file::Reading;
 
 // What preparing a file comes to: ready, with its count of modules, or the refusal.
-#[derive(Drop)]
+#[derive(Clone, Copy)]
 pub enum Prepared {
     Ready(usize),
     Refused { number: u16, place: usize },

@@ -1,4 +1,6 @@
 // A module of a file that stands ready: the position of a number, the number at a position, and what is known of a module there.
+#![tactic(auto)]
+
 ghost use Rattle.std.specs.Prelude.{◌<◌, ◌≡◌, length, drop};
 ghost use Rattle.meaning.specs.Calls.{first_number};
 ghost use Rattle.answers.specs.Contents.{named_of};
@@ -6,14 +8,14 @@ ghost use Rattle.open_finding.specs.Finding.{Searchable, Finds, site_of};
 
 use answers::Named;
 
-#[derive(Drop)]
+#[derive(Clone, Copy)]
 pub enum Place {
     At(usize),
     Nowhere,
 }
 
 // A module where it stands, and what was measured of it.
-#[derive(Drop)]
+#[derive(Clone, Copy)]
 pub struct Site {
     pub position: usize,
     pub number: u16,

@@ -1,11 +1,13 @@
 // Where the modules of a file stand in it: by position the number of each, and where its bytes begin; behind the last, where the file ends. So
 // the bytes of a module are the part of the file from its own place to the next. Only reading is asked of the file.
+#![tactic(auto)]
+
 ghost use Rattle.open_places.specs.Places.{Headed, Named, Space, Notes};
 
 use read_file::Reading;
 
 // A file that reads, with how many modules it has; or the refusal of 1 to 5, with its place.
-#[derive(Drop)]
+#[derive(Clone, Copy)]
 pub enum Noted {
     Modules(usize),
     Refused { number: u16, place: usize },

@@ -1,5 +1,7 @@
 // Whether a file is short, with small numbers: a call on such a file works in short lists and tables, so that it does not pay for clearing
 // long ones.
+#![tactic(auto)]
+
 ghost use Rattle.std.specs.Prelude.{◌≤◌, ◌<◌, ◌≡◌, true};
 ghost use Rattle.open_shortness.specs.Shortness.{Short};
 

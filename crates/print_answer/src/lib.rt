@@ -1,5 +1,7 @@
 // What printing answers of a checked file, from its own numbers. The text goes straight to the lent buffer where that is long enough for any text
 // of such a file, and otherwise through a list of the call's own, so that a refusal changes nothing that was lent.
+#![tactic(auto)]
+
 ghost use Rattle.std.specs.Prelude.{length};
 ghost use Rattle.meaning.specs.ListPrint.{printing_of};
 ghost use Rattle.answers.specs.Answers.{Answers};

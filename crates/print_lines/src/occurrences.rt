@@ -16,7 +16,7 @@ use print_names::{put_break, put_name};
 use write_pieces::bytes::copy;
 
 // How far the text has come: the place of the file's next number, and the place behind the text.
-#[derive(Drop)]
+#[derive(Clone, Copy)]
 pub struct Pen {
     pub from: usize,
     pub at: usize,

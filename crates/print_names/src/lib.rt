@@ -1,5 +1,7 @@
 // What an occurrence refers to, by name, and what stands between two entries of a list: pieces of a printed text, each written at a place; the answer is
 // the place behind it.
+#![tactic(auto)]
+
 ghost use Rattle.meaning.specs.Ceilings.{Small};
 ghost use Rattle.meaning.specs.ListPrint.{name_of};
 ghost use Rattle.bytes_out.specs.Filled.{Put};

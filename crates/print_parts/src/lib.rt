@@ -1,5 +1,7 @@
 // One module's list out of the text of a whole file, as printing writes it: between the outer brackets, each module but the first behind a line end and
 // a space. No other line begins with one space and a bracket.
+#![tactic(auto)]
+
 ghost use Rattle.std.specs.Prelude.{◌≤◌, length};
 
 // Whether a module begins behind this line end.

@@ -1,4 +1,6 @@
 // The command `gimlet`: gathers its words into the line that `command` performs.
+#![tactic(auto)]
+
 fn main() {
     let mut line = io::large_buffer();
     let filled = gather(&mut line);

@@ -1,5 +1,7 @@
 // Reads a file: its bytes once, front to back, into a lent list of numbers, one entry for each number of the file. Where each
 // module begins is noted in two more lists, in numbers and in bytes.
+#![tactic(auto)]
+
 ghost use Rattle.std.specs.Prelude.{◌≤◌, length};
 ghost use Rattle.meaning.specs.Reading.{most_modules};
 ghost use Rattle.read_file.specs.Answer.{Room, Decoded};
@@ -10,7 +12,7 @@ use read_parts::parts::keep_module;
 use read_parts::way::{Spot, Way, keep_count, last_kept};
 
 // A file that reads, with how many modules and numbers it has; or the refusal of 1 to 5, with its place.
-#[derive(Drop)]
+#[derive(Clone, Copy)]
 pub enum Reading {
     Read { modules: usize, numbers: usize },
     Refused { number: u16, place: usize },

@@ -4,7 +4,7 @@ ghost use Rattle.meaning.specs.Reading.{read_number};
 ghost use Rattle.read_parts.specs.Steps.{number_read};
 
 // What stands where a number is due.
-#[derive(Drop)]
+#[derive(Clone, Copy)]
 pub enum Number {
     Is { value: u16, next: usize },
     Refused { number: u16, place: usize },

@@ -7,14 +7,14 @@ ghost use Rattle.read_parts.specs.Steps.{Stands, Takes, Some, last_of};
 use crate::number::{Number, read_number};
 
 // Where reading stands: at which place of the file, and how many numbers are laid out by then.
-#[derive(Drop)]
+#[derive(Clone, Copy)]
 pub struct Spot {
     pub place: usize,
     pub filled: usize,
 }
 
 // Where a step has led, or the refusal.
-#[derive(Drop)]
+#[derive(Clone, Copy)]
 pub enum Way {
     On(Spot),
     Refused { number: u16, place: usize },

@@ -7,7 +7,7 @@ ghost use Rattle.bytes_out.specs.Filled.{Put};
 ghost use Rattle.rewrite_bytes.specs.Bodies.{Replacing, gate_of};
 
 // One of the four gates: its number, the net that it drives and its four arguments.
-#[derive(Drop)]
+#[derive(Clone, Copy)]
 pub struct Gate {
     pub kind: u16,
     pub net: u16,

@@ -6,7 +6,7 @@ ghost use Rattle.meaning.specs.Withdrawn.{withdrawn_verdict, rewrite_file, occur
 ghost use Rattle.rewrite_counts.specs.Ceilings.{verdict_by, OwnTable, Peopled, Netted, Sized};
 
 // Whether all modules keep to a rule; if not, which one breaks it.
-#[derive(Drop)]
+#[derive(Clone, Copy)]
 pub enum Kept {
     All,
     Broken(usize),

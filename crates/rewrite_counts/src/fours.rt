@@ -22,7 +22,7 @@ pub fn is_withdrawn(number: u16) -> bool
 }
 
 // Of a module: how many of its own occurrences refer to one of them, and how many it reaches, counted once for each time.
-#[derive(Drop)]
+#[derive(Clone, Copy)]
 pub struct Fours {
     pub own: u32,
     pub reached: u32,

@@ -3,7 +3,7 @@ ghost use Rattle.std.specs.Prelude.{◌≡◌, length};
 ghost use Rattle.row_lines.specs.Lines.{feed_at, bare_length, judged, found_as, found_in};
 
 // A row; or the index of a byte that does not belong in it; or how many values it has, where the module has another count of inputs.
-#[derive(Drop)]
+#[derive(Clone, Copy)]
 pub enum Line {
     Row,
     Byte(usize),
@@ -12,7 +12,7 @@ pub enum Line {
 
 // What stands next in a text: a row, with its length without its line end and with it; or none, since the line is bad as it says, or
 // since no line ends any more.
-#[derive(Drop)]
+#[derive(Clone, Copy)]
 pub enum Found {
     Row { bare: usize, whole: usize },
     Stop(Line),

@@ -1,5 +1,7 @@
 // A text of rows, as functions on slices: its lines to rows of values, and rows of outputs to lines of digits. What a line is and which
 // bytes stand for values is said in specs/.
+#![tactic(auto)]
+
 mod digits; // digits.rt: rows of outputs to lines
 mod judging; // judging.rt: whether a line is a row
 mod lines; // lines.rt: lines of a text to rows of values

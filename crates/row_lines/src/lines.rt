@@ -4,7 +4,7 @@ ghost use Rattle.row_lines.specs.Blocks.{Takes};
 use crate::judging::{Found, Line, find_row};
 
 // A block of rows: how many they are, how many values they have, where the text goes on, and how the line there is bad, if it is.
-#[derive(Drop)]
+#[derive(Clone, Copy)]
 pub struct Block {
     pub rows: usize,
     pub given: usize,

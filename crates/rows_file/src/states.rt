@@ -2,7 +2,7 @@
 use row_lines::Line;
 
 // The module that is run: its number, and how many inputs and outputs it has.
-#[derive(Drop)]
+#[derive(Clone, Copy)]
 pub struct Task {
     pub number: u16,
     pub inputs: usize,
@@ -11,7 +11,7 @@ pub struct Task {
 
 // How it ended: with all rows, and the occurrences that they ran. A line that is bad, or too long for the buffer, has so many lines in front of it; a refusal so many rows and values in
 // front of its block.
-#[derive(Drop)]
+#[derive(Clone, Copy)]
 pub enum Ended {
     Rows(u64, u64),
     Unread,
@@ -28,7 +28,7 @@ pub enum Ended {
 
 // How far it is. The text that is read and not taken stands in the buffer from a place up to another; the rest of it may be over. So many
 // rows, of so many values, are done, and ran so many occurrences.
-#[derive(Drop)]
+#[derive(Clone, Copy)]
 pub struct Progress {
     pub at: usize,
     pub filled: usize,
@@ -38,7 +38,7 @@ pub struct Progress {
     pub work: u64,
 }
 
-#[derive(Drop)]
+#[derive(Clone, Copy)]
 pub enum Step {
     On(Progress),
     Over(Ended),

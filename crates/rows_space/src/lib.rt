@@ -1,5 +1,7 @@
 // The entries that a block of rows is run in: as many as the module's room needs, in four sizes. The function that picks one calls itself: into
 // such a function LLVM takes no large array of another, so a small module does not pay for the stack of a large one.
+#![tactic(auto)]
+
 ghost use Rattle.std.specs.Prelude.{◌≡◌, ◌≤◌, ◌<◌, length};
 ghost use Rattle.meaning.specs.Layout.{each};
 ghost use Rattle.meaning.specs.Rows.{rows_of, row_outputs};

@@ -1,5 +1,7 @@
 // Running a module on the image of a checked file: its outputs for the values of its inputs, and its delays. Each is a run in scratch,
 // which is cleared again.
+#![tactic(auto)]
+
 ghost use Rattle.std.specs.Prelude.{◌≡◌};
 ghost use Rattle.meaning.specs.Family.{delay_in};
 ghost use Rattle.run_times.specs.Times.{one_each};

@@ -1,4 +1,6 @@
 // The library that others see: total functions on slices, with no `requires`. Each has its contract where it is defined.
+#![tactic(auto)]
+
 mod judged; // judged.rt: the check
 
 pub use answers::{Checked, Listed, Named, Run, Writing};

@@ -1,4 +1,6 @@
 // The tally of a module, counted on the image of a checked file: how many gates of each kind it reaches.
+#![tactic(auto)]
+
 ghost use Rattle.std.specs.Prelude.{◌≡◌, ◌+◌, ◌<◌, ◌^◌, replicate, get_or};
 ghost use Rattle.meaning.specs.Figures.{tally};
 ghost use Rattle.laws.specs.Figures.Tally.{total};
@@ -10,7 +12,7 @@ use gates::Kind;
 pub mod rows;
 
 // A record of sixteen gate counts, one a kind.
-#[derive(Drop)]
+#[derive(Clone, Copy)]
 pub struct Tally {
     pub counts: [u32; 16],
 }

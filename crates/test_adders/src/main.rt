@@ -1,5 +1,7 @@
 // Orders adders and prints what comes back: the answer, and for short buffers what they then hold. Each byte of a buffer is FF at
 // first, so that what is left as it was can be seen.
+#![tactic(auto)]
+
 use test_orders::print_line;
 
 fn main() {

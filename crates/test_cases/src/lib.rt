@@ -1,5 +1,7 @@
 // Stored cases on standard input: parts of bytes one after the other, each behind the count of its bytes. A count has two bytes, the
 // low one first.
+#![tactic(auto)]
+
 ghost use Rattle.std.specs.Prelude.{◌≤◌, ◌<◌, length};
 
 use libc::STDIN_FILENO;

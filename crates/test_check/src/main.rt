@@ -1,5 +1,7 @@
 // Checks stored files and prints a line for each: first 65,536 bytes of 0, then the cases of the input. There a case is the
 // count of its label's bytes, the label, the count of its file's bytes and the file; a count has two bytes, the low one first.
+#![tactic(auto)]
+
 use libc::{STDIN_FILENO, STDOUT_FILENO};
 use shelf::Checked;
 

@@ -2,6 +2,8 @@
 // call changed, its answer, and the first bytes that it wrote. In the input a case is the count of its label's bytes, the label, the
 // count of its file's bytes, the file, the module's number, and the lengths of scratch and of the output buffer; a number has two
 // bytes, the low one first.
+#![tactic(auto)]
+
 use answers::Writing;
 use libc::{STDIN_FILENO, STDOUT_FILENO};
 

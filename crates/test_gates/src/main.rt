@@ -1,5 +1,7 @@
 // Prints the value of each of the sixteen gates on all combinations of 0 to 3: a line for each, the gates in order and their
 // arguments counted up, the last one fastest. The values are those that a run of a module finds.
+#![tactic(auto)]
+
 ghost use Rattle.std.specs.Prelude.{◌≤◌, length};
 
 use gates::Kind;

@@ -1,5 +1,7 @@
 // Performs the command of each line of standard input, and prints the line in front of what it says. Words are parted by spaces; two
 // spaces side by side have an empty word between them. A line `show FILE` prints what a command before it has written.
+#![tactic(auto)]
+
 ghost use Rattle.std.specs.Prelude.{◌≤◌, length};
 
 use libc::{STDIN_FILENO, STDOUT_FILENO};

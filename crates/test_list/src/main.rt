@@ -1,4 +1,6 @@
 // Lists stored files, each behind a line with its label: first 65,536 bytes of 0, then the cases of the input, a label and a file each.
+#![tactic(auto)]
+
 use libc::STDOUT_FILENO;
 
 fn main() {

@@ -1,6 +1,8 @@
 // Listings of the written adder of width 1, 67 bytes. A line of the input is 128 bytes of gate names. Under the names of the first line the text
 // itself is printed, as docs/NDL.md has it; then the answers for a buffer that the text just fits and for one of a byte less, and for a
 // byte less of names. Of every other line the answer is printed.
+#![tactic(auto)]
+
 use answers::Writing;
 use libc::{STDIN_FILENO, STDOUT_FILENO};
 

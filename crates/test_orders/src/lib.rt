@@ -1,4 +1,6 @@
 // Prints what is ordered of a writer, and what comes back.
+#![tactic(auto)]
+
 ghost use Rattle.std.specs.Prelude.{◌<◌};
 
 use answers::Writing;

@@ -1,5 +1,7 @@
 // Reads files made here and prints what reading answers: the small rows of document 01 that concern reading, a file of 65,535
 // bytes, and the same with one byte more.
+#![tactic(auto)]
+
 use libc::STDOUT_FILENO;
 use read_file::Reading;
 

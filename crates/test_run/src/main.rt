@@ -2,6 +2,8 @@
 // module's number, the values, and the lengths of the scratch and of the output buffer. The source is 0 and a file, 1 and the width of an
 // adder, or 2 and that of a counter, which is written first. A number has two bytes, the low one first; label, file and values have the
 // count of their bytes in front.
+#![tactic(auto)]
+
 ghost use Rattle.std.specs.Prelude.{◌≤◌, length};
 
 use answers::Writing;

@@ -1,10 +1,12 @@
 // The desk in code: the numbers stand in a list, and three places say how far it goes and where the counts stand that grow.
+#![tactic(auto)]
+
 ghost use Rattle.std.specs.Prelude.{◌≡◌, ◌+◌, ◌≤◌, ◌<◌, length, get_or, set};
 ghost use Rattle.text_desk.specs.Desk.{raised, opened, opened_over, with_name, with_net};
 ghost use Rattle.text_desk.specs.Paper.{desk_of, Testable, Raisable, Opening, Opens, Naming, Netting, Puts};
 
 // How many numbers there are, and where the count of a list of nets and of the list of occurrences stand.
-#[derive(Drop)]
+#[derive(Clone, Copy)]
 pub struct Marks {
     pub at: usize,
     pub list: usize,

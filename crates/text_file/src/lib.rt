@@ -1,4 +1,6 @@
 // From what reading a text gives to the file: its refusal, or 1, 6 to 17 and 22.
+#![tactic(auto)]
+
 mod filing; // filing.rt: from the numbers to the answer
 
 ghost use Rattle.std.specs.Prelude.{length};

@@ -1,5 +1,7 @@
 // The line of a text in which a place stands, so that a refusal can show it: how many lines end above, how many bytes stand left of the place,
 // and where the line begins and ends. Which bytes end a line is said in specs/.
+#![tactic(auto)]
+
 ghost use Rattle.std.specs.Prelude.{◌≡◌, ◌+◌, ◌<◌, ◌≤◌, min, length, drop};
 ghost use Rattle.text_lines.specs.Lines.{ends_line, bytes_left, rest_of_line, indent_of, excerpt_of, LineOf, Shows};
 
@@ -38,7 +40,7 @@ fn line_end(text: &[u8], from: usize) -> usize
     i
 }
 
-#[derive(Drop)]
+#[derive(Clone, Copy)]
 pub struct Line {
     pub above: usize,
     pub left: usize,
@@ -80,7 +82,7 @@ pub fn line_of(text: &[u8], place: usize) -> Line
 }
 
 // What is shown of a line: at most 72 bytes, and of those left of the place 40 where there are more than 60.
-#[derive(Drop)]
+#[derive(Clone, Copy)]
 struct Shown {
     from: usize,
     to: usize,

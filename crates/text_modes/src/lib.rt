@@ -1,4 +1,6 @@
 // Kinds of bytes and stages of reading as numbers; and where an atom ends.
+#![tactic(auto)]
+
 ghost use Rattle.std.specs.Prelude.{◌≡◌, ◌+◌, ◌≤◌, ◌<◌, length, drop};
 ghost use Rattle.meaning.specs.ListForm.{kind_of};
 ghost use Rattle.meaning.specs.ListCall.{word};

@@ -1,5 +1,7 @@
 // The names of a text, numbered in order of first appearance below a root of their own: a tree in one list, four entries a node
 // (specs/Tree.antt). A letter costs at most as many steps as there are letters, so there is no text that is bad for it.
+#![tactic(auto)]
+
 ghost use Rattle.std.specs.Prelude.{◌≡◌, ◌<◌};
 ghost use Rattle.meaning.specs.ListForm.{capital};
 ghost use Rattle.text_names.specs.Tree.{longer, word_at, Book, Sought, Reached};
@@ -64,7 +66,7 @@ fn step(tree: &mut [u32], count: usize, n: usize, c: u8) -> usize
 }
 
 // A node, and how many there are.
-#[derive(Drop)]
+#[derive(Clone, Copy)]
 pub struct Reach {
     pub node: usize,
     pub count: usize,
@@ -95,7 +97,7 @@ fn walk(name: &[u8], tree: &mut [u32], root: usize, count: usize) -> Reach
 }
 
 // What a name is given, and how many nodes there are.
-#[derive(Drop)]
+#[derive(Clone, Copy)]
 pub struct Given {
     pub number: usize,
     pub count: usize,

@@ -1,4 +1,6 @@
 // A text in the published list form, read to the numbers of its file: one pass, part by part.
+#![tactic(auto)]
+
 mod gates; // gates.rt: the gates' names, known from the first
 mod turns; // turns.rt: one part
 
@@ -8,7 +10,7 @@ use crate::turns::State;
 use text_desk::Marks;
 
 // 0 and how many numbers there are; or 25 or 26 and the place.
-#[derive(Drop)]
+#[derive(Clone, Copy)]
 pub struct Extent {
     pub number: u16,
     pub place: usize,

@@ -9,7 +9,7 @@ use text_names::{grown, number};
 // The mode, the marks on the desk, how many names and nets are known, the root of the module's nets, and how many nodes the tree of
 // names has. The mode is as wide as the others: behind a byte the rest of its word would be copied at each part, in pieces for which a
 // processor has to wait.
-#[derive(Drop)]
+#[derive(Clone, Copy)]
 pub struct State {
     pub mode: usize,
     pub marks: Marks,
@@ -20,7 +20,7 @@ pub struct State {
 }
 
 // 0 and where reading goes on; or a refusal.
-#[derive(Drop)]
+#[derive(Clone, Copy)]
 pub struct Turn {
     pub number: u16,
     pub next: usize,

@@ -1,6 +1,8 @@
 // Names as they stand in a text of the list form: the name of the module at a position, the position of the module of a name, and the atoms
 // of an occurrence. Lists are found by their brackets, atoms by counting (specs/Seeking.antt); that these are the names of what the text
 // lists is a law (specs/Listed.antt).
+#![tactic(auto)]
+
 ghost use Rattle.std.specs.Prelude.{◌≡◌, map, ◌+◌, ◌≤◌, ◌<◌, ◌^◌, eqb, length, drop};
 ghost use Rattle.meaning.specs.ListForm.{kind_of, capital};
 ghost use Rattle.meaning.specs.ListNumbers.{same_name};
@@ -12,7 +14,7 @@ use text_names::capital;
 
 // Where the search for a list stands: whether its opening bracket is met, how many brackets are open, and how many lists of the level are
 // still to be passed.
-#[derive(Drop)]
+#[derive(Clone, Copy)]
 struct Cursor {
     met: bool,
     depth: usize,

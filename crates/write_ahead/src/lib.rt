@@ -1,4 +1,6 @@
 // The look-ahead to order (docs/ADDER.md): module 41, which gives the carry behind each bit, and the modules 43 and 42 that it is made of.
+#![tactic(auto)]
+
 pub mod carries;
 pub mod chain;
 pub mod rows;

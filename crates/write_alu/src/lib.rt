@@ -1,5 +1,7 @@
 // The ALU to order (docs/ALU.md): module 48, and the file with the control, the cell and the carry network. A place in the list of bytes is
 // named after what is to stand there.
+#![tactic(auto)]
+
 ghost use Rattle.std.specs.Prelude.{◌+◌, ◌*◌, ◌≤◌, ◌≡◌, length};
 ghost use Rattle.meaning.specs.Layout.{each, occurrence_numbers, module_numbers, number_bytes, encode};
 ghost use Rattle.meaning.specs.Alu.{copy_count, carries_ahead, alu_module, alu};

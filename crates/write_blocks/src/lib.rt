@@ -1,4 +1,6 @@
 // The blocks of a counter (docs/COUNTER.md, 'Blocks'). The block of level j counts 2^j bits.
+#![tactic(auto)]
+
 pub mod choice;
 mod kinds;
 

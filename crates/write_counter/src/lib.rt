@@ -1,5 +1,7 @@
 // The leading-zero counter to order (docs/COUNTER.md): module 32, and the file with its blocks. A place in the list of bytes is
 // named after what is to stand there. No number of a counter passes 127: each is a byte as it stands.
+#![tactic(auto)]
+
 ghost use Rattle.std.specs.Prelude.{◌≤◌, true, [], ◌∷◌, length};
 ghost use Rattle.meaning.specs.Layout.{each, occurrence_numbers, module_numbers, encode};
 ghost use Rattle.meaning.specs.Counter.{join_parts, counter_module, counter as counterOf};
@@ -14,7 +16,7 @@ use write_pieces::rows::{head, row};
 
 // What module 32 of a width comes to: how many occurrences it has, on which net its last count begins, and how many binary digits
 // the width has, which is the number of its outputs and of the file's modules.
-#[derive(Drop)]
+#[derive(Clone, Copy)]
 struct Shape {
     occurrences: u8,
     last: u8,

@@ -1,5 +1,7 @@
 // The propagate-generate adder to order (docs/ADDER.md): module 40, and the file with the look-ahead. A place in the list of bytes is named
 // after what is to stand there.
+#![tactic(auto)]
+
 pub mod rows;
 
 ghost use Rattle.std.specs.Prelude.{◌+◌, ◌*◌, ◌≤◌, length};

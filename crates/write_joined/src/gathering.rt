@@ -4,7 +4,7 @@ ghost use Rattle.write_joined.specs.Gathering.{Gathering, Gathers, At, Takes};
 use write_pieces::bytes::copy;
 
 // How many modules are gathered, and the place behind their bytes.
-#[derive(Drop)]
+#[derive(Clone, Copy)]
 pub struct Gathered {
     pub modules: usize,
     pub at: usize,

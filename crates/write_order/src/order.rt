@@ -14,7 +14,7 @@ use crate::answer::answer;
 use answers::Writing;
 
 // What is written to order.
-#[derive(Drop)]
+#[derive(Clone, Copy)]
 enum Order {
     Adder,
     FastAdder,

@@ -1,4 +1,6 @@
 // Pieces of a file that is written to order. Each is written at a place; the answer is the place behind the piece.
+#![tactic(auto)]
+
 pub mod bytes;
 pub mod numbers;
 pub mod rows;

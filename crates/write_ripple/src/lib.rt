@@ -1,5 +1,7 @@
 // The ripple adder to order (document 01, 'Written modules'): a function for each of its modules. A place in the list of bytes is
 // named after what is to stand there. Only the numbers of module 18 pass 127: those of the others are bytes as they stand.
+#![tactic(auto)]
+
 ghost use Rattle.std.specs.Prelude.{◌≤◌, length};
 ghost use Rattle.meaning.specs.Layout.{each, occurrence_numbers, module_numbers, number_bytes, encode};
 ghost use Rattle.meaning.specs.Adder.{adder as adderOf, ripple_adder, full_adder, half_adder};

@@ -1,19 +1,21 @@
 // The trees of bits that a look-ahead goes over (docs/ADDER.md, 'Which trees'). A tree is named by what it grows from and never stored:
 // its parts are named the same way.
+#![tactic(auto)]
+
 ghost use Rattle.std.specs.Prelude.{◌+◌, ◌≤◌, ◌≡◌};
 ghost use Rattle.meaning.specs.FastAdder.{leaves as leaves_of, height as heightOf};
 ghost use Rattle.write_trees.specs.Trees.{tree_of, Sound, Parted};
 
 // The largest tree whose G is there at time `late` and in which a carry passes at most `height` nodes; or what a carry goes over from a step
 // of the chain on.
-#[derive(Drop)]
+#[derive(Clone, Copy)]
 pub enum Tree {
     Grown { late: u8, height: u8 },
     Spine { step: u8, height: u8 },
 }
 
 // A single bit, or the three trees of a node, the lowest bits in x.
-#[derive(Drop)]
+#[derive(Clone, Copy)]
 pub enum Parts {
     Leaf,
     Node { x: Tree, y: Tree, z: Tree },
