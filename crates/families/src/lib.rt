@@ -1,9 +1,12 @@
 // A chip family: the delays of its gates.
+
+#![tactic(auto)]
+
 ghost use Rattle.std.specs.Prelude.{◌≡◌};
 ghost use Rattle.meaning.specs.Family.{unit_family, delay_in, family_of};
 
 // Sixteen delays, in gate order.
-#[derive(Drop)]
+#[derive(Clone, Copy)]
 pub struct Family {
     pub delays: [u8; 16],
 }
