@@ -1,4 +1,5 @@
 // A chip family: the delays of its gates.
+
 #![tactic(auto)]
 
 ghost use Rattle.std.specs.Prelude.{◌≡◌};

@@ -201,7 +201,7 @@ any-inside own (o ∷ os) (there i) over = go (overrides own o) (any-inside own 
     go false e = e
 
 thirteen-inside :
-    (own : List Module) (p : ℕ) {m : Module} {later ms : List Module}
+    (own : List Module) {m : Module} {later : List Module} (p : ℕ) {ms : List Module}
     → InFrontOf m later ms
     → any_overrides own m.occurrences ≡ true
     → GivesThirteen (overridden_verdict own p ms)

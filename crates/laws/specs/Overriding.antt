@@ -8,7 +8,7 @@ use Rattle.meaning.specs.Boxlist.{box, F, assoc, is_box}
 use Rattle.meaning.specs.Rules.{Unresolved}
 use Rattle.meaning.specs.Verdict.{good, file_verdict}
 use Rattle.meaning.specs.Shelves.{lacking, joined}
-use Rattle.laws.specs.WellFormed.{Body, done, step, Accepted, some}
+use Rattle.laws.specs.WellFormed.{Body, done, step, Accepted, none, some}
 use Rattle.laws.specs.Accepted.{good-accepted}
 use Rattle.laws.specs.Members.{here, there, in-none}
 use Rattle.laws.specs.Tests.{if_false}
@@ -50,6 +50,7 @@ resolved_in (step ok rest) (there i) = resolved_in rest i
 
 -- No occurrence of an accepted list is unresolved.
 accepted-resolved : {m : Module} {later ms : List Module} {o : Occurrence} → Accepted ms → InFrontOf m later ms → o ∈ m.occurrences → ¬ (Unresolved o later)
+accepted-resolved none f i = elim f [ ]
 accepted-resolved (some ok rest) first i = resolved_in ok.body i
 accepted-resolved (some ok rest) (further f) i = accepted-resolved rest f i
 

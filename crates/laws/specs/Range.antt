@@ -20,6 +20,7 @@ module _ (k : ℕ) where
       → Outcome (occurrence_rules p os signals later) (refused n q)
       → InRange k n q
   unfolding occurrence_rules
+  occurrences_range p [] signals later h o = elim o [ ]
   occurrences_range p (o ∷ os) signals later h (broken b) = omega arith
   occurrences_range p (o ∷ os) signals later h (kept _ (broken b)) = omega arith
   occurrences_range p (o ∷ os) signals later h (kept _ (kept _ (broken b))) = omega arith
@@ -47,10 +48,12 @@ module _ (k : ℕ) where
       last : {n q : ℕ} {A B : Type 0} → Outcome (rule 15 p A ∷ rule 16 p B ∷ []) (refused n q) → InRange k n q
       last (broken b) = omega arith
       last (kept _ (broken b)) = omega arith
+      last (kept _ (kept _ o)) = elim o [ ]
 
   modules_range :
       {n q : ℕ} (p : ℕ) (ms : List Module) → p + length ms ≤ k → Outcome (modules_rules p ms) (refused n q) → InRange k n q
   unfolding modules_rules
+  modules_range p [] h o = elim o [ ]
   modules_range p (m ∷ later) h o =
       refused-either (module_rules p m later) (modules_rules (suc p) later)
       (module_range p m later (omega arith))
@@ -60,10 +63,12 @@ module _ (k : ℕ) where
   sizes_range :
       {n q : ℕ} (p : ℕ) (ms : List Module) → p + length ms ≤ k → Outcome (size_rules p ms) (refused n q) → InRange k n q
   unfolding size_rules
+  sizes_range p [] h o = elim o [ ]
   sizes_range p (m ∷ later) h o = refused-either (size_rules (suc p) later) _ (sizes_range (suc p) later (omega arith)) last o
     where
       last : {n q : ℕ} {A : Type 0} → Outcome (rule 17 p A ∷ []) (refused n q) → InRange k n q
       last (broken b) = omega arith
+      last (kept _ o) = elim o [ ]
 
 pub refusal_in_range : (ms : List Module) {n p : ℕ} → file_verdict ms ≡ refused n p → InRange (length ms) n p
 unfolding file_rules

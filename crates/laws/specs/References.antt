@@ -7,7 +7,7 @@ use Rattle.meaning.specs.Syntax.{Occurrence, Module}
 use Rattle.meaning.specs.Gates.{is_gate}
 use Rattle.meaning.specs.Boxlist.{box, F, assoc}
 use Rattle.meaning.specs.Evaluation.{Env, look_all, pairs, Meaning, apply, walk, run_module, run}
-use Rattle.laws.specs.WellFormed.{Reference, to_gate, to_module, Body, done, step, Accepted, some}
+use Rattle.laws.specs.WellFormed.{Reference, to_gate, to_module, Body, done, step, Accepted, none, some}
 use Rattle.laws.specs.Standing.{Stands, here, there}
 use Rattle.laws.specs.Suffix.{run_searches}
 
@@ -82,6 +82,7 @@ references_resolve (step o os) = also (go o.reference) (references_resolve os)
 -- The references of a module of an accepted list are found in the list.
 found_resolves :
     {ms : List Module} {number : ℕ} {m : Module} → Accepted ms → Stands number m ms → Refer (Resolves ms) m.occurrences
+found_resolves none s = elim s [ ]
 found_resolves (some {m} {later} ok rest) (here h) = refer_map (resolves_behind m later) (references_resolve ok.body)
 found_resolves (some {m = other} {later} ok rest) (there h s) = refer_map (resolves_behind other later) (found_resolves rest s)
 
@@ -105,6 +106,7 @@ module _ {A : Type 0} (unset : A) (gate_meaning : Meaning A) where
       → (vs : List A)
       → run unset gate_meaning ms number vs ≡ run_module unset gate_meaning (run unset gate_meaning ms) m vs
   unfolding run
+  run_in_whole none s vs = elim s [ ]
   run_in_whole (some {m} {later} ok rest) (here h) vs =
       let same = refer_map (agree-behind m later ok.unique) (references_resolve ok.body) in
       rw h (sym (run_module-agree unset m same vs))

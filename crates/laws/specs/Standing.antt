@@ -5,7 +5,7 @@ use Rattle.std.proofs.Common.{subst, eqb-true, arith}
 use Rattle.meaning.specs.Lists.{All, more}
 use Rattle.meaning.specs.Syntax.{Module}
 use Rattle.meaning.specs.Boxlist.{box, assoc}
-use Rattle.laws.specs.WellFormed.{ModuleOk, Accepted, some}
+use Rattle.laws.specs.WellFormed.{ModuleOk, Accepted, none, some}
 
 -- A module is the first in a list that has the number.
 pub data Stands (number : ℕ) (m : Module) : List Module → Type 0 where
@@ -39,10 +39,12 @@ pub keeps-rules :
     → Accepted ms
     → Stands number m ms
     → (later : List Module) × ModuleOk m later
+keeps-rules none s = elim s [ ]
 keeps-rules (some {later} ok rest) (here h) = (later, ok)
 keeps-rules (some ok rest) (there h s) = keeps-rules rest s
 
 -- What holds of every module of a list holds of one that stands in it.
 pub holds-standing : {P : Module → Type 0} {number : ℕ} {m : Module} {ms : List Module} → All P ms → Stands number m ms → P m
+holds-standing Rattle.meaning.specs.Lists.none s = elim s [ ]
 holds-standing (more p rest) (here h) = p
 holds-standing (more p rest) (there h s) = holds-standing rest s

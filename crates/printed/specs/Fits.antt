@@ -1,31 +1,30 @@
--- What a printed text lists is within the ceilings of reading.
-use Rattle.std.specs.Prelude.{ℕ, ◌+◌, ◌≤◌, ◌≡◌, refl, Bool, true, false, cond, ◌||◌, List, [], ◌∷◌, ◌++◌, map, ltb, length, get_or}
+-- The names that a printed text has are short and few. That what it lists is within the ceilings of reading is in proofs/Fits.antt.
+use Rattle.std.specs.Prelude.{ℕ, ◌≤◌, ◌≡◌, refl, Bool, true, false, cond, ◌||◌, List, [], ◌∷◌, ◌++◌, map, ltb, length, get_or}
 use Rattle.std.proofs.Common.{arith, sym, ap, ◌∙◌, true≢false, ltb-true, ltb-false}
 use Rattle.std.proofs.lemmas.List.{length-map}
 use Rattle.meaning.specs.Lists.{All, none, more}
 use Rattle.meaning.specs.Syntax.{Occurrence, Module}
 use Rattle.meaning.specs.Gates.{is_gate}
-use Rattle.meaning.specs.Ceilings.{Small, NetsWithin, OccurrenceWithin, ModuleWithin, ModulesWithin}
+use Rattle.meaning.specs.Ceilings.{Small, NetsWithin, OccurrenceWithin, ModuleWithin}
 use Rattle.meaning.specs.Ndl.{net_text}
 use Rattle.laws.specs.Ndl.Long.{long_numeral}
 use Rattle.meaning.specs.ListForm.{Name}
-use Rattle.meaning.specs.ListNumbers.{gate_names, same_name, among, entered, each_name, occurrence_nets, nets_of, apart_from_gates, mentions_of, mentions}
-use Rattle.meaning.specs.ListLimits.{Short, NamesFit, OccurrenceFits, ModuleFits, ListFits}
+use Rattle.meaning.specs.ListNumbers.{gate_names, same_name, among, entered, each_name, occurrence_nets, nets_of, apart_from_gates}
+use Rattle.meaning.specs.ListLimits.{Short, NamesFit}
 use Rattle.meaning.specs.ListPrint.{module_name, name_of}
 use Rattle.laws.specs.Texts.PrintLong.{gate-letters}
 use Rattle.laws.specs.Texts.Numbering.{or-true, same-name}
 use Rattle.renaming.specs.Sizes.{few_bytes}
-use Rattle.printed.specs.Listed.{listed_occurrence, listed_module, listed}
+use Rattle.printed.specs.Listed.{listed_occurrence, listed_module}
 use Rattle.printed.specs.Few.{few-entered, called_from, called_in, called-count}
 use Rattle.printed.specs.Numbers.{gate-known}
-use Rattle.printed.specs.ReadBack.{NoGate}
 
-all_append : {A : Type 0} {P : A → Type 0} {xs ys : List A} → All P xs → All P ys → All P (xs ++ ys)
+pub all_append : {A : Type 0} {P : A → Type 0} {xs ys : List A} → All P xs → All P ys → All P (xs ++ ys)
 all_append none ys = ys
 all_append (more x xs) ys = more x (all_append xs ys)
 
 -- What holds of each name of a list holds of a name that stands in it.
-all_found : {P : Name → Type 0} {xs : List Name} → All P xs → (a : Name) → among a xs ≡ true → P a
+pub all_found : {P : Name → Type 0} {xs : List Name} → All P xs → (a : Name) → among a xs ≡ true → P a
 unfolding among
 all_found none a h = absurd (true≢false (sym h))
 all_found {P} (more {x} {xs} p ps) a h = go (same_name a x) refl h (all_found ps a)
@@ -35,13 +34,13 @@ all_found {P} (more {x} {xs} p ps) a h = go (same_name a x) refl h (all_found ps
     go false e k later = later k
 
 -- No name is longer than seven letters, and 32 are allowed.
-short-named : (n : ℕ) → Small n → Short (module_name n)
+pub short-named : (n : ℕ) → Small n → Short (module_name n)
 short-named n small = omega (arith, long_numeral n small, (few_bytes n).1)
 
 net-short : (n : ℕ) → Small n → Short (net_text n)
 net-short n small = omega (arith, long_numeral n small, (few_bytes n).1)
 
-name-short : (n : ℕ) → Small n → Short (name_of n)
+pub name-short : (n : ℕ) → Small n → Short (name_of n)
 unfolding name_of
 name-short n small = go (ltb n 16) refl
   where
@@ -53,14 +52,8 @@ nets-short : (nets : List ℕ) → All Small nets → All Short (map net_text ne
 nets-short [] none = none
 nets-short (n ∷ nets) (more small smalls) = more (net-short n small) (nets-short nets smalls)
 
-nets-fit : (nets : List ℕ) → NetsWithin nets → NamesFit (map net_text nets)
+pub nets-fit : (nets : List ℕ) → NetsWithin nets → NamesFit (map net_text nets)
 nets-fit nets w = record { count = rw length-map w.count; short = nets-short nets w.numbers }
-
-occurrences-fit : (os : List Occurrence) → All OccurrenceWithin os → All OccurrenceFits (map listed_occurrence os)
-occurrences-fit [] none = none
-occurrences-fit (o ∷ os) (more w ws) =
-    more (record { drives = nets-fit o.drives w.drives; refers = name-short o.refers w.refers; takes = nets-fit o.takes w.takes })
-    (occurrences-fit os ws)
 
 -- Nets are N and a number below 16,384.
 abbrev NetName : Name → Type 0
@@ -82,29 +75,15 @@ module_called m w =
     all_append (nets-called m.inputs w.inputs.numbers)
     (all_append (nets-called m.outputs w.outputs.numbers) (occurrences-called m.occurrences w.occurrences))
 
-nets-few : (m : Module) → ModuleWithin m → length (entered [] (nets_of (listed_module m))) ≤ 16384
+pub nets-few : (m : Module) → ModuleWithin m → length (entered [] (nets_of (listed_module m))) ≤ 16384
 nets-few m w =
     omega (arith, few-entered (nets_of (listed_module m)) (called_from 78 0 16384) (all_found (module_called m w)), called-count 78 0 16384)
 
-modules-fit : (ms : List Module) → All ModuleWithin ms → All ModuleFits (listed ms)
-modules-fit [] none = none
-modules-fit (m ∷ ms) (more w ws) =
-    more {x = listed_module m}
-    (record {
-      name = short-named m.number w.number;
-      inputs = nets-fit m.inputs w.inputs;
-      outputs = nets-fit m.outputs w.outputs;
-      count = rw length-map w.count;
-      occurrences = occurrences-fit m.occurrences w.occurrences;
-      nets = nets-few m w;
-    })
-    (modules-fit ms ws)
-
 -- Modules are M and a number from 16 to 16,383; names of gates do not count.
-abbrev ModuleName : Name → Type 0
+abbrev pub ModuleName : Name → Type 0
 ModuleName a = among a gate_names ≡ false → among a (called_from 77 16 16368) ≡ true
 
-apart-found : (a : Name) (xs : List Name) → among a (apart_from_gates xs) ≡ true → (among a xs ≡ true) × (among a gate_names ≡ false)
+pub apart-found : (a : Name) (xs : List Name) → among a (apart_from_gates xs) ≡ true → (among a xs ≡ true) × (among a gate_names ≡ false)
 unfolding apart_from_gates among
 apart-found a [] h = absurd (true≢false (sym h))
 apart-found a (x ∷ xs) h = go (among x gate_names) refl h (apart-found a xs)
@@ -120,38 +99,13 @@ apart-found a (x ∷ xs) h = go (among x gate_names) refl h (apart-found a xs)
         split true i k = (refl, ap (λ (b : Name). among b gate_names) (same-name a x i) ∙ e)
         split false i k = later k
 
-module_number : (n : ℕ) → Small n → is_gate n ≡ false → among (module_name n) (called_from 77 16 16368) ≡ true
+pub module_number : (n : ℕ) → Small n → is_gate n ≡ false → among (module_name n) (called_from 77 16 16368) ≡ true
 module_number n small e = let high : 16 ≤ n = ltb-false n 16 e in called_in 77 16 16368 n high (omega arith)
 
-referred-number : (n : ℕ) → Small n → ModuleName (name_of n)
+pub referred-number : (n : ℕ) → Small n → ModuleName (name_of n)
 unfolding name_of
 referred-number n small = go (ltb n 16) refl
   where
     go : (b : Bool) → ltb n 16 ≡ b → ModuleName (cond b (get_or gate_names n []) (module_name n))
     go true e h = absurd (true≢false (sym (gate-known n (ltb-true n 16 e)) ∙ h))
     go false e h = module_number n small e
-
-references_called : (os : List Occurrence) → All OccurrenceWithin os → All ModuleName (map (λ c. c.refers) (map listed_occurrence os))
-references_called [] none = none
-references_called (o ∷ os) (more w ws) = more (referred-number o.refers w.refers) (references_called os ws)
-
-mentions-called : (ms : List Module) → All ModuleWithin ms → All NoGate ms → All ModuleName (each_name mentions_of (listed ms))
-unfolding each_name
-mentions-called [] none none = none
-mentions-called (m ∷ ms) (more w ws) (more high highs) =
-    all_append (more (λ h. module_number m.number w.number high) (references_called m.occurrences w.occurrences))
-    (mentions-called ms ws highs)
-
-names-few : (ms : List Module) → All ModuleWithin ms → All NoGate ms → length (entered [] (mentions (listed ms))) ≤ 16368
-unfolding mentions
-names-few ms w high =
-    let said : List Name = each_name mentions_of (listed ms) in
-    omega (
-      arith,
-      few-entered (apart_from_gates said) (called_from 77 16 16368)
-          (λ a h. let r = apart-found a said h in all_found (mentions-called ms w high) a r.0 r.1),
-      called-count 77 16 16368,
-    )
-
-pub listed-fits : (ms : List Module) → ModulesWithin ms → All NoGate ms → ListFits (listed ms)
-listed-fits ms w high = record { count = rw length-map w.count; modules = modules-fit ms w.modules; names = names-few ms w.modules high }

@@ -1,4 +1,4 @@
--- Printing a file and reading the text back.
+-- Printing a file and reading the text back: what is said of it. proofs/ has what rests on how a file is listed and numbered.
 pub mod Listed
 pub mod Words
 pub mod InGrammar

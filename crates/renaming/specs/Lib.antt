@@ -1,4 +1,4 @@
--- Files that differ in their numbers only, and that they answer alike.
+-- Files that differ in their numbers only. That they answer alike is in proofs/.
 pub mod Renamed
 pub mod Nets
 pub mod Searches

@@ -1,22 +1,20 @@
--- The check gives a file and the same file under other numbers the same refusal at the same place, or accepts both.
-use Rattle.std.specs.Prelude.{ℕ, suc, ◌≡◌, ◌&&◌, leb, length}
+-- What a reference to a module comes to under other numbers. That the check gives the same refusal at the same place, or accepts both,
+-- is in proofs/Verdicts.antt.
+use Rattle.std.specs.Prelude.{ℕ, ◌≡◌, ◌&&◌, length}
 use Rattle.std.proofs.Math.Path.{refl, ap₂}
-use Rattle.std.proofs.Common.{sym, ap, ◌∙◌}
+use Rattle.std.proofs.Common.{◌∙◌}
 use Rattle.std.proofs.Math.Bool.{cond}
-use mathlib.Core.List.{List, [], ◌∷◌, ◌++◌, map, map-append}
+use mathlib.Core.List.{List, map}
 use Rattle.std.proofs.Math.Dec.{eqb}
 use Rattle.std.proofs.lemmas.List.{length-map}
 use Rattle.meaning.specs.Syntax.{Occurrence, Module}
 use Rattle.meaning.specs.Gates.{is_gate, gate}
 use Rattle.meaning.specs.Boxlist.{Found, assoc, is_box, submodule_okp, arity_okp}
-use Rattle.meaning.specs.Limits.{driven, body_size, expanded_size, most_size}
-use Rattle.meaning.specs.Verdict.{good, keep, and_then, occurrence_verdict, body_verdict, module_verdict, modules_verdict, sizes_verdict, file_verdict}
-use Rattle.renaming.specs.Renamed.{OneToOne, KeepsGates, rename_occurrence, rename_module, Renamed, none, more}
-use Rattle.renaming.specs.Nets.{disjoint_renamed, duplicates_renamed, subset_renamed, driven_renamed, net_count_renamed}
-use Rattle.renaming.specs.Searches.{gate-stays, referred, FoundAs, both, neither, found_renamed}
-use Rattle.renaming.specs.Figures.{Same, size_renamed, expanded_size_renamed}
+use Rattle.renaming.specs.Renamed.{OneToOne, KeepsGates, Renamed}
+use Rattle.renaming.specs.Searches.{referred, FoundAs, both, neither, found_renamed}
+use Rattle.renaming.specs.Figures.{Same}
 
-is_box_renamed : {number : ℕ → ℕ} {a b : Found} → FoundAs number a b → is_box b ≡ is_box a
+pub is_box_renamed : {number : ℕ → ℕ} {a b : Found} → FoundAs number a b → is_box b ≡ is_box a
 is_box_renamed (both net one) = refl
 is_box_renamed neither = refl
 
@@ -31,7 +29,7 @@ module _ (net : ℕ → ℕ) where
 
 module _ {number : ℕ → ℕ} (keeps : KeepsGates number) {ms ns : List Module} (renamed : Renamed number ms ns) where
   module _ {net : ℕ → ℕ} (one : OneToOne net) (place : ℕ) where
-    arity_renamed : (o : Occurrence) → arity_okp (number o.refers) (map net o.takes) (map net o.drives) ns ≡ arity_okp o.refers o.takes o.drives ms
+    pub arity_renamed : (o : Occurrence) → arity_okp (number o.refers) (map net o.takes) (map net o.drives) ns ≡ arity_okp o.refers o.takes o.drives ms
     unfolding arity_okp
     arity_renamed o =
         referred keeps Same (λ fn. eqb (gate fn).arity (length (map net o.takes)) && eqb 1 (length (map net o.drives)))
@@ -41,60 +39,3 @@ module _ {number : ℕ → ℕ} (keeps : KeepsGates number) {ms ns : List Module
         (record { at = λ fn. submodule_renamed net (found_renamed keeps renamed fn) o.takes o.drives }) o.refers
         ∙ ap₂ (λ (t d : ℕ). cond (is_gate o.refers) (eqb (gate o.refers).arity t && eqb 1 d) (submodule_okp (assoc o.refers ms) o.takes o.drives))
         (length-map o.takes net) (length-map o.drives net)
-
-    occurrence_renamed : (o : Occurrence) (signals : List ℕ)
-        → occurrence_verdict place (rename_occurrence net number o) (map net signals) ns ≡ occurrence_verdict place o signals ms
-    unfolding occurrence_verdict
-    occurrence_renamed o signals =
-        rw (
-          duplicates_renamed one o.drives,
-          disjoint_renamed one o.drives signals,
-          subset_renamed one o.takes signals,
-          arity_renamed o,
-          gate-stays keeps o.refers,
-          is_box_renamed (found_renamed keeps renamed o.refers),
-        )
-
-    body_renamed : (os : List Occurrence) (signals : List ℕ)
-        → body_verdict place (map (rename_occurrence net number) os) (map net signals) ns ≡ body_verdict place os signals ms
-    unfolding body_verdict
-    body_renamed [] signals = refl
-    body_renamed (o ∷ os) signals =
-        ap₂ and_then (occurrence_renamed o signals)
-        (ap (λ (s : List ℕ). body_verdict place (map (rename_occurrence net number) os) s ns) (sym (map-append net o.drives signals))
-        ∙ body_renamed os (o.drives ++ signals))
-
-    module_renamed : (m : Module) → module_verdict place (rename_module net number m) ns ≡ module_verdict place m ms
-    unfolding module_verdict
-    module_renamed m =
-        rw (
-          gate-stays keeps m.number,
-          is_box_renamed (found_renamed keeps renamed m.number),
-          duplicates_renamed one m.inputs,
-          duplicates_renamed one m.outputs,
-          disjoint_renamed one m.inputs m.outputs,
-          body_renamed m.occurrences m.inputs,
-          driven_renamed net number m.occurrences,
-          subset_renamed one m.outputs (driven m.occurrences),
-          net_count_renamed net number m,
-        )
-
-    size-stays : (m : Module)
-        → body_size (expanded_size ns) (map (rename_occurrence net number) m.occurrences) ≡ body_size (expanded_size ms) m.occurrences
-    size-stays m = size_renamed keeps (record { at = expanded_size_renamed keeps renamed }) net m.occurrences
-
-module _ {number : ℕ → ℕ} (keeps : KeepsGates number) where
-  modules_renamed : (place : ℕ) {ms ns : List Module} → Renamed number ms ns → modules_verdict place ns ≡ modules_verdict place ms
-  unfolding modules_verdict
-  modules_renamed place none = refl
-  modules_renamed place (more {m} net one rest) = ap₂ and_then (module_renamed keeps rest one place m) (modules_renamed (suc place) rest)
-
-  sizes_renamed : (place : ℕ) {ms ns : List Module} → Renamed number ms ns → sizes_verdict place ns ≡ sizes_verdict place ms
-  unfolding sizes_verdict
-  sizes_renamed place none = refl
-  sizes_renamed place (more {m} net one rest) =
-      ap₂ and_then (sizes_renamed (suc place) rest) (ap (λ (n : ℕ). keep 17 place (leb n most_size) good) (size-stays keeps rest one place m))
-
-  pub verdict_renamed : {ms ns : List Module} → Renamed number ms ns → file_verdict ns ≡ file_verdict ms
-  unfolding file_verdict
-  verdict_renamed renamed = ap₂ and_then (modules_renamed 0 renamed) (sizes_renamed 0 renamed)

@@ -69,7 +69,7 @@ module _ {A : Type 0} {none : A} where
   look-row zero n end = refl
   look-row (suc count) n end = absurd (omega arith)
   look-row zero n (value e rest) = absurd (omega arith)
-  look-row (suc count) n (value e rest) = cc (e, look-row count (omega arith) rest)
+  look-row {net = net} (suc count) n (value e rest) = cc (e, look-row {net = suc net} count (omega arith) rest)
 
   pub holds-left : {env : Env A} {net : ℕ} (xs ys : List A) → Holds none env net (xs ++ ys) → Holds none env net xs
   holds-left [] ys h = end

@@ -28,7 +28,7 @@ module _ (n : ℕ) (value : ℕ → Val) where
   rippled-further c s (suc a) b =
       let more : suc a + b ≡ suc (a + b) = omega arith in
       let on : s + suc a ≡ suc s + a = omega arith in
-      rw (more, on) (rippled-further _ (suc s) a b)
+      rw (more, on) (rippled-further (over gate_value c (value (n + 1 + s)) (value (n + 1 + s + n))) (suc s) a b)
 
   rippled-last :
       (c : Val) (s k : ℕ)

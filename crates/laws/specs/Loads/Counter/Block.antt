@@ -63,7 +63,7 @@ module _ {later : ℕ → Loads} {i : ℕ} (block : BlockLoads later i) where
       + row net (ands i) (suc i))
   unfolding net_load join_block places_load block_number
   join-load net =
-      rw (module_number, net_load-append)
+      rw (module_number, net_load-append later)
       (omega (
         arith,
         block-drives net (low i),

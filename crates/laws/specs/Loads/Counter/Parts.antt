@@ -66,7 +66,7 @@ module _ {later : ℕ → Loads} (k n : ℕ) (blocks : (i : ℕ) → i < k → B
           length-up_from high count,
           length-up_from (ors + count) (j - count),
         ) in
-        rw (part-drives high ors j count short, net_load-append)
+        rw (part-drives high ors j count short, net_load-append later)
         (omega (arith, in_part.outputs net nets (ors + j) size, choose-load later net (ors + j) high below ands ors count))
 
     -- Before the new count no net is "empty", and the parts above load only bits that are left.

@@ -134,6 +134,7 @@ box-agrees :
     → Stands number m ms
     → leval_box leval-t (box m) ≡ figures ms number
 unfolding loads_inside largest_load
+box-agrees none agrees s = elim s [ ]
 box-agrees (some {m} ok rest) agrees (here h) = rw h (box-loads (agrees-behind ok.unique agrees) m ok)
 box-agrees (some ok rest) agrees (there h s) = rw h (box-agrees rest (agrees-behind ok.unique agrees) s)
 
