@@ -3,14 +3,14 @@ use Rattle.std.proofs.Common.{◌≤◌, arith, rules}
 use Rattle.bars.proofs.print_bar.Statement.{statement}
 use Rattle.bars.proofs.print_bar.Tie as tie
 
-abbrev invariant-loop : tie.invariant-loop
+abbrev invariant-loop : tie.invariant-loop-left
 invariant-loop marks left₀ left = left ≤ marks
 
-abbrev decreases-loop : tie.decreases-loop
+abbrev decreases-loop : tie.decreases-loop-left
 decreases-loop marks left₀ left = left
 
-pub print-bar-spec : {M : Type 1} → statement M
-print-bar-spec =
+pub print_bar_spec : {M : Type 1} → statement M
+print_bar_spec =
     tie.close
     (tie.spec
     invariant-loop

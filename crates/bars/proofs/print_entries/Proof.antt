@@ -3,14 +3,14 @@ use Rattle.std.proofs.Common.{◌-◌, ◌≤◌, length, arith, rules}
 use Rattle.bars.proofs.print_entries.Statement.{statement}
 use Rattle.bars.proofs.print_entries.Tie as tie
 
-abbrev invariant-loop : tie.invariant-loop
+abbrev invariant-loop : tie.invariant-loop-i
 invariant-loop table unit i₀ i-end i = i ≤ length table
 
-abbrev decreases-loop : tie.decreases-loop
+abbrev decreases-loop : tie.decreases-loop-i
 decreases-loop table unit i₀ i-end i = length table - i
 
-pub print-entries-spec : {M : Type 1} → statement M
-print-entries-spec =
+pub print_entries_spec : {M : Type 1} → statement M
+print_entries_spec =
     tie.close
     (tie.spec
     invariant-loop

@@ -10,9 +10,9 @@ returns : tie.Need-returns
 returns c s =
     let lent = c.before.before.before in
     let ran = lent.before.before in
-    rw c.work-with.ensures
-    (runs-beside _ (ran.evaluate-at.ensures s) (λ _ _. s.size_is ∙ sym (work-is-size s.ms _ _)))
+    rw c.work_with-work.ensures
+    (runs-beside _ (ran.evaluate_at-writing.ensures s) (λ _ _. s.size_is ∙ sym (work-is-size s.ms _ _)))
 
-pub run-at-spec : {M : Type 1} → statement M
-run-at-spec =
+pub run_at_spec : {M : Type 1} → statement M
+run_at_spec =
     tie.close (tie.spec (λ c κs. search rules) (λ c κs. search rules) (λ c. search rules) (λ c. search rules) returns)

@@ -10,46 +10,46 @@ use Rattle.call_flatten.proofs.flatten_at.Statement.{statement}
 use Rattle.call_flatten.proofs.flatten_at.Tie as tie
 
 -- The function's entry from where 24 is decided.
-abbrev start : tie.After-many-nets → tie.Start
+abbrev start : tie.After-many_nets → tie.Start
 start c = let lists = c.before.before in lists.before.before.before.before.before.before
 
-abbrev Given : tie.After-many-nets → Type 0
+abbrev Given : tie.After-many_nets → Type 0
 Given c = let args = (start c).args in Standing args.image.now args.starts.now args.nets.now args.site
 
 -- Where it is not given there are few enough nets.
-few : (c : tie.Else3) (s : Given c.before) → flat_nets s ≤ 4096
-few c s = ltb-false 4096 (flat_nets s) (sym (c.before.many-nets.ensures s) ∙ c.if3.false)
+few : (c : tie.Else-many_nets) (s : Given c.before) → flat_nets s ≤ 4096
+few c s = ltb-false 4096 (flat_nets s) (sym (c.before.many_nets.ensures s) ∙ c.if-many_nets.false)
 
-place-middle-requires : tie.Need-place-middle-requires
+place-middle-requires : tie.Need-place_middle-requires
 place-middle-requires c κs =
     let passed = c.before.before.before.before in
     let s = (start passed.before).requires in
-    (long_placeable s c.before.before.if5.true (few passed s), search rules)
+    (long_placeable s c.before.before.if-room-le4096.true (few passed s), search rules)
 
-returns-4 : tie.Need-returns-4
+returns-4 : tie.Need-returns-then-room-le4096
 returns-4 c s =
     let placed = c.before.before.before.before in
     let narrow = placed.before.before.before in
     let passed = narrow.before.before in
-    asks-on s _ _ (few passed s) narrow.before.if4.false
-    (placed.place-middle.ensures (long_placeable s narrow.if5.true (few passed s)))
+    asks-on s _ _ (few passed s) narrow.before.if-scratch-room.false
+    (placed.place_middle.ensures (long_placeable s narrow.if-room-le4096.true (few passed s)))
 
-place-large-requires : tie.Need-place-large-requires
+place-large-requires : tie.Need-place_large-requires
 place-large-requires c κs =
     let passed = c.before.before.before.before in
     let s = (start passed.before).requires in
     (long_placeable s (room-low s) (few passed s), search rules)
 
-returns-5 : tie.Need-returns-5
+returns-5 : tie.Need-returns
 returns-5 c s =
     let placed = c.before.before.before.before in
     let wide = placed.before.before.before in
     let passed = wide.before.before in
-    asks-on s _ _ (few passed s) wide.before.if4.false
-    (placed.place-large.ensures (long_placeable s (room-low s) (few passed s)))
+    asks-on s _ _ (few passed s) wide.before.if-scratch-room.false
+    (placed.place_large.ensures (long_placeable s (room-low s) (few passed s)))
 
-pub flatten-at-spec : {M : Type 1} → statement M
-flatten-at-spec =
+pub flatten_at_spec : {M : Type 1} → statement M
+flatten_at_spec =
     tie.close
     (tie.spec
     (λ c. search rules)
@@ -58,8 +58,8 @@ flatten-at-spec =
     (λ c. search rules)
     (λ c. search rules)
     (λ c κs. search rules)
-    (λ c s. asks-many s _ _ (ltb-true 4096 (flat_nets s) (sym (c.before.many-nets.ensures s) ∙ c.if3.true)))
-    (λ c s. asks-narrow s _ _ (few c.before s) c.if4.true)
+    (λ c s. asks-many s _ _ (ltb-true 4096 (flat_nets s) (sym (c.before.many_nets.ensures s) ∙ c.if-many_nets.true)))
+    (λ c s. asks-narrow s _ _ (few c.before s) c.if-scratch-room.true)
     place-middle-requires
     (λ c. search rules)
     (λ c. search rules)

@@ -7,36 +7,36 @@ use lib.ListN.{length, length-replicate}
 use Rattle.call_join.proofs.join.Statement.{statement}
 use Rattle.call_join.proofs.join.Tie as tie
 
-join-with-requires : tie.Need-join-with-requires
+join-with-requires : tie.Need-join_with-requires
 join-with-requires c κs =
     let taken = c.before.before.before in
     let numbers = length-replicate {A = ℕ} 1024 0 in
     let bytes = length-replicate {A = ℕ} 2050 0 in
     let entry = taken.before.before.before.before.before in
-    let short = leb-true (length entry.args.house.now) 1024 taken.if2.true in
+    let short = leb-true (length entry.args.house.now) 1024 taken.if-house-le1024.true in
     record {
-      group_fits = omega (arith, taken.before.if1.true);
+      group_fits = omega (arith, taken.before.if-group-le1024.true);
       house_fits = omega (arith, short);
-      bytes_fit = omega (arith, taken.before.if1.true, short);
+      bytes_fit = omega (arith, taken.before.if-group-le1024.true, short);
     }
 
-join-with-requires-2 : tie.Need-join-with-requires-2
+join-with-requires-2 : tie.Need-join_with-requires-2
 join-with-requires-2 c κs =
     let numbers = length-replicate {A = ℕ} 65535 0 in
     let bytes = length-replicate {A = ℕ} 131072 0 in
     record { group_fits = omega arith; house_fits = omega arith; bytes_fit = omega arith }
 
-pub join-spec : {M : Type 1} → statement M
-join-spec =
+pub join_spec : {M : Type 1} → statement M
+join_spec =
     tie.close
     (tie.spec
     (λ c. search rules)
     (λ c. search rules)
     join-with-requires
     (λ c. search rules)
-    (λ c. c.before.before.before.before.join-with.ensures)
+    (λ c. c.before.before.before.before.join_with.ensures)
     (λ c. search rules)
     (λ c. search rules)
     join-with-requires-2
     (λ c. search rules)
-    (λ c. c.before.before.before.before.join-with2.ensures))
+    (λ c. c.before.before.before.before.join_with-2.ensures))

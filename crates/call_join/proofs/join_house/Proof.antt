@@ -7,49 +7,49 @@ use Rattle.call_join.proofs.join_house.Statement.{statement}
 use Rattle.call_join.proofs.join_house.Tie as tie
 
 -- Back from where the file's modules are noted to the noting, and to the function's entry.
-abbrev noted : tie.After-known-told2 → tie.After-note
+abbrev noted : tie.In-Modules → tie.After-note
 noted k = k.before.before.before.before.before.before.before
 
-abbrev listed : tie.After-note → tie.After-slice-known
+abbrev listed : tie.After-note → tie.After-slice_known-1
 listed n = n.before.before.before.before.before.before
 
 abbrev entered : tie.After-note → tie.Start
 entered n = (listed n).before.before.before
 
 shelf :
-    (k : tie.After-known-told2)
+    (k : tie.In-Modules)
     → (let n = noted k in
-    Shelved (entered n).args.house.now k.before.modules.given.0.0 n.note.last.1.1.0 n.note.last.1.1.1.0)
+    Shelved (entered n).args.house.now k.before.modules-1.given.0.0 n.note.last.1.1.0 n.note.last.1.1.1.0)
 shelf k =
     let n = noted k in
     noted-shelved (entered n).args.house.now n.note.last.1.1.0 n.note.last.1.1.1.0 n.note.result n.note.ensures
-    k.before.modules.given.0.0 k.before.modules.given.1
+    k.before.modules-1.given.0.0 k.before.modules-1.given.1
 
 -- From the gathering, and from the assembling, to where the modules are noted.
-abbrev known : tie.After-gather → tie.After-known-told2
+abbrev known : tie.After-gather-all → tie.In-Modules
 known g = g.before.before.before.before
 
-abbrev gathered : tie.After-assemble-arg2 → tie.After-gather
+abbrev gathered : tie.After-assemble-arg-in-Modules-1 → tie.After-gather-all
 gathered c = c.before.before.before.before
 
-returns : tie.Need-returns
+returns : tie.Need-returns-in-Refused
 returns c b =
     let n = c.before.before.before.before.before.before.before in
     let s = entered n in
-    refused_house b (length s.args.out.now) s.args.out.now
+    refused_house b (length s.args.out-1.now) s.args.out-1.now
     (noted-fails s.args.house.now n.note.new.1.1.0 n.note.new.1.1.1.0 n.note.result n.note.ensures
-    c.before.number.given.0.0 c.before.number.given.0.1.0 c.before.number.given.1)
+    c.before.number-1.given.0.0 c.before.number-1.given.0.1.0 c.before.number-1.given.1)
 
-returns-2 : tie.Need-returns-2
+returns-2 : tie.Need-returns-in-Modules
 returns-2 c b =
     let a = c.before.before.before.before in
     let g = gathered a.before in
     let s = shelf (known g) in
-    joins_house b s (g.gather.ensures (gathering b s)) (length (entered (noted (known g))).args.out.now)
-    (a.assemble.ensures (assembled b s (g.gather.ensures (gathering b s))))
+    joins_house b s (g.gather-all.ensures (gathering b s)) (length (entered (noted (known g))).args.out-1.now)
+    (a.assemble.ensures (assembled b s (g.gather-all.ensures (gathering b s))))
 
-pub join-house-spec : {M : Type 1} → statement M
-join-house-spec =
+pub join_house_spec : {M : Type 1} → statement M
+join_house_spec =
     tie.close
     (tie.spec
     (λ c. search rules)
@@ -64,7 +64,7 @@ join-house-spec =
     let g = gathered c in
     let s = shelf (known g) in
     let b = (entered (noted (known g))).requires in
-    assembled b s (g.gather.ensures (gathering b s)))
+    assembled b s (g.gather-all.ensures (gathering b s)))
     (λ c. search rules)
     returns
     (λ c. search rules)

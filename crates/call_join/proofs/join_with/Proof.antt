@@ -9,66 +9,66 @@ use Rattle.call_join.proofs.join_with.Statement.{statement}
 use Rattle.call_join.proofs.join_with.Tie as tie
 
 -- Back from where the file's modules are noted to the noting, and to the function's entry.
-abbrev noted : tie.After-known-told2 → tie.After-note
+abbrev noted : tie.In-Modules → tie.After-note
 noted k = k.before.before.before.before.before.before.before
 
-abbrev listed : tie.After-note → tie.After-slice-known
+abbrev listed : tie.After-note → tie.After-slice_known-1
 listed n = n.before.before.before.before.before.before
 
 abbrev entered : tie.After-note → tie.Start
 entered n = (listed n).before.before.before
 
 shelf :
-    (k : tie.After-known-told2)
+    (k : tie.In-Modules)
     → (let n = noted k in
-    Shelved (entered n).args.group.now k.before.modules.given.0.0 n.note.last.1.1.0 n.note.last.1.1.1.0)
+    Shelved (entered n).args.group.now k.before.modules-1.given.0.0 n.note.last.1.1.0 n.note.last.1.1.1.0)
 shelf k =
     let n = noted k in
     noted-shelved (entered n).args.group.now n.note.last.1.1.0 n.note.last.1.1.1.0 n.note.result n.note.ensures
-    k.before.modules.given.0.0 k.before.modules.given.1
+    k.before.modules-1.given.0.0 k.before.modules-1.given.1
 
 -- From behind the marks, and from behind the copy, to where the modules are noted.
-abbrev marked : tie.After-mark → tie.After-known-told2
+abbrev marked : tie.After-mark → tie.In-Modules
 marked m = m.before.before.before
 
-abbrev copied : tie.After-copy → tie.After-mark
+abbrev copied : tie.After-copy-at → tie.After-mark
 copied c = c.before.before.before.before
 
-abbrev handing : tie.After-join-house-arg3 → tie.After-copy
+abbrev handing : tie.After-join_house-arg-in-Modules-2-1 → tie.After-copy-at
 handing c = c.before.before.before.before.before.before
 
-returns : tie.Need-returns
+returns : tie.Need-returns-in-Refused
 returns c =
     let n = c.before.before.before.before.before.before.before in
     let s = entered n in
-    refused-group s.pre (length s.args.out.now) s.args.out.now
+    refused-group s.requires (length s.args.out-1.now) s.args.out-1.now
     (noted-fails s.args.group.now n.note.new.1.1.0 n.note.new.1.1.1.0 n.note.result n.note.ensures
-    c.before.number.given.0.0 c.before.number.given.0.1.0 c.before.number.given.1)
+    c.before.number-1.given.0.0 c.before.number-1.given.0.1.0 c.before.number-1.given.1)
 
-join-house-requires : tie.Need-join-house-requires
+join-house-requires : tie.Need-join_house-requires
 join-house-requires c κs =
     let p = handing c in
     let m = copied p in
     let k = marked m in
     let n = noted k in
-    begun (entered n).pre (shelf k) n.note.kept.1.0 p.copy.kept.1.0
+    begun (entered n).requires (shelf k) n.note.kept.1.0 p.copy-at.kept.1.0
     (omega (arith, m.mark.kept.1.1.0, length-replicate {A = ℕ} 16384 0))
     (m.mark.ensures (searchable (shelf k)))
-    p.copy.ensures
+    p.copy-at.ensures
 
 -- Back from the answer to the call on the house's file.
-abbrev answered : tie.After-slice-known8 → tie.After-join-house
+abbrev answered : tie.After-slice_known-in-Modules-4-1 → tie.After-join_house
 answered c = c.before.before.before.before.before.before
 
-returns-2 : tie.Need-returns-2
+returns-2 : tie.Need-returns-in-Modules
 unfolding join-house-requires
 returns-2 c =
     let h = answered c in
     let k = marked (copied (handing h.before)) in
-    joins_both (entered (noted k)).requires (shelf k) (length (entered (noted k)).args.out.now) (h.join-house.ensures (join-house-requires h.before h.join-house.lifetimes))
+    joins_both (entered (noted k)).requires (shelf k) (length (entered (noted k)).args.out-1.now) (h.join_house.ensures (join-house-requires h.before h.join_house.lifetimes))
 
-pub join-with-spec : {M : Type 1} → statement M
-join-with-spec =
+pub join_with_spec : {M : Type 1} → statement M
+join_with_spec =
     tie.close
     (tie.spec
     (λ c. search rules)

@@ -12,61 +12,61 @@ use Rattle.call_look_up.proofs.look_up.Statement.{statement}
 use Rattle.call_look_up.proofs.look_up.Tie as tie
 
 -- Back from the answer to the function's entry; both files' entries are bytes.
-abbrev entered : tie.After-which-shelf → tie.Start
+abbrev entered : tie.After-which_shelf → tie.Start
 entered w = w.before.before.before
 
-group-bytes : (w : tie.After-which-shelf) → Bytes (entered w).args.group.now
-group-bytes w = bytes-all (entered w).args.group.now (λ i. (w.before.before.shared-slice-known.given i).fits)
+group-bytes : (w : tie.After-which_shelf) → Bytes (entered w).args.group.now
+group-bytes w = bytes-all (entered w).args.group.now (λ i. (w.before.before.shared_slice_known-1.given i).fits)
 
-house-bytes : (w : tie.After-which-shelf) → Bytes (entered w).args.house.now
-house-bytes w = bytes-all (entered w).args.house.now (λ i. (w.before.shared-slice-known2.given i).fits)
+house-bytes : (w : tie.After-which_shelf) → Bytes (entered w).args.house.now
+house-bytes w = bytes-all (entered w).args.house.now (λ i. (w.before.shared_slice_known-2-1.given i).fits)
 
 in_group :
-    (c : tie.After-known-told)
+    (c : tie.In-Group)
     → (let a = (entered c.before.before.before).args in
-    Handed a.group.now c.before.start.given.0.0 c.before.start.given.0.1.0
+    Handed a.group.now c.before.start-1.given.0.0 c.before.start-1.given.0.1.0
     (handed (look_up a.group.now a.house.now a.number).decision))
 in_group c =
     let w = c.before.before.before in
     let a = (entered w).args in
     out-of-group a.group.now a.house.now a.number (group-bytes w) (house-bytes w)
-    c.before.start.given.0.0 c.before.start.given.0.1.0
-    (sym c.before.start.given.1 ∙ w.which-shelf.ensures)
+    c.before.start-1.given.0.0 c.before.start-1.given.0.1.0
+    (sym c.before.start-1.given.1 ∙ w.which_shelf.ensures)
 
 in_house :
-    (c : tie.After-known-told2)
+    (c : tie.In-House)
     → (let a = (entered c.before.before.before).args in
-    Handed a.house.now c.before.start2.given.0.0 c.before.start2.given.0.1.0
+    Handed a.house.now c.before.start-in-House-1.given.0.0 c.before.start-in-House-1.given.0.1.0
     (handed (look_up a.group.now a.house.now a.number).decision))
 in_house c =
     let w = c.before.before.before in
     let a = (entered w).args in
     out-of_house a.group.now a.house.now a.number (group-bytes w) (house-bytes w)
-    c.before.start2.given.0.0 c.before.start2.given.0.1.0
-    (sym c.before.start2.given.1 ∙ w.which-shelf.ensures)
+    c.before.start-in-House-1.given.0.0 c.before.start-in-House-1.given.0.1.0
+    (sym c.before.start-in-House-1.given.1 ∙ w.which_shelf.ensures)
 
-returns : tie.Need-returns
+returns : tie.Need-returns-in-Group
 returns c =
-    let start = c.before.before.start.given.0.0 in
-    let count = c.before.before.start.given.0.1.0 in
+    let start = c.before.before.start-1.given.0.0 in
+    let count = c.before.before.start-1.given.0.1.0 in
     let whole : start + count - start ≡ count = omega arith in
     ap (λ (n : ℕ). take n (drop start (entered c.before.before.before.before).args.group.now)) whole ∙ (in_group c.before).is
 
-returns-2 : tie.Need-returns-2
+returns-2 : tie.Need-returns-in-House
 returns-2 c =
-    let start = c.before.before.start2.given.0.0 in
-    let count = c.before.before.start2.given.0.1.0 in
+    let start = c.before.before.start-in-House-1.given.0.0 in
+    let count = c.before.before.start-in-House-1.given.0.1.0 in
     let whole : start + count - start ≡ count = omega arith in
     ap (λ (n : ℕ). take n (drop start (entered c.before.before.before.before).args.house.now)) whole ∙ (in_house c.before).is
 
-returns-3 : tie.Need-returns-3
+returns-3 : tie.Need-returns-in-Refused
 returns-3 c =
     let w = c.before.before.before in
     let a = (entered w).args in
-    handed-nothing (look_up a.group.now a.house.now a.number) _ _ _ (sym c.before.enum_told.given.1 ∙ w.which-shelf.ensures)
+    handed-nothing (look_up a.group.now a.house.now a.number) _ _ _ (sym c.before.enum_told-1.given.1 ∙ w.which_shelf.ensures)
 
-pub look-up-spec : {M : Type 1} → statement M
-look-up-spec =
+pub look_up_spec : {M : Type 1} → statement M
+look_up_spec =
     tie.close
     (tie.spec
     (λ c κs. search rules)

@@ -11,10 +11,10 @@ use Rattle.call_ndl.proofs.write_in.Statement.{statement}
 use Rattle.call_ndl.proofs.write_in.Tie as tie
 
 -- The preparing from where the lists are back, and from there where the bytes are known and the function's entry.
-abbrev prepared : tie.After-slice-known9 → tie.After-prepare
+abbrev prepared : tie.After-slice_known-9-1 → tie.After-prepare
 prepared c = let half = c.before.before.before.before.before.before.before in half.before.before.before.before.before.before.before
 
-abbrev known : tie.After-prepare → tie.After-shared-slice-known
+abbrev known : tie.After-prepare → tie.After-shared_slice_known-1
 known p =
     let lists = p.before.before.before.before.before.before.before.before in
     let slices = lists.before.before.before.before in
@@ -24,40 +24,40 @@ abbrev entered : tie.After-prepare → tie.Start
 entered p = (known p).before
 
 bytes : (p : tie.After-prepare) → Bytes (entered p).args.file.now
-bytes p = bytes-all (entered p).args.file.now (λ i. ((known p).shared-slice-known.given i).fits)
+bytes p = bytes-all (entered p).args.file.now (λ i. ((known p).shared_slice_known-1.given i).fits)
 
 -- From where the file is known to be ready.
-abbrev preparing : tie.After-known-told2 → tie.After-prepare
+abbrev preparing : tie.In-Ready → tie.After-prepare
 preparing k = prepared k.before.before.before
 
-abbrev modules : tie.After-known-told2 → ℕ
-modules k = k.before.count.given.0.0
+abbrev modules : tie.In-Ready → ℕ
+modules k = k.before.count-1.given.0.0
 
-abbrev count : tie.After-known-told2 → ℕ
-count k = k.before.count.given.0.1.0
+abbrev count : tie.In-Ready → ℕ
+count k = k.before.count-1.given.0.1.0
 
-open-file : (k : tie.After-known-told2)
+open-file : (k : tie.In-Ready)
     → (let lists = (preparing k).prepare.new.1 in
     let by_position = lists.1.1.1 in
     OpenedBeside (entered (preparing k)).args.file.now (modules k) (count k) lists.0 lists.1.0 lists.1.1.0 by_position.0 by_position.1.0 by_position.1.1.0 by_position.1.1.1.0 by_position.1.1.1.1.0)
-open-file k = let p = (preparing k).prepare in opened-beside _ _ _ _ _ _ _ _ _ p.result p.ensures _ _ k.before.count.given.1
+open-file k = let p = (preparing k).prepare in opened-beside _ _ _ _ _ _ _ _ _ p.result p.ensures _ _ k.before.count-1.given.1
 
-returns : tie.Need-returns
+returns : tie.Need-returns-in-Refused
 returns c =
     let q = prepared c.before.before.before in
     let p = q.prepare in
     let args = (entered q).args in
-    file-refused args.file.now args.names.now args.out.now (broken-beside _ _ _ _ _ _ _ _ _ p.result p.ensures _ _ c.before.number.given.1)
+    file-refused args.file.now args.names.now args.out-1.now (broken-beside _ _ _ _ _ _ _ _ _ p.result p.ensures _ _ c.before.number-1.given.1)
 
-returns-2 : tie.Need-returns-2
+returns-2 : tie.Need-returns-in-Ready
 returns-2 c =
     let l = c.before.before in
     let k = l.before.before.before in
     let args = (entered (preparing k)).args in
-    listed (open-file k) args.names.now args.out.now (l.list.ensures (numbered (open-file k) (bytes (preparing k))))
+    listed (open-file k) args.names.now args.out-1.now (l.list.ensures (numbered (open-file k) (bytes (preparing k))))
 
-pub write-in-spec : {M : Type 1} → statement M
-write-in-spec =
+pub write_in_spec : {M : Type 1} → statement M
+write_in_spec =
     tie.close
     (tie.spec
     (λ c. search rules)

@@ -5,17 +5,17 @@ use Rattle.open_beside.specs.Rooms.{any-beside}
 use Rattle.call_ndl.proofs.write_long.Statement.{statement}
 use Rattle.call_ndl.proofs.write_long.Tie as tie
 
-abbrev listed : tie.After-write-in-arg → tie.After-shared-slice-known
+abbrev listed : tie.After-write_in-arg-1 → tie.After-shared_slice_known-1
 listed c = c.before.before.before.before.before.before.before
 
-pub write-long-spec : {M : Type 1} → statement M
-write-long-spec =
+pub write_long_spec : {M : Type 1} → statement M
+write_long_spec =
     tie.close
     (tie.spec
     (λ c. search rules)
     (λ c. search rules)
     (λ c. search rules)
     (λ c. search rules)
-    (λ c κs. any-beside _ (bytes-all _ (λ i. ((listed c).shared-slice-known.given i).fits)))
+    (λ c κs. any-beside _ (bytes-all _ (λ i. ((listed c).shared_slice_known-1.given i).fits)))
     (λ c. search rules)
     (λ c. search rules))

@@ -3,15 +3,15 @@ use borrow.Author.Rules.{rules}
 use Rattle.call_ndl.proofs.write_ndl.Statement.{statement}
 use Rattle.call_ndl.proofs.write_ndl.Tie as tie
 
-pub write-ndl-spec : {M : Type 1} → statement M
-write-ndl-spec =
+pub write_ndl_spec : {M : Type 1} → statement M
+write_ndl_spec =
     tie.close
     (tie.spec
     (λ c κs. search rules)
     (λ c. search rules)
     (λ c. search rules)
     (λ c κs. search rules)
-    (λ c κs. c.before.before.is-short.ensures c.before.if2.true)
+    (λ c κs. c.before.before.is_short.ensures c.before.if-is_short.true)
     (λ c κs. search rules)
     (λ c. search rules)
     (λ c. search rules)

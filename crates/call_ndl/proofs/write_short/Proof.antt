@@ -4,11 +4,11 @@ use Rattle.open_beside.specs.Rooms.{short-beside}
 use Rattle.call_ndl.proofs.write_short.Statement.{statement}
 use Rattle.call_ndl.proofs.write_short.Tie as tie
 
-abbrev entered : tie.After-write-in-arg → tie.Start
+abbrev entered : tie.After-write_in-arg-1 → tie.Start
 entered c = c.before.before.before.before.before.before.before.before
 
-pub write-short-spec : {M : Type 1} → statement M
-write-short-spec =
+pub write_short_spec : {M : Type 1} → statement M
+write_short_spec =
     tie.close
     (tie.spec
     (λ c. search rules)

@@ -5,17 +5,17 @@ use Rattle.open_beside.specs.Rooms.{any-beside}
 use Rattle.call_print.proofs.print_long.Statement.{statement}
 use Rattle.call_print.proofs.print_long.Tie as tie
 
-abbrev listed : tie.After-print-in-arg → tie.After-shared-slice-known
+abbrev listed : tie.After-print_in-arg-1 → tie.After-shared_slice_known-1
 listed c = let lists = c.before.before.before.before in lists.before.before
 
-pub print-long-spec : {M : Type 1} → statement M
-print-long-spec =
+pub print_long_spec : {M : Type 1} → statement M
+print_long_spec =
     tie.close
     (tie.spec
     (λ c. search rules)
     (λ c. search rules)
     (λ c. search rules)
     (λ c. search rules)
-    (λ c κs. any-beside _ (bytes-all _ (λ i. ((listed c).shared-slice-known.given i).fits)))
+    (λ c κs. any-beside _ (bytes-all _ (λ i. ((listed c).shared_slice_known-1.given i).fits)))
     (λ c. search rules)
     (λ c. search rules))

@@ -4,11 +4,11 @@ use Rattle.open_beside.specs.Rooms.{short-beside}
 use Rattle.call_print.proofs.print_short.Statement.{statement}
 use Rattle.call_print.proofs.print_short.Tie as tie
 
-abbrev entered : tie.After-print-in-arg → tie.Start
+abbrev entered : tie.After-print_in-arg-1 → tie.Start
 entered c = let lists = c.before.before.before.before in lists.before.before.before
 
-pub print-short-spec : {M : Type 1} → statement M
-print-short-spec =
+pub print_short_spec : {M : Type 1} → statement M
+print_short_spec =
     tie.close
     (tie.spec
     (λ c. search rules)

@@ -3,15 +3,15 @@ use borrow.Author.Rules.{rules}
 use Rattle.call_print.proofs.print_text.Statement.{statement}
 use Rattle.call_print.proofs.print_text.Tie as tie
 
-pub print-text-spec : {M : Type 1} → statement M
-print-text-spec =
+pub print_text_spec : {M : Type 1} → statement M
+print_text_spec =
     tie.close
     (tie.spec
     (λ c κs. search rules)
     (λ c. search rules)
     (λ c. search rules)
     (λ c κs. search rules)
-    (λ c κs. c.before.before.is-short.ensures c.before.if2.true)
+    (λ c κs. c.before.before.is_short.ensures c.before.if-is_short.true)
     (λ c κs. search rules)
     (λ c. search rules)
     (λ c. search rules)

@@ -6,11 +6,11 @@ use native.Mathlib.Omega.{arith}
 use Rattle.call_rows.proofs.block_work.Statement.{statement}
 use Rattle.call_rows.proofs.block_work.Tie as tie
 
-mul-result : tie.Need-overflow-mul-result
+mul-result : tie.Need-overflow_mul-result
 mul-result c =
     let a = c.before.args in
     let few : a.rows ≤ 1024 = omega arith in
     omega (arith, mul-le-mul_right a.size few)
 
-pub block-work-spec : {M : Type 1} → statement M
-block-work-spec = tie.close (tie.spec (λ c. search rules) (λ c. search rules) mul-result (λ c. search rules))
+pub block_work_spec : {M : Type 1} → statement M
+block_work_spec = tie.close (tie.spec (λ c. search rules) (λ c. search rules) mul-result (λ c. search rules))

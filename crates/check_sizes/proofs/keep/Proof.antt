@@ -6,18 +6,18 @@ use borrow.Author.Tests.{le-leb, lt-leb}
 use Rattle.check_sizes.proofs.keep.Statement.{statement}
 use Rattle.check_sizes.proofs.keep.Tie as tie
 
-returns : tie.Need-returns
+returns : tie.Need-returns-then-sums-gt65535
 returns c =
     record {
-      answer = sym (lt-leb _ _ c.if1.true);
+      answer = sym (lt-leb _ _ c.if-sums-gt65535.true);
       kept = λ e. absurd (false≢true e);
       left = λ e. (refl, refl);
     }
 
-returns-2 : tie.Need-returns-2
+returns-2 : tie.Need-returns
 returns-2 c =
     record {
-      answer = sym (le-leb _ _ c.before.if1.false);
+      answer = sym (le-leb _ _ c.before.if-sums-gt65535.false);
       kept = λ e. (refl, refl);
       left = λ e. absurd (true≢false e);
     }

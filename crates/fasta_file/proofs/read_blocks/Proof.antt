@@ -6,15 +6,15 @@ use borrow.Author.Rules.{rules}
 use Rattle.fasta_file.proofs.read_blocks.Statement.{statement}
 use Rattle.fasta_file.proofs.read_blocks.Tie as tie
 
-abbrev invariant-loop : tie.invariant-loop
+abbrev invariant-loop : tie.invariant-loop-left
 invariant-loop descriptor letters bytes₀ bases₀ table₀ reading₀ left₀ bytes bases table reading left =
     (reading.filled ≤ length bases) × (length bytes ≡ length bytes₀) × (length bases ≡ length bases₀) × (length table ≡ length table₀)
 
-abbrev decreases-loop : tie.decreases-loop
+abbrev decreases-loop : tie.decreases-loop-left
 decreases-loop descriptor letters bytes₀ bases₀ table₀ reading₀ left₀ bytes bases table reading left = left
 
-pub read-blocks-spec : {M : Type 1} → statement M
-read-blocks-spec =
+pub read_blocks_spec : {M : Type 1} → statement M
+read_blocks_spec =
     tie.close
     (tie.spec
     invariant-loop

@@ -3,14 +3,14 @@ use Rattle.std.proofs.Common.{◌-◌, ◌≤◌, arith, rules}
 use Rattle.fault_line.proofs.print_driven.Statement.{statement}
 use Rattle.fault_line.proofs.print_driven.Tie as tie
 
-abbrev invariant-loop : tie.invariant-loop
+abbrev invariant-loop : tie.invariant-loop-i
 invariant-loop text from driven i₀ i = i ≤ driven
 
-abbrev decreases-loop : tie.decreases-loop
+abbrev decreases-loop : tie.decreases-loop-i
 decreases-loop text from driven i₀ i = driven - i
 
-pub print-driven-spec : {M : Type 1} → statement M
-print-driven-spec =
+pub print_driven_spec : {M : Type 1} → statement M
+print_driven_spec =
     tie.close
     (tie.spec
     invariant-loop

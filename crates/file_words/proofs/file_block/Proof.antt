@@ -7,14 +7,14 @@ use lib.ListN.{length}
 use Rattle.file_words.proofs.file_block.Statement.{statement}
 use Rattle.file_words.proofs.file_block.Tie as tie
 
-abbrev invariant-loop : tie.invariant-loop
+abbrev invariant-loop : tie.invariant-loop-i
 invariant-loop bytes word₀ filled now₀ i₀ i-end word now i = (i ≤ length bytes) × (length word ≡ length word₀)
 
-abbrev decreases-loop : tie.decreases-loop
+abbrev decreases-loop : tie.decreases-loop-i
 decreases-loop bytes word₀ filled now₀ i₀ i-end word now i = length bytes - i
 
-pub file-block-spec : {M : Type 1} → statement M
-file-block-spec =
+pub file_block_spec : {M : Type 1} → statement M
+file_block_spec =
     tie.close
     (tie.spec
     invariant-loop

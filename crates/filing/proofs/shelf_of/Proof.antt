@@ -10,52 +10,52 @@ use Rattle.filing.proofs.OneWord.{block-of-one, shelf-of-one}
 use Rattle.filing.proofs.shelf_of.Statement.{statement}
 use Rattle.filing.proofs.shelf_of.Tie as tie
 
-counter-file-requires : tie.Need-counter-file-requires
+counter-file-requires : tie.Need-counter_file-file-requires
 counter-file-requires c κs = search rules
 
-slice-aggregate-run-words : tie.Need-slice-aggregate-run-words
+slice-aggregate-run-words : tie.Need-slice_bounds-run_words-end
 slice-aggregate-run-words c = search rules
 
-slice-aggregate-run-words-2 : tie.Need-slice-aggregate-run-words-2
+slice-aggregate-run-words-2 : tie.Need-slice_bounds-run_words-end-2
 slice-aggregate-run-words-2 c = search rules
 
-slice-aggregate-run-words-3 : tie.Need-slice-aggregate-run-words-3
+slice-aggregate-run-words-3 : tie.Need-slice_bounds-run_words-end-3
 slice-aggregate-run-words-3 c = search rules
 
-slice-aggregate-run-words-4 : tie.Need-slice-aggregate-run-words-4
+slice-aggregate-run-words-4 : tie.Need-slice_bounds-run_words-end-4
 slice-aggregate-run-words-4 c = search rules
 
-run-words-requires : tie.Need-run-words-requires
+run-words-requires : tie.Need-run_words-requires
 run-words-requires c κs =
     let wrote = c.before.before.before.before in
     let s = wrote.before.before in
-    block-of-one _ (length s.args.word.now) s.requires wrote.counter-file.ensures
+    block-of-one _ (length s.args.word.now) s.requires wrote.counter_file-file.ensures
 
-slice-aggregate-shelf-at : tie.Need-slice-aggregate-shelf-at
+slice-aggregate-shelf-at : tie.Need-slice_bounds-shelf_at-end
 slice-aggregate-shelf-at c = search rules
 
-shelf-at-requires : tie.Need-shelf-at-requires
+shelf-at-requires : tie.Need-shelf_at-requires
 shelf-at-requires c κs = search rules
 
-abbrev ran : tie.After-shelf-at → tie.After-run-words
+abbrev ran : tie.After-shelf_at → tie.After-run_words
 ran c = c.before.before.before.before.before
 
-abbrev start : tie.After-shelf-at → tie.Start
+abbrev start : tie.After-shelf_at → tie.Start
 start c = (ran c).before.before.before.before.before.before.before
 
-read : (c : tie.After-shelf-at) → six_bits (ran c).run-words.new.1.1.1.1.1.0 0 ≡ shelf_of (start c).args.word.now
-read c = shelf-of-one (start c).args.word.now _ (start c).requires (ran c).run-words.ensures
+read : (c : tie.After-shelf_at) → six_bits (ran c).run_words.new.1.1.1.1.1.0 0 ≡ shelf_of (start c).args.word.now
+read c = shelf-of-one (start c).args.word.now _ (start c).requires (ran c).run_words.ensures
 
-cast-result : tie.Need-overflow-cast-result
+cast-result : tie.Need-overflow_cast-result
 cast-result c =
     let s = start c in
-    omega (arith, c.shelf-at.ensures, read c, shelf-most s.args.word.now s.pre.few)
+    omega (arith, c.shelf_at.ensures, read c, shelf-most s.args.word.now s.requires.few)
 
 returns : tie.Need-returns
-returns c = c.shelf-at.ensures ∙ read c
+returns c = c.shelf_at.ensures ∙ read c
 
-pub shelf-of-spec : {M : Type 1} → statement M
-shelf-of-spec =
+pub shelf_of_spec : {M : Type 1} → statement M
+shelf_of_spec =
     tie.close
     (tie.spec
     counter-file-requires

@@ -4,20 +4,20 @@ use Rattle.filing_c.proofs.Reporting.{sorted_answers, sorted_refuses}
 use Rattle.filing_c.proofs.filing_sequence.Statement.{statement}
 use Rattle.filing_c.proofs.filing_sequence.Tie as tie
 
-returns : tie.Need-returns
+returns : tie.Need-returns-in-Words
 returns c =
     let filed = c.before.before.before.before.before in
     let start : tie.Start = filed.before.before.before.before in
-    sorted_answers start.args.words.now c.before.count.given.1 filed.file-sequence.ensures
+    sorted_answers start.args.words.now c.before.count-1.given.1 filed.file_sequence.ensures
 
-returns-2 : tie.Need-returns-2
+returns-2 : tie.Need-returns-in-Refused
 returns-2 c =
     let filed = c.before.before.before.before.before in
     let start : tie.Start = filed.before.before.before.before in
-    sorted_refuses start.args.words.now c.before.number.given.1 filed.file-sequence.ensures
+    sorted_refuses start.args.words.now c.before.number-1.given.1 filed.file_sequence.ensures
 
-pub filing-sequence-spec : {M : Type 1} → statement M
-filing-sequence-spec =
+pub filing_sequence_spec : {M : Type 1} → statement M
+filing_sequence_spec =
     tie.close
     (tie.spec
     (λ c κs. search rules)

@@ -5,16 +5,16 @@ use Rattle.filing_c.proofs.Reporting.{placed-answers, placed-refuses}
 use Rattle.filing_c.proofs.filing_word.Statement.{statement}
 use Rattle.filing_c.proofs.filing_word.Tie as tie
 
-returns : tie.Need-returns
+returns : tie.Need-returns-in-Shelf
 returns c =
     let start : tie.Start = c.before.before.before.before.before in
-    placed-answers (filing_word start.args.word.now) start.args.shelf.now c.before.found.given.1 c.before.before.before.file-word.ensures
+    placed-answers (filing_word start.args.word.now) start.args.shelf.now c.before.found-1.given.1 c.before.before.before.file_word.ensures
 
-returns-2 : tie.Need-returns-2
+returns-2 : tie.Need-returns-in-Refused
 returns-2 c =
     let start : tie.Start = c.before.before.before.before.before in
-    placed-refuses (filing_word start.args.word.now) start.args.shelf.now c.before.number.given.1 c.before.before.before.file-word.ensures
+    placed-refuses (filing_word start.args.word.now) start.args.shelf.now c.before.number-1.given.1 c.before.before.before.file_word.ensures
 
-pub filing-word-spec : {M : Type 1} → statement M
-filing-word-spec =
+pub filing_word_spec : {M : Type 1} → statement M
+filing_word_spec =
     tie.close (tie.spec (λ c κs. search rules) (λ c. search rules) (λ c. search rules) returns returns-2)

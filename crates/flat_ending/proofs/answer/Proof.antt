@@ -7,7 +7,7 @@ use Rattle.flat_ending.proofs.Pasting.{length-of-parts, parts_pasted}
 use Rattle.flat_ending.proofs.answer.Statement.{statement}
 use Rattle.flat_ending.proofs.answer.Tie as tie
 
-returns : tie.Need-returns
+returns : tie.Need-returns-then-whole-out
 returns c =
     let last = c.before.before in
     let first = last.before.before.before.before in
@@ -16,19 +16,19 @@ returns c =
     let start = fits.before.before.before.before in
     let args = start.args in
     let long = length-of-parts args.bytes.now args.gates args.whole start.requires.0 start.requires.1.0 in
-    ends-written (front_first args.bytes.now args.gates args.whole) args.room args.scratch.now args.out.now
-    (omega (arith, long, fits.if1.true)) clear.clear.ensures
-    (parts_pasted args.bytes.now args.gates args.whole start.requires.0 start.requires.1.0 first.copy.ensures last.copy2.ensures)
+    ends-written (front_first args.bytes.now args.gates args.whole) args.room args.scratch-1.now args.out-1.now
+    (omega (arith, long, fits.if-whole-out.true)) clear.clear.ensures
+    (parts_pasted args.bytes.now args.gates args.whole start.requires.0 start.requires.1.0 first.copy.ensures last.copy-then-whole-out.ensures)
 
-returns-2 : tie.Need-returns-2
+returns-2 : tie.Need-returns-else-whole-out
 returns-2 c =
     let start = c.before.before.before.before in
     let args = start.args in
     let long = length-of-parts args.bytes.now args.gates args.whole start.requires.0 start.requires.1.0 in
-    ends-short (front_first args.bytes.now args.gates args.whole) args.room args.scratch.now args.out.now (omega (arith, long, c.if1.false))
+    ends-short (front_first args.bytes.now args.gates args.whole) args.room args.scratch-1.now args.out-1.now (omega (arith, long, c.if-whole-out.false))
 
-pub answer-spec : {M : Type 1} → statement M
-answer-spec =
+pub answer_spec : {M : Type 1} → statement M
+answer_spec =
     tie.close
     (tie.spec
     (λ c. search rules)

@@ -6,25 +6,25 @@ use Rattle.flat_lists.proofs.place_in.Statement.{statement}
 use Rattle.flat_lists.proofs.place_in.Tie as tie
 
 -- The walk from where the room is known, and the function's entry from where the walk is called.
-abbrev walk : tie.After-struct-known → tie.After-flatten
+abbrev walk : tie.After-struct_known-1 → tie.After-flatten-ends
 walk c = c.before.before.before.before.before
 
-abbrev start : tie.After-flatten-arg → tie.Start
+abbrev start : tie.After-flatten-arg-1 → tie.Start
 start c = c.before.before.before.before.before.before.before.before
 
 answer-requires : tie.Need-answer-requires
 answer-requires c κs =
     let walked = walk c.before.before.before in
     let pre = (start walked.before.before).requires in
-    (gates-within walked.flatten.ensures pre.0, (whole-within walked.flatten.ensures pre.0, pre.1))
+    (gates-within walked.flatten-ends.ensures pre.0, (whole-within walked.flatten-ends.ensures pre.0, pre.1))
 
 returns : tie.Need-returns
 returns c p =
     let answer = c.before.before.before.before in
-    parts_flatten (walk answer.before.before.before.before).flatten.ensures p answer.answer.ensures
+    parts_flatten (walk answer.before.before.before.before).flatten-ends.ensures p answer.answer.ensures
 
-pub place-in-spec : {M : Type 1} → statement M
-place-in-spec =
+pub place_in_spec : {M : Type 1} → statement M
+place_in_spec =
     tie.close
     (tie.spec
     (λ c κs. flattenable (start c.before).requires.0)

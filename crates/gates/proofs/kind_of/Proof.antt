@@ -26,18 +26,18 @@ family P (suc count) k row n low high =
     go zero e later = let same : k ≡ n = omega arith in subst P same row.0
     go (suc j) e later = later (omega arith)
 
-pub kind-of-spec : {M : Type 1} → statement M
+pub kind_of_spec : {M : Type 1} → statement M
 unfolding kind_of rules gate gates
-kind-of-spec =
+kind_of_spec =
     tie.close
     (tie.spec
     (λ c. search rules)
     (λ c. search rules)
-    (λ c. rw c.match.keys1)
-    (λ c. rw c.match.keys2)
-    (λ c. rw c.match.keys3)
+    (λ c. rw c.in-0.keys1)
+    (λ c. rw c.in-8.keys2)
+    (λ c. rw c.in-9.keys3)
     (λ c. family (λ n. Gate Nand n ≡ kind_of n) 4 1 (refl, (refl, (refl, (refl, tt)))) _ (omega arith) (omega arith))
     (λ c. family (λ n. Gate Or (n - 3) ≡ kind_of n) 3 5 (refl, (refl, (refl, tt))) _ (omega arith) (omega arith))
     (λ c. family (λ n. Gate And (n - 8) ≡ kind_of n) 3 10 (refl, (refl, (refl, tt))) _ (omega arith) (omega arith))
     (λ c. family (λ n. Gate Nor (n - 11) ≡ kind_of n) 3 13 (refl, (refl, (refl, tt))) _ (omega arith) (omega arith))
-    (λ c. simp (le-ltb _ 16 c.if4.left)))
+    (λ c. simp (le-ltb _ 16 c.if-n-lt16.left)))

@@ -3,14 +3,14 @@ use native.Mathlib.Omega.{arith}
 use Rattle.image.proofs.entry.Statement.{statement}
 use Rattle.image.proofs.entry.Tie as tie
 
-mul-result : tie.Need-overflow-mul-result
+mul-result : tie.Need-offset_bounds-numbers-i
 mul-result c = search rules
 
-shared-slice-read-result : tie.Need-shared-slice-read-result
+shared-slice-read-result : tie.Need-bounds-numbers-i
 shared-slice-read-result c = search rules
 
-cast-result : tie.Need-overflow-cast-result
-cast-result c = omega (arith, c.shared-slice-known.given c.before.args.i)
+cast-result : tie.Need-overflow_cast-result
+cast-result c = omega (arith, c.shared_slice_known-1.given c.before.args.i)
 
 returns : tie.Need-returns
 returns c = search rules

@@ -5,11 +5,11 @@ use Rattle.join_ending.specs.Joins.{of_writing}
 use Rattle.join_ending.proofs.of_joined.Statement.{statement}
 use Rattle.join_ending.proofs.of_joined.Tie as tie
 
-pub of-joined-spec : {M : Type 1} → statement M
-of-joined-spec =
+pub of_joined_spec : {M : Type 1} → statement M
+of_joined_spec =
     tie.close
     (tie.spec
     (λ c. search rules)
     (λ c. search rules)
-    (λ c. sym (ap of_writing c.before.writing.given.1))
-    (λ c. sym (ap of_writing c.before.writing2.given.1)))
+    (λ c. sym (ap of_writing c.before.writing-1.given.1))
+    (λ c. sym (ap of_writing c.before.writing-in-Refused-1.given.1)))

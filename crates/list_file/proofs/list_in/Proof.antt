@@ -7,7 +7,7 @@ use Rattle.list_file.proofs.list_in.Statement.{statement}
 use Rattle.list_file.proofs.list_in.Tie as tie
 
 -- The file made ready from where all lists are back, and the function's entry from there.
-abbrev ready : tie.After-slice-known19 → tie.After-prepare
+abbrev ready : tie.After-slice_known-19-1 → tie.After-prepare
 ready c = let half = c.before.before.before.before.before.before.before.before in half.before.before.before.before.before.before.before.before
 
 abbrev start : tie.After-prepare → tie.Start
@@ -17,40 +17,40 @@ start c =
     half.before.before.before.before.before
 
 -- The count of modules from where the lists are lent on.
-abbrev counted : tie.After-put-lines-arg9 → tie.After-modules
+abbrev counted : tie.After-put-lines-arg9 → tie.In-Ready-2
 counted c = let told = c.before.before.before.before.before.before.before.before in told.before.before
 
-put-file-refusal-requires : tie.Need-put-file-refusal-requires
+put-file-refusal-requires : tie.Need-put_file_refusal-requires
 put-file-refusal-requires c κs = omega (arith, (start (ready c.before.before.before.before)).requires.1.1.1)
 
-put-lines-requires : tie.Need-put-lines-requires
+put-lines-requires : tie.Need-put_lines-requires
 put-lines-requires c κs =
     let known = counted c in
     let made = ready known.before.before in
-    let given = (start made).pre in
-    let o = opened _ _ _ _ _ _ _ made.prepare.result made.prepare.ensures _ known.modules.given.1 in
+    let given = (start made).requires in
+    let o = opened _ _ _ _ _ _ _ made.prepare.result made.prepare.ensures _ known.modules-1.given.1 in
     listable o (omega (arith, made.prepare.kept.1.0, given.1.0)) given.1.1.0 given.1.1.1
 
-returns : tie.Need-returns
+returns : tie.Need-returns-in-Refused
 returns c =
     let put = c.before.before in
     let told = put.before.before.before in
     let made = (ready told.before.before).prepare in
-    put_as (refusal-listed _ _ _ _ (broken _ _ _ _ _ _ _ made.result made.ensures _ _ told.number.given.1)) put.put-file-refusal.ensures
+    put_as (refusal-listed _ _ _ _ (broken _ _ _ _ _ _ _ made.result made.ensures _ _ told.number-1.given.1)) put.put_file_refusal.ensures
 
-returns-2 : tie.Need-returns-2
+returns-2 : tie.Need-returns-in-Ready
 returns-2 c =
     let put = c.before.before.before in
     let lines = put.before.before.before in
     let known = counted lines.before in
     let made = ready known.before.before in
-    let given = (start made).pre in
-    let o = opened _ _ _ _ _ _ _ made.prepare.result made.prepare.ensures _ known.modules.given.1 in
+    let given = (start made).requires in
+    let o = opened _ _ _ _ _ _ _ made.prepare.result made.prepare.ensures _ known.modules-1.given.1 in
     put_as (lines-listed o _)
-    (lines.put-lines.ensures (listable o (omega (arith, made.prepare.kept.1.0, given.1.0)) given.1.1.0 given.1.1.1))
+    (lines.put_lines.ensures (listable o (omega (arith, made.prepare.kept.1.0, given.1.0)) given.1.1.0 given.1.1.1))
 
-pub list-in-spec : {M : Type 1} → statement M
-list-in-spec =
+pub list_in_spec : {M : Type 1} → statement M
+list_in_spec =
     tie.close
     (tie.spec
     (λ c κs. search rules)

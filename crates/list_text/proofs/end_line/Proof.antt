@@ -8,5 +8,5 @@ use Rattle.list_text.proofs.end_line.Tie as tie
 returns : tie.Need-returns
 returns c = put_byte line_feed c.args.out.now c.args.at c.requires
 
-pub end-line-spec : {M : Type 1} → statement M
-end-line-spec = tie.close (tie.spec (λ c. search rules) (λ c. search rules) (λ c. search rules) returns)
+pub end_line_spec : {M : Type 1} → statement M
+end_line_spec = tie.close (tie.spec (λ c. search rules) (λ c. search rules) (λ c. search rules) returns)

@@ -20,49 +20,49 @@ unfolding each
 each-byte [] = refl
 each-byte (b ∷ bytes) = ap (λ (l : List ℕ). b ∷ l) (each-byte bytes)
 
-abbrev invariant-loop : tie.invariant-loop
+abbrev invariant-loop : tie.invariant-loop-i
 invariant-loop bytes out₀ at i₀ out i = Row byte bytes out₀ at out (at + i) i
 
-abbrev decreases-loop : tie.decreases-loop
+abbrev decreases-loop : tie.decreases-loop-i
 decreases-loop bytes out₀ at i₀ out i = length bytes - i
 
-loop-holds : tie.Need-loop-init invariant-loop decreases-loop
+loop-holds : tie.Need-loop-i-init invariant-loop decreases-loop
 loop-holds c =
     rw (add-zero c.args.at) (row-begin byte c.args.bytes.now c.args.out.now c.args.at (omega (arith, c.requires)))
 
-shared-slice-read-out : tie.Need-shared-slice-read-out invariant-loop decreases-loop
+shared-slice-read-out : tie.Need-bounds-bytes-i invariant-loop decreases-loop
 shared-slice-read-out c = omega arith
 
-add-out : tie.Need-overflow-add-out invariant-loop decreases-loop
+add-out : tie.Need-overflow_add-out invariant-loop decreases-loop
 add-out c = omega arith
 
-slice-write-out : tie.Need-slice-write-out invariant-loop decreases-loop
-slice-write-out c = omega (arith, put-length c.before.before.loop.invariant.down)
+slice-write-out : tie.Need-bounds-out-at invariant-loop decreases-loop
+slice-write-out c = omega (arith, put-length c.before.before.loop-i.invariant.down)
 
-add-i : tie.Need-overflow-add-i invariant-loop decreases-loop
+add-i : tie.Need-overflow_add-i invariant-loop decreases-loop
 add-i c = omega arith
 
-loop-less : tie.Need-loop-smaller invariant-loop decreases-loop
+loop-less : tie.Need-loop-i-smaller invariant-loop decreases-loop
 loop-less c = omega arith
 
-loop-again : tie.Need-loop-preserved invariant-loop decreases-loop
+loop-again : tie.Need-loop-i-preserved invariant-loop decreases-loop
 loop-again c =
     let a = c.before.before.before.args in
     let head = c.before.before in
-    rw (← add_assoc a.at head.loop.i 1)
-    (row_more head.loop.invariant c.before.loop-test.true (put_byte _ head.loop.out (a.at + head.loop.i) (slice-write-out c)))
+    rw (← add_assoc a.at head.loop-i.i 1)
+    (row_more head.loop-i.invariant c.before.loop-i-test.true (put_byte _ head.loop-i.out (a.at + head.loop-i.i) (slice-write-out c)))
 
-add-result : tie.Need-overflow-add-result invariant-loop decreases-loop
+add-result : tie.Need-overflow_add-result invariant-loop decreases-loop
 add-result c = omega arith
 
-same_length : tie.Need-same-length invariant-loop decreases-loop
-same_length c = put-length c.before.loop.invariant.down
+same_length : tie.Need-shape_of-out invariant-loop decreases-loop
+same_length c = put-length c.before.loop-i.invariant.down
 
 returns : tie.Need-returns invariant-loop decreases-loop
-returns c = rw (each-byte c.before.before.args.bytes.now) at (row-end c.before.loop.invariant c.loop-test.false)
+returns c = rw (each-byte c.before.before.args.bytes.now) at (row-end c.before.loop-i.invariant c.loop-i-test.false)
 
-pub put-bytes-spec : {M : Type 1} → statement M
-put-bytes-spec =
+pub put_bytes_spec : {M : Type 1} → statement M
+put_bytes_spec =
     tie.close
     (tie.spec
     invariant-loop

@@ -7,11 +7,11 @@ use Rattle.list_text.proofs.Lines.{row-reaches, line-of-figures}
 use Rattle.list_text.proofs.put_figures.Statement.{statement}
 use Rattle.list_text.proofs.put_figures.Tie as tie
 
-end-line-requires : tie.Need-end-line-requires
+end-line-requires : tie.Need-end_line-requires
 end-line-requires c κs =
     let row = c.before.before.before in
-    let kept = put-length row.put-numbers.ensures in
-    omega (arith, row-reaches _ _ row.put-numbers.ensures, row.before.before.before.before.requires)
+    let kept = put-length row.put_numbers-at.ensures in
+    omega (arith, row-reaches _ _ row.put_numbers-at.ensures, row.before.before.before.before.requires)
 
 returns : tie.Need-returns
 returns c tally =
@@ -19,8 +19,8 @@ returns c tally =
     let p = written.before.before in
     let a = p.before.before.before.before.args in
     rw (← line-of-figures a.position a.number (figures_of a.counts tally))
-    (put-after p.put-numbers.ensures c.before.before.end_line.ensures)
+    (put-after p.put_numbers-at.ensures c.before.before.end_line.ensures)
 
-pub put-figures-spec : {M : Type 1} → statement M
-put-figures-spec =
+pub put_figures_spec : {M : Type 1} → statement M
+put_figures_spec =
     tie.close (tie.spec (λ c. search rules) (λ c κs. search rules) end-line-requires (λ c. search rules) returns)

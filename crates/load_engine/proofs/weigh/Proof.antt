@@ -18,17 +18,17 @@ abbrev work :
     (c : tie.Start)
     → let args = c.args in
     Loadable args.image.now args.starts.now args.nets.now args.k args.room
-    → Workable args.image.now args.starts.now args.nets.now args.k (length args.scratch.now) args.loads.now (replicate 128 0)
+    → Workable args.image.now args.starts.now args.nets.now args.k (length args.scratch-1.now) args.loads-1.now (replicate 128 0)
 work c s = none-worked (moved s (omega (arith, s.room, c.requires.1.1.0))) c.requires.1.1.1
 
 -- Where the function began, from where the module is weighed.
-abbrev began : tie.After-weigh-once → tie.Start
+abbrev began : tie.After-weigh_once-weighed → tie.Start
 began c =
     let lent = c.before.before.before.before in
     let lists = lent.before.before.before in
     lists.before.before.before
 
-weigh-once-requires : tie.Need-weigh-once-requires
+weigh-once-requires : tie.Need-weigh_once-weighed-requires
 weigh-once-requires c κs =
     let lent = c.before.before.before in
     let lists = lent.before.before.before in
@@ -41,17 +41,17 @@ returns c =
     let lists = cleared.before.before.before.before in
     let called = lists.before.before.before.before in
     let start = began called in (
-      λ s. (called.weigh-once.ensures.0 (work start s)).largest,
+      λ s. (called.weigh_once-weighed.ensures.0 (work start s)).largest,
       (
-        λ s. (called.weigh-once.ensures.1 (none-known s)).is,
+        λ s. (called.weigh_once-weighed.ensures.1 (none-known s)).is,
         cleared.clear.ensures
             ∙ ap (λ l. replicate start.args.room 0 ++ l)
-            (same-further _ _ _ start.args.room start.pre.0.room (called.weigh-once.ensures.0 (work start start.pre.0)).behind),
+            (same-further _ _ _ start.args.room start.requires.0.room (called.weigh_once-weighed.ensures.0 (work start start.requires.0)).behind),
       ),
     )
 
-pub weigh-spec : {M : Type 1} → statement M
-weigh-spec =
+pub weigh_spec : {M : Type 1} → statement M
+weigh_spec =
     tie.close
     (tie.spec
     (λ c. search rules)

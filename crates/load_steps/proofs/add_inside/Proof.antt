@@ -6,27 +6,27 @@ use Rattle.load_steps.proofs.add_inside.Statement.{statement}
 use Rattle.load_steps.proofs.add_inside.Tie as tie
 
 -- Where the function began, from where the argument places have added.
-abbrev began : tie.After-add-loads → tie.Start
+abbrev began : tie.After-add_loads → tie.Start
 began c = let lists = c.before.before.before in lists.before.before
 
 -- To where they have added, from where the driven nets are to add.
-abbrev added : tie.After-add-loads2 → tie.After-add-loads
+abbrev added : tie.After-add_loads-2 → tie.After-add_loads
 added c = let place = c.before.before.before.before in place.before.before.before
 
-add-loads-requires-2 : tie.Need-add-loads-requires-2
+add-loads-requires-2 : tie.Need-add_loads-requires-2
 add-loads-requires-2 c κs =
     let place = c.before.before.before.before in
     let first = place.before.before in
-    driven (began first).requires first.add-loads.auto.1.1.1.1.1.1.0 first.add-loads.ensures
+    driven (began first).requires first.add_loads.auto.1.1.1.1.1.1.0 first.add_loads.ensures
 
 returns : tie.Need-returns
 returns c p =
     let second = c.before.before in
     let first = added second in
-    both p first.add-loads.kept.1.1.1.1.1.1.0 first.add-loads.ensures second.add-loads2.ensures
+    both p first.add_loads.kept.1.1.1.1.1.1.0 first.add_loads.ensures second.add_loads-2.ensures
 
-pub add-inside-spec : {M : Type 1} → statement M
-add-inside-spec =
+pub add_inside_spec : {M : Type 1} → statement M
+add_inside_spec =
     tie.close
     (tie.spec
     (λ c. omega (arith, c.before.before.before.requires.given))
@@ -39,5 +39,5 @@ add-inside-spec =
     add-loads-requires-2
     (λ c.
     let second = c.before.before in
-    second.add-loads2.auto.1.1.1.1.1.1.0 ∙ (added second).add-loads.auto.1.1.1.1.1.1.0)
+    second.add_loads-2.auto.1.1.1.1.1.1.0 ∙ (added second).add_loads.auto.1.1.1.1.1.1.0)
     returns)

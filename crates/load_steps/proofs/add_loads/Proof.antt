@@ -11,15 +11,15 @@ use Rattle.load_steps.proofs.Placing.{Placing, none-placed, slot-inside, place-f
 use Rattle.load_steps.proofs.add_loads.Statement.{statement}
 use Rattle.load_steps.proofs.add_loads.Tie as tie
 
-abbrev invariant-loop : tie.invariant-loop
+abbrev invariant-loop : tie.invariant-loop-i
 invariant-loop image from to inside first loads scratch₀ i₀ scratch i =
     (p : Placed image from to inside first loads scratch₀) → Placing p i scratch
 
-abbrev decreases-loop : tie.decreases-loop
+abbrev decreases-loop : tie.decreases-loop-i
 decreases-loop image from to inside first loads scratch₀ i₀ scratch i = to - i
 
 -- Where the function began, from a turn of its loop.
-abbrev start : tie.At-loop invariant-loop decreases-loop → tie.Start invariant-loop decreases-loop
+abbrev start : tie.At-loop-i invariant-loop decreases-loop → tie.Start invariant-loop decreases-loop
 start c = c.before.before.before.before
 
 -- By the branch: what a place adds, and that the loads of a module's inputs are there.
@@ -34,60 +34,60 @@ all-given inside first count is h = rw is at h
 
 -- What the place adds.
 load_is :
-    (c : tie.Joined1 invariant-loop decreases-loop)
+    (c : tie.Joined-inside invariant-loop decreases-loop)
     → let loop = c.before.before.before in
     let args = (start loop).args in
-    c.if1.load ≡ cond args.inside (get_or args.loads.now (args.first + (loop.loop.i - args.from)) 0) 1
-load_is c = ⊎_elim (λ w. of-input w.0.taken w.2) (λ w. of-gate _ w.0.left w.1) c.if1.branch
+    c.if-inside.load ≡ cond args.inside (get_or args.loads.now (args.first + (loop.loop-i.i - args.from)) 0) 1
+load_is c = ⊎_elim (λ w. of-input w.0.taken w.2) (λ w. of-gate _ w.0.left w.1) c.if-inside.branch
 
 -- The loads of a module's inputs can be read.
 inner-inside :
-    (c : tie.Then1 invariant-loop decreases-loop)
+    (c : tie.Then-inside invariant-loop decreases-loop)
     → let loop = c.before.before.before in
     let args = (start loop).args in
-    args.first + (loop.loop.i - args.from) < length args.loads.now
+    args.first + (loop.loop-i.i - args.from) < length args.loads.now
 inner-inside c =
     let loop = c.before.before.before in
     let a = (start loop).args in
     let p = (start loop).requires in
-    omega (arith, (loop.loop.invariant p).low, all-given a.inside a.first (a.to - a.from) c.if1.true p.given)
+    omega (arith, (loop.loop-i.invariant p).low, all-given a.inside a.first (a.to - a.from) c.if-inside.true p.given)
 
-slot-there : (c : tie.Joined1 invariant-loop decreases-loop) → c.before.entry.result < length c.before.before.before.loop.scratch
+slot-there : (c : tie.Joined-inside invariant-loop decreases-loop) → c.before.entry-slot.result < length c.before.before.before.loop-i.scratch
 slot-there c =
     let loop = c.before.before.before in
     let p = (start loop).requires in
-    slot-inside p (loop.loop.invariant p) c.before.before.loop-test.true c.before.entry.ensures
+    slot-inside p (loop.loop-i.invariant p) c.before.before.loop-i-test.true c.before.entry-slot.ensures
 
-add-scratch : tie.Need-overflow-add-scratch invariant-loop decreases-loop
+add-scratch : tie.Need-overflow_add-scratch invariant-loop decreases-loop
 add-scratch c =
     let joined = c.before.before in
     let loop = joined.before.before.before in
     let p = (start loop).requires in
-    record { fits = place-fits p (loop.loop.invariant p) joined.before.before.loop-test.true joined.before.entry.ensures (load_is joined) }
+    record { fits = place-fits p (loop.loop-i.invariant p) joined.before.before.loop-i-test.true joined.before.entry-slot.ensures (load_is joined) }
 
-loop-again : tie.Need-loop-preserved invariant-loop decreases-loop
+loop-again : tie.Need-loop-i-preserved invariant-loop decreases-loop
 loop-again c p =
     let joined = c.before.before in
-    more-placed p (joined.before.before.before.loop.invariant p) joined.before.before.loop-test.true joined.before.entry.ensures (load_is joined)
+    more-placed p (joined.before.before.before.loop-i.invariant p) joined.before.before.loop-i-test.true joined.before.entry-slot.ensures (load_is joined)
 
-pub add-loads-spec : {M : Type 1} → statement M
-add-loads-spec =
+pub add_loads_spec : {M : Type 1} → statement M
+add_loads_spec =
     tie.close
     (tie.spec
     invariant-loop
     decreases-loop
     (λ c p. none-placed p)
-    (λ c κs. omega (arith, (start c.before).pre.readable.inside))
-    (λ c. let loop = c.before.before.before in (loop.loop.invariant (start loop).requires).low)
+    (λ c κs. omega (arith, (start c.before).requires.readable.inside))
+    (λ c. let loop = c.before.before.before in (loop.loop-i.invariant (start loop).requires).low)
     (λ c. omega (arith, inner-inside c))
     (λ c. omega (arith, inner-inside c))
     (λ c. inner-inside c.before)
-    (λ c. let loop = c.before.before.before in omega (arith, slot-there c, (loop.loop.invariant (start loop).requires).long))
+    (λ c. let loop = c.before.before.before in omega (arith, slot-there c, (loop.loop-i.invariant (start loop).requires).long))
     (λ c. slot-there c.before)
     add-scratch
     (λ c. slot-there c.before.before)
     (λ c. omega arith)
     (λ c. omega arith)
     loop-again
-    (λ c. (c.before.loop.invariant (start c.before).pre).long)
-    (λ c p. all_placed p c.loop-test.false (c.before.loop.invariant p)))
+    (λ c. (c.before.loop-i.invariant (start c.before).requires).long)
+    (λ c p. all_placed p c.loop-i-test.false (c.before.loop-i.invariant p)))

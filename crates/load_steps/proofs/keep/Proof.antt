@@ -12,29 +12,29 @@ abbrev began : tie.After-copy → tie.Start
 began c = let lists = c.before.before.before in lists.before.before.before
 
 -- To where they are kept, from where those of the outputs are.
-abbrev copied : tie.After-keep-slots → tie.After-copy
+abbrev copied : tie.After-keep_slots → tie.After-copy
 copied c = c.before.before.before.before
 
-keep-slots-requires : tie.Need-keep-slots-requires
+keep-slots-requires : tie.Need-keep_slots-requires
 keep-slots-requires c κs =
     let first = c.before.before.before in
     let able = (began first).requires in
     (able.outputs, omega (arith, able.outputs_there, first.copy.auto.1.1.1.0))
 
-returns : tie.Need-returns
+returns : tie.Need-returns-then-k-known
 returns c =
     let second = c.before.before.before in
-    record { middle = _; inputs = (copied second).copy.ensures; outputs = second.keep-slots.ensures; largest = refl }
+    record { middle = _; inputs = (copied second).copy.ensures; outputs = second.keep_slots.ensures; largest = refl }
 
-returns-2 : tie.Need-returns-2
+returns-2 : tie.Need-returns-else-k-known
 returns-2 c =
     let second = c.before.before.before in
     let a = (began (copied second)).args in
     record {
       middle = _;
       inputs = (copied second).copy.ensures;
-      outputs = second.keep-slots.ensures;
-      largest = sym (set_out a.known.now a.k (a.load + 1) c.if1.false);
+      outputs = second.keep_slots.ensures;
+      largest = sym (set_out a.known.now a.k (a.load + 1) c.if-k-known.false);
     }
 
 pub keep_spec : {M : Type 1} → statement M

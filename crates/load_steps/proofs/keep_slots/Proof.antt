@@ -7,42 +7,42 @@ use Rattle.load_steps.proofs.Keeping.{Keeping, none_kept, slot-inside, more-kept
 use Rattle.load_steps.proofs.keep_slots.Statement.{statement}
 use Rattle.load_steps.proofs.keep_slots.Tie as tie
 
-abbrev invariant-loop : tie.invariant-loop
+abbrev invariant-loop : tie.invariant-loop-i
 invariant-loop image from to scratch loads₀ i₀ loads i =
     (r : Readable image from to 0 (length scratch)) (there : to ≤ length loads₀) → Keeping scratch r loads₀ there i loads
 
-abbrev decreases-loop : tie.decreases-loop
+abbrev decreases-loop : tie.decreases-loop-i
 decreases-loop image from to scratch loads₀ i₀ loads i = to - i
 
 -- Where the function began, from a turn of its loop.
-abbrev start : tie.At-loop invariant-loop decreases-loop → tie.Start invariant-loop decreases-loop
+abbrev start : tie.At-loop-i invariant-loop decreases-loop → tie.Start invariant-loop decreases-loop
 start c = c.before.before.before.before
 
-slot-there : (c : tie.After-entry invariant-loop decreases-loop) → c.entry.result < length (start c.before.before).args.scratch.now
+slot-there : (c : tie.After-entry-slot invariant-loop decreases-loop) → c.entry-slot.result < length (start c.before.before).args.scratch.now
 slot-there c =
     let loop = c.before.before in
     let pre = (start loop).requires in
-    slot-inside _ pre.0 _ pre.1 (loop.loop.invariant pre.0 pre.1) c.before.loop-test.true c.entry.ensures
+    slot-inside _ pre.0 _ pre.1 (loop.loop-i.invariant pre.0 pre.1) c.before.loop-i-test.true c.entry-slot.ensures
 
-place-there : (c : tie.After-entry invariant-loop decreases-loop) → c.before.before.loop.i < length c.before.before.loop.loads
+place-there : (c : tie.After-entry-slot invariant-loop decreases-loop) → c.before.before.loop-i.i < length c.before.before.loop-i.loads
 place-there c =
     let loop = c.before.before in
     let pre = (start loop).requires in
-    omega (arith, c.before.loop-test.true, (loop.loop.invariant pre.0 pre.1).long)
+    omega (arith, c.before.loop-i-test.true, (loop.loop-i.invariant pre.0 pre.1).long)
 
-loop-again : tie.Need-loop-preserved invariant-loop decreases-loop
+loop-again : tie.Need-loop-i-preserved invariant-loop decreases-loop
 loop-again c r there =
     let read = c.before in
-    more-kept _ r _ there (read.before.before.loop.invariant r there) read.before.loop-test.true read.entry.ensures
+    more-kept _ r _ there (read.before.before.loop-i.invariant r there) read.before.loop-i-test.true read.entry-slot.ensures
 
-pub keep-slots-spec : {M : Type 1} → statement M
-keep-slots-spec =
+pub keep_slots_spec : {M : Type 1} → statement M
+keep_slots_spec =
     tie.close
     (tie.spec
     invariant-loop
     decreases-loop
     (λ c r there. none_kept _ r _ there)
-    (λ c κs. omega (arith, (start c.before).pre.0.inside))
+    (λ c κs. omega (arith, (start c.before).requires.0.inside))
     (λ c. omega (arith, slot-there c))
     (λ c. slot-there c.before)
     (λ c. omega (arith, place-there c.before))
@@ -50,5 +50,5 @@ keep-slots-spec =
     (λ c. omega arith)
     (λ c. omega arith)
     loop-again
-    (λ c. let pre = (start c.before).pre in (c.before.loop.invariant pre.0 pre.1).long)
-    (λ c. let pre = (start c.before).pre in all-kept _ pre.0 _ pre.1 c.loop-test.false (c.before.loop.invariant pre.0 pre.1)))
+    (λ c. let pre = (start c.before).requires in (c.before.loop-i.invariant pre.0 pre.1).long)
+    (λ c. let pre = (start c.before).requires in all-kept _ pre.0 _ pre.1 c.loop-i-test.false (c.before.loop-i.invariant pre.0 pre.1)))

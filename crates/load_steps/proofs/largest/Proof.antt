@@ -34,14 +34,14 @@ module _ (scratch : List ℕ) (count : ℕ) (fits : count ≤ length scratch) wh
   unfolding largest
   over i most e inv = omega (arith, rw (e, past, drop-length) at inv)
 
-abbrev invariant-loop : tie.invariant-loop
+abbrev invariant-loop : tie.invariant-loop-i
 invariant-loop scratch count most₀ i₀ most i = (i ≤ count) × (max most (largest (drop i (take count scratch))) ≡ largest (take count scratch))
 
-abbrev decreases-loop : tie.decreases-loop
+abbrev decreases-loop : tie.decreases-loop-i
 decreases-loop scratch count most₀ i₀ most i = count - i
 
-pub largest-spec : {M : Type 1} → statement M
-largest-spec =
+pub largest_spec : {M : Type 1} → statement M
+largest_spec =
     tie.close
     (tie.spec
     invariant-loop
@@ -53,6 +53,6 @@ largest-spec =
     (λ c. omega arith)
     (λ c. omega arith)
     (λ c.
-    let head = c.before.before.before.loop in
-    (omega arith, next _ _ (omega arith) head.i head.most _ c.before.before.loop-test.true c.larger.ensures head.invariant.1))
-    (λ c. over _ _ c.before.before.before.requires c.before.loop.i _ (omega arith) c.before.loop.invariant.1))
+    let head = c.before.before.before.loop-i in
+    (omega arith, next _ _ (omega arith) head.i head.most _ c.before.before.loop-i-test.true c.larger-most.ensures head.invariant.1))
+    (λ c. over _ _ c.before.before.before.requires c.before.loop-i.i _ (omega arith) c.before.loop-i.invariant.1))

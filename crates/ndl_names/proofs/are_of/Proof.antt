@@ -13,10 +13,10 @@ use Rattle.ndl_names.proofs.Names.{every-none, every-next}
 use Rattle.ndl_names.proofs.are_of.Statement.{statement}
 use Rattle.ndl_names.proofs.are_of.Tie as tie
 
-abbrev invariant-loop : tie.invariant-loop
+abbrev invariant-loop : tie.invariant-loop-i
 invariant-loop kind bytes i₀ i-end i = every (belongs kind) bytes ≡ every (belongs kind) (drop i bytes)
 
-abbrev decreases-loop : tie.decreases-loop
+abbrev decreases-loop : tie.decreases-loop-i
 decreases-loop kind bytes i₀ i-end i = i-end - i
 
 -- The next byte and those behind it decide.
@@ -28,27 +28,27 @@ module _ (p : ℕ → Bool) (bytes : List ℕ) (i : ℕ) (r : Bool) (inv : every
   goes_on : not r ≡ false → every p bytes ≡ every p (drop (i + 1) bytes)
   goes_on on = inv ∙ every-next p bytes i h ∙ ap (λ (b : Bool). b && every p (drop (i + 1) bytes)) (sym e ∙ not-false r on)
 
-returns : tie.Need-returns invariant-loop decreases-loop
+returns : tie.Need-returns-then-not-is_of invariant-loop decreases-loop
 returns c =
     let turn = c.before.before.before in
     let a = turn.before.before.before.args in
-    ends (belongs a.kind) a.bytes.now turn.before.loop.i c.before.is-of.result turn.before.loop.invariant turn.loop-test.true
-    c.before.is-of.ensures c.if1.true
+    ends (belongs a.kind) a.bytes.now turn.before.loop-i.i c.before.is_of.result turn.before.loop-i.invariant turn.loop-i-test.true
+    c.before.is_of.ensures c.if-not-is_of.true
 
-loop-again : tie.Need-loop-preserved invariant-loop decreases-loop
+loop-again : tie.Need-loop-i-preserved invariant-loop decreases-loop
 loop-again c =
     let turn = c.before.before.before in
     let a = turn.before.before.before.args in
-    goes_on (belongs a.kind) a.bytes.now turn.before.loop.i c.before.is-of.result turn.before.loop.invariant turn.loop-test.true
-    c.before.is-of.ensures c.if1.false
+    goes_on (belongs a.kind) a.bytes.now turn.before.loop-i.i c.before.is_of.result turn.before.loop-i.invariant turn.loop-i-test.true
+    c.before.is_of.ensures c.if-not-is_of.false
 
-returns-2 : tie.Need-returns-2 invariant-loop decreases-loop
+returns-2 : tie.Need-returns invariant-loop decreases-loop
 returns-2 c =
     let a = c.before.before.before.args in
-    sym (c.before.loop.invariant ∙ every-none (belongs a.kind) a.bytes.now c.before.loop.i c.loop-test.false)
+    sym (c.before.loop-i.invariant ∙ every-none (belongs a.kind) a.bytes.now c.before.loop-i.i c.loop-i-test.false)
 
-pub are-of-spec : {M : Type 1} → statement M
-are-of-spec =
+pub are_of_spec : {M : Type 1} → statement M
+are_of_spec =
     tie.close
     (tie.spec
     invariant-loop

@@ -12,10 +12,10 @@ use Rattle.ndl_names.proofs.Names.{part-of-names, bad-next}
 use Rattle.ndl_names.proofs.first_bad.Statement.{statement}
 use Rattle.ndl_names.proofs.first_bad.Tie as tie
 
-abbrev invariant-loop : tie.invariant-loop
+abbrev invariant-loop : tie.invariant-loop-k
 invariant-loop names k₀ k = (k ≤ 16) × (first_bad names ≡ first_bad_from names k (16 - k))
 
-abbrev decreases-loop : tie.decreases-loop
+abbrev decreases-loop : tie.decreases-loop-k
 decreases-loop names k₀ k = 16 - k
 
 -- The name at a position is bad, or used before, or neither.
@@ -50,58 +50,58 @@ none_left names k few many =
     rw end
 
 -- The start, seen from a turn; and the turn, seen from the test of a name.
-abbrev start : tie.In-loop invariant-loop decreases-loop → tie.Start invariant-loop decreases-loop
+abbrev start : tie.In-loop-k invariant-loop decreases-loop → tie.Start invariant-loop decreases-loop
 start c = c.before.before.before
 
-loop-holds : tie.Need-loop-init invariant-loop decreases-loop
+loop-holds : tie.Need-loop-k-init invariant-loop decreases-loop
 unfolding first_bad
 loop-holds c = (omega arith, refl)
 
-returns : tie.Need-returns invariant-loop decreases-loop
+returns : tie.Need-returns-then-not-is_good invariant-loop decreases-loop
 returns c =
     let turn = c.before.before.before in
-    bad (start turn).args.names.now turn.before.loop.k c.before.is-good.result turn.loop-test.true
-    turn.before.loop.invariant.1 c.before.is-good.ensures c.if1.true
+    bad (start turn).args.names.now turn.before.loop-k.k c.before.is_good.result turn.loop-k-test.true
+    turn.before.loop-k.invariant.1 c.before.is_good.ensures c.if-not-is_good.true
 
-returns-2 : tie.Need-returns-2 invariant-loop decreases-loop
+returns-2 : tie.Need-returns-then-is_used invariant-loop decreases-loop
 returns-2 c =
     let judged = c.before.before in
     let turn = judged.before.before.before in
-    used (start turn).args.names.now turn.before.loop.k judged.before.is-good.result turn.loop-test.true
-    turn.before.loop.invariant.1 judged.before.is-good.ensures c.before.is-used.result judged.if1.false c.before.is-used.ensures c.if2.true
+    used (start turn).args.names.now turn.before.loop-k.k judged.before.is_good.result turn.loop-k-test.true
+    turn.before.loop-k.invariant.1 judged.before.is_good.ensures c.before.is_used.result judged.if-not-is_good.false c.before.is_used.ensures c.if-is_used.true
 
-loop-again : tie.Need-loop-preserved invariant-loop decreases-loop
+loop-again : tie.Need-loop-k-preserved invariant-loop decreases-loop
 loop-again c =
     let judged = c.before.before in
     let turn = judged.before.before.before in (
-      omega (arith, turn.loop-test.true),
-      goes_on (start turn).args.names.now turn.before.loop.k judged.before.is-good.result turn.loop-test.true
-          turn.before.loop.invariant.1 judged.before.is-good.ensures c.before.is-used.result judged.if1.false c.before.is-used.ensures c.if2.false,
+      omega (arith, turn.loop-k-test.true),
+      goes_on (start turn).args.names.now turn.before.loop-k.k judged.before.is_good.result turn.loop-k-test.true
+          turn.before.loop-k.invariant.1 judged.before.is_good.ensures c.before.is_used.result judged.if-not-is_good.false c.before.is_used.ensures c.if-is_used.false,
     )
 
-returns-3 : tie.Need-returns-3 invariant-loop decreases-loop
+returns-3 : tie.Need-returns invariant-loop decreases-loop
 returns-3 c =
-    let l = c.before.loop in
-    sym (l.invariant.1 ∙ none_left c.before.before.before.args.names.now l.k l.invariant.0 c.loop-test.false)
+    let l = c.before.loop-k in
+    sym (l.invariant.1 ∙ none_left c.before.before.before.args.names.now l.k l.invariant.0 c.loop-k-test.false)
 
-pub first-bad-spec : {M : Type 1} → statement M
-first-bad-spec =
+pub first_bad_spec : {M : Type 1} → statement M
+first_bad_spec =
     tie.close
     (tie.spec
     invariant-loop
     decreases-loop
     loop-holds
-    (λ c. omega (arith, c.loop-test.true))
-    (λ c. omega (arith, c.loop-test.true))
-    (λ c. omega (arith, c.loop-test.true))
-    (λ c. omega (arith, c.loop-test.true))
-    (λ c. omega (arith, c.loop-test.true))
-    (λ c. omega (arith, (start c).requires, c.loop-test.true))
+    (λ c. omega (arith, c.loop-k-test.true))
+    (λ c. omega (arith, c.loop-k-test.true))
+    (λ c. omega (arith, c.loop-k-test.true))
+    (λ c. omega (arith, c.loop-k-test.true))
+    (λ c. omega (arith, c.loop-k-test.true))
+    (λ c. omega (arith, (start c).requires, c.loop-k-test.true))
     (λ c κs. search rules)
     returns
-    (λ c κs. ((start c.before.before.before).pre, c.before.before.before.loop-test.true))
+    (λ c κs. ((start c.before.before.before).pre, c.before.before.before.loop-k-test.true))
     returns-2
-    (λ c. omega (arith, c.before.before.before.before.before.loop-test.true))
-    (λ c. omega (arith, c.before.before.before.before.before.loop-test.true))
+    (λ c. omega (arith, c.before.before.before.before.before.loop-k-test.true))
+    (λ c. omega (arith, c.before.before.before.before.before.loop-k-test.true))
     loop-again
     returns-3)

@@ -4,11 +4,11 @@ use borrow.Author.Tests.{le-leb, lt-leb}
 use Rattle.ndl_names.proofs.is_between.Statement.{statement}
 use Rattle.ndl_names.proofs.is_between.Tie as tie
 
-returns : tie.Need-returns
-returns c = let a = c.before.args in rw (le-leb a.low a.b c.if1.true) refl
+returns : tie.Need-returns-then-low-b
+returns c = let a = c.before.args in rw (le-leb a.low a.b c.if-low-b.true) refl
 
-returns-2 : tie.Need-returns-2
-returns-2 c = let a = c.before.args in rw (lt-leb a.low a.b c.if1.false) refl
+returns-2 : tie.Need-returns-else-low-b
+returns-2 c = let a = c.before.args in rw (lt-leb a.low a.b c.if-low-b.false) refl
 
-pub is-between-spec : {M : Type 1} → statement M
-is-between-spec = tie.close (tie.spec returns returns-2)
+pub is_between_spec : {M : Type 1} → statement M
+is_between_spec = tie.close (tie.spec returns returns-2)

@@ -19,24 +19,24 @@ by_first {x} y e h = ap (λ (z : Bool). z || y) (sym h ∙ e)
 by-second : {x y r s : Bool} → r ≡ x → r ≡ false → s ≡ y → s ≡ (x || y)
 by-second {y = y} e h f = f ∙ ap (λ (z : Bool). z || y) (sym h ∙ e)
 
-returns : tie.Need-returns
-returns c = told c.before.before.args.b c.enum_told.given.1 refl
+returns : tie.Need-returns-in-Space
+returns c = told c.before.before.args.b c.enum_told-1.given.1 refl
 
-returns-2 : tie.Need-returns-2
-returns-2 c = told c.before.before.before.args.b c.before.enum-told2.given.1 c.is-between.ensures
+returns-2 : tie.Need-returns-in-Digit
+returns-2 c = told c.before.before.before.args.b c.before.enum_told-in-Digit-1.given.1 c.is_between.ensures
 
-returns-3 : tie.Need-returns-3
+returns-3 : tie.Need-returns-then-is_between
 returns-3 c =
-    told c.before.before.before.before.args.b c.before.before.enum-told3.given.1
-    (by_first _ c.before.is-between2.ensures c.if1.true)
+    told c.before.before.before.before.args.b c.before.before.enum_told-in-CapitalOrDigit-1.given.1
+    (by_first _ c.before.is_between-in-CapitalOrDigit.ensures c.if-is_between.true)
 
-returns-4 : tie.Need-returns-4
+returns-4 : tie.Need-returns-else-is_between
 returns-4 c =
-    told c.before.before.before.before.before.args.b c.before.before.before.enum-told3.given.1
-    (by-second c.before.before.is-between2.ensures c.before.if1.false c.is-between3.ensures)
+    told c.before.before.before.before.before.args.b c.before.before.before.enum_told-in-CapitalOrDigit-1.given.1
+    (by-second c.before.before.is_between-in-CapitalOrDigit.ensures c.before.if-is_between.false c.is_between-else-is_between.ensures)
 
-pub is-of-spec : {M : Type 1} → statement M
-is-of-spec =
+pub is_of_spec : {M : Type 1} → statement M
+is_of_spec =
     tie.close
     (tie.spec
     (λ c. search rules)

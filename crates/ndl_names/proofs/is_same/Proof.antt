@@ -11,10 +11,10 @@ use Rattle.ndl_names.proofs.Names.{same_none, same_next}
 use Rattle.ndl_names.proofs.is_same.Statement.{statement}
 use Rattle.ndl_names.proofs.is_same.Tie as tie
 
-abbrev invariant-loop : tie.invariant-loop
+abbrev invariant-loop : tie.invariant-loop-i
 invariant-loop one other i₀ i-end i = same_name one other ≡ same_name (drop i one) (drop i other)
 
-abbrev decreases-loop : tie.decreases-loop
+abbrev decreases-loop : tie.decreases-loop-i
 decreases-loop one other i₀ i-end i = i-end - i
 
 -- The next two bytes and those behind them decide.
@@ -33,27 +33,27 @@ module _ (one other : List ℕ) (i : ℕ) (same : length one ≡ length other) (
       ∙ same_next one other i same h
       ∙ ap (λ (b : Bool). b && same_name (drop (i + 1) one) (drop (i + 1) other)) (eq-eqb (get_or one i 0) (get_or other i 0) like)
 
-returns : tie.Need-returns invariant-loop decreases-loop
+returns : tie.Need-returns-then-one-i invariant-loop decreases-loop
 returns c =
     let turn = c.before.before.before in
     let start = turn.before.before in
-    differ start.args.one.now start.args.other.now turn.before.loop.i start.requires turn.before.loop.invariant
-    turn.loop-test.true c.if1.true
+    differ start.args.one.now start.args.other.now turn.before.loop-i.i start.requires turn.before.loop-i.invariant
+    turn.loop-i-test.true c.if-one-i.true
 
-loop-again : tie.Need-loop-preserved invariant-loop decreases-loop
+loop-again : tie.Need-loop-i-preserved invariant-loop decreases-loop
 loop-again c =
     let turn = c.before.before.before in
     let start = turn.before.before in
-    agree start.args.one.now start.args.other.now turn.before.loop.i start.requires turn.before.loop.invariant
-    turn.loop-test.true c.if1.false
+    agree start.args.one.now start.args.other.now turn.before.loop-i.i start.requires turn.before.loop-i.invariant
+    turn.loop-i-test.true c.if-one-i.false
 
-returns-2 : tie.Need-returns-2 invariant-loop decreases-loop
+returns-2 : tie.Need-returns invariant-loop decreases-loop
 returns-2 c =
     let start = c.before.before in
-    sym (c.before.loop.invariant ∙ same_none start.args.one.now start.args.other.now c.before.loop.i start.requires c.loop-test.false)
+    sym (c.before.loop-i.invariant ∙ same_none start.args.one.now start.args.other.now c.before.loop-i.i start.requires c.loop-i-test.false)
 
-pub is-same-spec : {M : Type 1} → statement M
-is-same-spec =
+pub is_same_spec : {M : Type 1} → statement M
+is_same_spec =
     tie.close
     (tie.spec
     invariant-loop

@@ -27,32 +27,32 @@ met {r} e h = sym e ∙ not-false r h
 unmet : {r x : Bool} → r ≡ x → not r ≡ true → x ≡ false
 unmet {r} e h = sym e ∙ not-true r h
 
-returns : tie.Need-returns
-returns c = one-fails _ _ _ (lt-leb 1 (length c.before.before.before.args.word.now) c.if1.true)
+returns : tie.Need-returns-then-word-lt1
+returns c = one-fails _ _ _ (lt-leb 1 (length c.before.before.before.args.word.now) c.if-word-lt1.true)
 
-returns-2 : tie.Need-returns-2
+returns-2 : tie.Need-returns-then-not-are_of
 returns-2 c =
     let long = c.before.before in
-    two-fails _ _ (le-leb 1 (length long.before.before.before.args.word.now) long.if1.false) (unmet c.before.are-of.ensures c.if2.true)
+    two-fails _ _ (le-leb 1 (length long.before.before.before.args.word.now) long.if-word-lt1.false) (unmet c.before.are_of.ensures c.if-not-are_of.true)
 
-returns-3 : tie.Need-returns-3
+returns-3 : tie.Need-returns-then-not-are_of-2
 returns-3 c =
     let second = c.before.before in
     let long = second.before.before in
-    three-fails _ (le-leb 1 (length long.before.before.before.args.word.now) long.if1.false) (met second.before.are-of.ensures second.if2.false)
-    (unmet c.before.are-of2.ensures c.if3.true)
+    three-fails _ (le-leb 1 (length long.before.before.before.args.word.now) long.if-word-lt1.false) (met second.before.are_of.ensures second.if-not-are_of.false)
+    (unmet c.before.are_of-2.ensures c.if-not-are_of-2.true)
 
-returns-4 : tie.Need-returns-4
+returns-4 : tie.Need-returns
 returns-4 c =
     let third = c.before in
     let second = third.before.before in
     let long = second.before.before in
-    four-decides (le-leb 1 (length long.before.before.before.args.word.now) long.if1.false) (met second.before.are-of.ensures second.if2.false)
-    (met third.before.are-of2.ensures third.if3.false)
-    (ap not c.is-like-module.ensures)
+    four-decides (le-leb 1 (length long.before.before.before.args.word.now) long.if-word-lt1.false) (met second.before.are_of.ensures second.if-not-are_of.false)
+    (met third.before.are_of-2.ensures third.if-not-are_of-2.false)
+    (ap not c.is_like_module.ensures)
 
-pub is-spelled-spec : {M : Type 1} → statement M
-is-spelled-spec =
+pub is_spelled_spec : {M : Type 1} → statement M
+is_spelled_spec =
     tie.close
     (tie.spec
     returns

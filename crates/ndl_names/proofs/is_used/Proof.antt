@@ -10,10 +10,10 @@ use Rattle.ndl_names.proofs.Names.{part-of-names, used-next}
 use Rattle.ndl_names.proofs.is_used.Statement.{statement}
 use Rattle.ndl_names.proofs.is_used.Tie as tie
 
-abbrev invariant-loop : tie.invariant-loop
+abbrev invariant-loop : tie.invariant-loop-j
 invariant-loop names k name j₀ j = (j ≤ k) × (used_in names k (name_at names k) ≡ used_in names j (name_at names k))
 
-abbrev decreases-loop : tie.decreases-loop
+abbrev decreases-loop : tie.decreases-loop-j
 decreases-loop names k name j₀ j = j
 
 -- A part of the names has eight bytes.
@@ -44,42 +44,42 @@ none_left names name j h =
     rw zero
 
 -- The start, seen from a turn.
-abbrev start : tie.In-loop invariant-loop decreases-loop → tie.Start invariant-loop decreases-loop
+abbrev start : tie.In-loop-j invariant-loop decreases-loop → tie.Start invariant-loop decreases-loop
 start c = c.before.before.before.before
 
-is-same-requires : tie.Need-is-same-requires invariant-loop decreases-loop
+is-same-requires : tie.Need-is_same-requires invariant-loop decreases-loop
 is-same-requires c κs =
     let turn = c.before in
     let s = start turn in
-    let j = turn.before.loop.j in
-    eight s.args.names.now (j - 1) (omega (arith, s.pre, turn.before.loop.invariant.0, turn.loop-test.true))
-    ∙ sym (eight s.args.names.now s.args.k (omega (arith, s.pre)))
+    let j = turn.before.loop-j.j in
+    eight s.args.names.now (j - 1) (omega (arith, s.pre, turn.before.loop-j.invariant.0, turn.loop-j-test.true))
+    ∙ sym (eight s.args.names.now s.args.k (omega (arith, s.requires)))
 
-returns : tie.Need-returns invariant-loop decreases-loop
+returns : tie.Need-returns-then-is_same invariant-loop decreases-loop
 returns c =
     let same = c.before in
     let turn = same.before.before in
     let s = start turn in
-    met s.args.names.now s.args.k turn.before.loop.j same.is_same.result turn.loop-test.true
-    turn.before.loop.invariant.1 same.is_same.ensures c.if1.true
+    met s.args.names.now s.args.k turn.before.loop-j.j same.is_same.result turn.loop-j-test.true
+    turn.before.loop-j.invariant.1 same.is_same.ensures c.if-is_same.true
 
-loop-again : tie.Need-loop-preserved invariant-loop decreases-loop
+loop-again : tie.Need-loop-j-preserved invariant-loop decreases-loop
 loop-again c =
     let same = c.before in
     let turn = same.before.before in
     let s = start turn in (
-      omega (arith, turn.before.loop.invariant.0),
-      goes_on s.args.names.now s.args.k turn.before.loop.j same.is_same.result turn.loop-test.true
-          turn.before.loop.invariant.1 same.is_same.ensures c.if1.false,
+      omega (arith, turn.before.loop-j.invariant.0),
+      goes_on s.args.names.now s.args.k turn.before.loop-j.j same.is_same.result turn.loop-j-test.true
+          turn.before.loop-j.invariant.1 same.is_same.ensures c.if-is_same.false,
     )
 
-returns-2 : tie.Need-returns-2 invariant-loop decreases-loop
+returns-2 : tie.Need-returns invariant-loop decreases-loop
 returns-2 c =
     let names = c.before.before.before.before.args.names.now in
-    sym (c.before.loop.invariant.1 ∙ none_left names _ c.before.loop.j c.loop-test.false)
+    sym (c.before.loop-j.invariant.1 ∙ none_left names _ c.before.loop-j.j c.loop-j-test.false)
 
-pub is-used-spec : {M : Type 1} → statement M
-is-used-spec =
+pub is_used_spec : {M : Type 1} → statement M
+is_used_spec =
     tie.close
     (tie.spec
     invariant-loop
@@ -92,12 +92,12 @@ is-used-spec =
     (λ c. omega (arith, c.before.requires))
     (λ c. (omega arith, refl))
     (λ c. omega arith)
-    (λ c. omega (arith, (start c).requires, c.before.loop.invariant.0))
-    (λ c. omega (arith, (start c).requires, c.before.loop.invariant.0))
-    (λ c. omega (arith, (start c).requires, c.before.loop.invariant.0))
-    (λ c. omega (arith, (start c).requires, c.before.loop.invariant.0))
-    (λ c. omega (arith, (start c).requires, c.before.loop.invariant.0))
-    (λ c. omega (arith, (start c).requires, c.before.loop.invariant.0))
+    (λ c. omega (arith, (start c).requires, c.before.loop-j.invariant.0))
+    (λ c. omega (arith, (start c).requires, c.before.loop-j.invariant.0))
+    (λ c. omega (arith, (start c).requires, c.before.loop-j.invariant.0))
+    (λ c. omega (arith, (start c).requires, c.before.loop-j.invariant.0))
+    (λ c. omega (arith, (start c).requires, c.before.loop-j.invariant.0))
+    (λ c. omega (arith, (start c).requires, c.before.loop-j.invariant.0))
     is-same-requires
     returns
     (λ c. omega arith)

@@ -8,31 +8,31 @@ use Rattle.ndl_names.proofs.Names.{letters-none, letters-end, letters-next}
 use Rattle.ndl_names.proofs.letters.Statement.{statement}
 use Rattle.ndl_names.proofs.letters.Tie as tie
 
-abbrev invariant-loop : tie.invariant-loop
+abbrev invariant-loop : tie.invariant-loop-i
 invariant-loop name i₀ i = (i ≤ length name) × (length (letters name) ≡ i + length (letters (drop i name)))
 
-abbrev decreases-loop : tie.decreases-loop
+abbrev decreases-loop : tie.decreases-loop-i
 decreases-loop name i₀ i = length name - i
 
-loop-again : tie.Need-loop-preserved invariant-loop decreases-loop
+loop-again : tie.Need-loop-i-preserved invariant-loop decreases-loop
 loop-again c =
     let turn = c.before.before in
     let name = turn.before.before.args.name.now in
-    (omega arith, omega (arith, turn.before.loop.invariant.1, letters-next name turn.before.loop.i turn.loop-test.true c.if1.true))
+    (omega arith, omega (arith, turn.before.loop-i.invariant.1, letters-next name turn.before.loop-i.i turn.loop-i-test.true c.if-name-i-ne32.true))
 
-returns : tie.Need-returns invariant-loop decreases-loop
+returns : tie.Need-returns-else-name-i-ne32 invariant-loop decreases-loop
 returns c =
     let turn = c.before.before in
     let name = turn.before.before.args.name.now in
-    omega (arith, turn.before.loop.invariant.1, letters-end name turn.before.loop.i turn.loop-test.true c.if1.false)
+    omega (arith, turn.before.loop-i.invariant.1, letters-end name turn.before.loop-i.i turn.loop-i-test.true c.if-name-i-ne32.false)
 
-returns-2 : tie.Need-returns-2 invariant-loop decreases-loop
+returns-2 : tie.Need-returns-after-loop-i invariant-loop decreases-loop
 returns-2 c =
     let name = c.before.before.args.name.now in
-    omega (arith, c.before.loop.invariant.1, letters-none name c.before.loop.i c.loop-test.false)
+    omega (arith, c.before.loop-i.invariant.1, letters-none name c.before.loop-i.i c.loop-i-test.false)
 
-pub letters-spec : {M : Type 1} → statement M
-letters-spec =
+pub letters_spec : {M : Type 1} → statement M
+letters_spec =
     tie.close
     (tie.spec
     invariant-loop

@@ -9,12 +9,12 @@ use Rattle.open_beside.proofs.answered.Tie as tie
 abbrev entered : tie.After-judged → tie.Start
 entered c = c.before
 
-pub answered-spec : {M : Type 1} → statement M
-answered-spec =
+pub answered_spec : {M : Type 1} → statement M
+answered_spec =
     tie.close
     (tie.spec
     (λ c κs. search rules)
     (λ c. search rules)
     (λ c. search rules)
-    (λ c. ap (λ (p : Prepared). beside_of p (entered c.before.before.before).args.numbers) (sym c.before.number.given.1 ∙ c.before.before.before.judged.ensures))
-    (λ c. ap (λ (p : Prepared). beside_of p (entered c.before.before.before).args.numbers) (sym c.before.modules.given.1 ∙ c.before.before.before.judged.ensures)))
+    (λ c. ap (λ (p : Prepared). beside_of p (entered c.before.before.before).args.numbers) (sym c.before.number-1.given.1 ∙ c.before.before.before.judged.ensures))
+    (λ c. ap (λ (p : Prepared). beside_of p (entered c.before.before.before).args.numbers) (sym c.before.modules-1.given.1 ∙ c.before.before.before.judged.ensures)))

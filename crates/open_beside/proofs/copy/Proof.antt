@@ -29,16 +29,16 @@ copy_more source target i left c =
 copy-all : (source target : List ℕ) (i : ℕ) → length source ≤ i → Copied source target i → target ≡ source
 copy-all source target i all c = sym (take_all i target (omega (arith, c.long))) ∙ c.same ∙ take_all i source all
 
-abbrev invariant-loop : tie.invariant-loop
+abbrev invariant-loop : tie.invariant-loop-i
 invariant-loop source target₀ i₀ i-end target i = Copied source target i
 
-abbrev decreases-loop : tie.decreases-loop
+abbrev decreases-loop : tie.decreases-loop-i
 decreases-loop source target₀ i₀ i-end target i = i-end - i
 
-loop-again : tie.Need-loop-preserved invariant-loop decreases-loop
+loop-again : tie.Need-loop-i-preserved invariant-loop decreases-loop
 loop-again c =
     let turn = c.before in
-    copy_more turn.before.before.args.source.now turn.before.loop.target turn.before.loop.i turn.loop-test.true turn.before.loop.invariant
+    copy_more turn.before.before.args.source.now turn.before.loop-i.target turn.before.loop-i.i turn.loop-i-test.true turn.before.loop-i.invariant
 
 pub copy_spec : {M : Type 1} → statement M
 copy_spec =
@@ -50,9 +50,9 @@ copy_spec =
     (λ c. omega arith)
     (λ c. omega arith)
     (λ c. omega arith)
-    (λ c. omega (arith, c.before.before.loop.invariant.long))
+    (λ c. omega (arith, c.before.before.loop-i.invariant.long))
     (λ c. omega arith)
     (λ c. omega arith)
     loop-again
-    (λ c. omega (arith, c.before.loop.invariant.long, c.before.before.requires))
-    (λ c. copy-all c.before.before.args.source.now c.before.loop.target c.before.loop.i c.loop-test.false c.before.loop.invariant))
+    (λ c. omega (arith, c.before.loop-i.invariant.long, c.before.before.requires))
+    (λ c. copy-all c.before.before.args.source.now c.before.loop-i.target c.before.loop-i.i c.loop-i-test.false c.before.loop-i.invariant))

@@ -10,35 +10,35 @@ use Rattle.open_finding.proofs.ModuleSearch.{Sought, sought_none, sought_here, s
 use Rattle.open_finding.proofs.find.Statement.{statement}
 use Rattle.open_finding.proofs.find.Tie as tie
 
-abbrev invariant-loop : tie.invariant-loop
+abbrev invariant-loop : tie.invariant-loop-k
 invariant-loop names modules number k₀ k = (k ≤ modules) × ((s : Searchable names modules) → Sought s.ms number k)
 
-abbrev decreases-loop : tie.decreases-loop
+abbrev decreases-loop : tie.decreases-loop-k
 decreases-loop names modules number k₀ k = modules - k
 
-loop-holds : tie.Need-loop-init invariant-loop decreases-loop
+loop-holds : tie.Need-loop-k-init invariant-loop decreases-loop
 loop-holds c = (omega arith, λ s. sought_none s.ms c.args.number)
 
 -- The list has an entry for the module of this turn.
-listed : (c : tie.In-loop invariant-loop decreases-loop) → c.before.loop.k < length c.before.before.args.names.now
-listed c = let p = c.before.before.requires in omega (arith, c.loop-test.true, p.all, p.listed)
+listed : (c : tie.In-loop-k invariant-loop decreases-loop) → c.before.loop-k.k < length c.before.before.args.names.now
+listed c = let p = c.before.before.requires in omega (arith, c.loop-k-test.true, p.all, p.listed)
 
-mul-if1 : tie.Need-overflow-mul-if1 invariant-loop decreases-loop
+mul-if1 : tie.Need-offset_bounds-names-k invariant-loop decreases-loop
 mul-if1 c = let h = listed c in search rules
 
-returns : tie.Need-returns invariant-loop decreases-loop
+returns : tie.Need-returns-then-names-k invariant-loop decreases-loop
 returns c s =
-    let l = c.before.before.before.loop in
+    let l = c.before.before.before.loop-k in
     let h = here-at s.ms l.k (omega (arith, s.all)) in
-    sought_here (l.invariant.1 s) h (sym (s.name l.k h.here) ∙ c.if1.true)
+    sought_here (l.invariant.1 s) h (sym (s.name l.k h.here) ∙ c.if-names-k.true)
 
-loop-again : tie.Need-loop-preserved invariant-loop decreases-loop
+loop-again : tie.Need-loop-k-preserved invariant-loop decreases-loop
 loop-again c =
-    let l = c.before.before.before.loop in (
+    let l = c.before.before.before.loop-k in (
       omega arith,
       λ s.
           let h = here-at s.ms l.k (omega (arith, s.all)) in
-          sought_more (l.invariant.1 s) h (λ e. c.if1.false (s.name l.k h.here ∙ e)),
+          sought_more (l.invariant.1 s) h (λ e. c.if-names-k.false (s.name l.k h.here ∙ e)),
     )
 
 pub find_spec : {M : Type 1} → statement M
@@ -54,4 +54,4 @@ find_spec =
     (λ c. omega arith)
     (λ c. omega arith)
     loop-again
-    (λ c s. sought_all (c.before.loop.invariant.1 s) (omega (arith, s.all))))
+    (λ c s. sought_all (c.before.loop-k.invariant.1 s) (omega (arith, s.all))))

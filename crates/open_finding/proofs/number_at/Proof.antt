@@ -24,11 +24,11 @@ module _ {names : List ℕ} {modules : ℕ} (s : Searchable names modules) (posi
       let past : length s.ms ≤ position = omega (arith, s.all) in
       rw (drop_of_length-le s.ms past)
 
-pub number-at-spec : {M : Type 1} → statement M
-number-at-spec =
+pub number_at_spec : {M : Type 1} → statement M
+number_at_spec =
     tie.close
     (tie.spec
     (λ c. search rules)
     (λ c. search rules)
-    (λ c s. within s _ c.before.if1.true)
-    (λ c s. beyond s _ c.if1.false))
+    (λ c s. within s _ c.before.if-position-modules.true)
+    (λ c s. beyond s _ c.if-position-modules.false))

@@ -9,39 +9,39 @@ use Rattle.open_places.proofs.Naming.{NamedTo, named_none, named_more, named-all
 use Rattle.open_places.proofs.name.Statement.{statement}
 use Rattle.open_places.proofs.name.Tie as tie
 
-abbrev invariant-loop : tie.invariant-loop
+abbrev invariant-loop : tie.invariant-loop-k
 invariant-loop numbers starts modules names₀ k₀ names k =
     (length names ≡ length names₀) × (k ≤ modules) × ((h : Headed numbers starts modules names₀) → NamedTo h.ms names k)
 
-abbrev decreases-loop : tie.decreases-loop
+abbrev decreases-loop : tie.decreases-loop-k
 decreases-loop numbers starts modules names₀ k₀ names k = modules - k
 
 -- In a turn the module's start is listed, its number is there, and there is room to name it.
 turn :
-    (c : tie.In-loop invariant-loop decreases-loop)
+    (c : tie.In-loop-k invariant-loop decreases-loop)
     → (let a = c.before.before.args in
-    let k = c.before.loop.k in
-    (k < length a.starts.now) × (get_or a.starts.now k 0 < length a.numbers.now) × (k < length c.before.loop.names))
+    let k = c.before.loop-k.k in
+    (k < length a.starts.now) × (get_or a.starts.now k 0 < length a.numbers.now) × (k < length c.before.loop-k.names))
 turn c =
     let p = c.before.before.requires in
-    let l = c.before.loop in
-    let t = c.loop-test.true in (
+    let l = c.before.loop-k in
+    let t = c.loop-k-test.true in (
       omega (arith, p.all, p.started),
       p.inside l.k (omega (arith, p.all)),
       omega (arith, p.all, p.room, l.invariant.0),
     )
 
-loop-again : tie.Need-loop-preserved invariant-loop decreases-loop
+loop-again : tie.Need-loop-k-preserved invariant-loop decreases-loop
 loop-again c =
     let t = c.before.before in
-    let l = t.before.loop in (
+    let l = t.before.loop-k in (
       length-set l.names l.k _ ∙ l.invariant.0,
-      omega (arith, t.loop-test.true),
+      omega (arith, t.loop-k-test.true),
       λ h. named_more (l.invariant.2 h) (turn t).2 (λ m later e. h.head l.k e),
     )
 
-pub name-spec : {M : Type 1} → statement M
-name-spec =
+pub name_spec : {M : Type 1} → statement M
+name_spec =
     tie.close
     (tie.spec
     invariant-loop
@@ -53,8 +53,8 @@ name-spec =
     (λ c. (turn c.before.before).1)
     (λ c. let h = (turn c.before.before).2 in search rules)
     (λ c. (turn c.before.before).2)
-    (λ c. omega (arith, c.before.before.loop-test.true))
-    (λ c. omega (arith, c.before.before.loop-test.true))
+    (λ c. omega (arith, c.before.before.loop-k-test.true))
+    (λ c. omega (arith, c.before.before.loop-k-test.true))
     loop-again
-    (λ c. c.before.loop.invariant.0)
-    (λ c h. named-all (c.before.loop.invariant.2 h) (omega (arith, c.loop-test.false, h.all))))
+    (λ c. c.before.loop-k.invariant.0)
+    (λ c h. named-all (c.before.loop-k.invariant.2 h) (omega (arith, c.loop-k-test.false, h.all))))

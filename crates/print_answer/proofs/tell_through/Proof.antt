@@ -10,21 +10,21 @@ use Rattle.print_lines.specs.Standing.{FileTold}
 use Rattle.print_answer.proofs.tell_through.Statement.{statement}
 use Rattle.print_answer.proofs.tell_through.Tie as tie
 
-abbrev start : tie.After-put-file → tie.Start
+abbrev start : tie.After-put_file-count → tie.Start
 start c = c.before.before.before.before.before
 
-front : (c : tie.After-put-file) (t : FileTold (start c).args.numbers.now (start c).args.text.now)
-    → Filled (list_text t.ms) (start c).args.text.now c.put-file.new.1.0 c.put-file.result
-front c t = put_front (c.put-file.ensures t)
+front : (c : tie.After-put_file-count) (t : FileTold (start c).args.numbers.now (start c).args.text-1.now)
+    → Filled (list_text t.ms) (start c).args.text-1.now c.put_file-count.new.1.0 c.put_file-count.result
+front c t = put_front (c.put_file-count.ensures t)
 
 returns : tie.Need-returns
 returns c t =
     let a = c.before.before in
     let p = a.before.before.before.before.before in
-    answers-laid (list_text t.ms) (start p).args.out.now (front p t) a.answer.ensures
+    answers-laid (list_text t.ms) (start p).args.out-1.now (front p t) a.answer.ensures
 
-pub tell-through-spec : {M : Type 1} → statement M
-tell-through-spec =
+pub tell_through_spec : {M : Type 1} → statement M
+tell_through_spec =
     tie.close
     (tie.spec
     (λ c κs. search rules)

@@ -19,5 +19,5 @@ returns c =
     let s = p.before.before.before.before.before in
     rw (named-by-table s.args.number) at p.put.ensures
 
-pub put-name-spec : {M : Type 1} → statement M
-put-name-spec = tie.close (tie.spec put-requires (λ c. search rules) returns)
+pub put_name_spec : {M : Type 1} → statement M
+put_name_spec = tie.close (tie.spec put-requires (λ c. search rules) returns)

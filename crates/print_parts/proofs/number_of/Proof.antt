@@ -5,14 +5,14 @@ use borrow.Author.Rules.{rules}
 use Rattle.print_parts.proofs.number_of.Statement.{statement}
 use Rattle.print_parts.proofs.number_of.Tie as tie
 
-abbrev invariant-loop : tie.invariant-loop
+abbrev invariant-loop : tie.invariant-loop-i
 invariant-loop list number₀ i₀ number i = number ≤ 655605
 
-abbrev decreases-loop : tie.decreases-loop
+abbrev decreases-loop : tie.decreases-loop-i
 decreases-loop list number₀ i₀ number i = length list - i
 
-pub number-of-spec : {M : Type 1} → statement M
-number-of-spec =
+pub number_of_spec : {M : Type 1} → statement M
+number_of_spec =
     tie.close
     (tie.spec
     invariant-loop

@@ -6,14 +6,14 @@ use borrow.Author.Rules.{rules}
 use Rattle.prog_gimlet.proofs.gather.Statement.{statement}
 use Rattle.prog_gimlet.proofs.gather.Tie as tie
 
-abbrev invariant-loop : tie.invariant-loop
+abbrev invariant-loop : tie.invariant-loop-i
 invariant-loop line₀ word₀ filled₀ i₀ i-end line word filled i = (length line ≡ length line₀) × (4096 ≡ length word)
 
-abbrev decreases-loop : tie.decreases-loop
+abbrev decreases-loop : tie.decreases-loop-i
 decreases-loop line₀ word₀ filled₀ i₀ i-end line word filled i = i-end - i
 
-pub gather-spec : {M : Type 1} → statement M
-gather-spec =
+pub gather_spec : {M : Type 1} → statement M
+gather_spec =
     tie.close
     (tie.spec
     invariant-loop

@@ -9,54 +9,54 @@ use Rattle.read_file.proofs.keep_file.Statement.{statement}
 use Rattle.read_file.proofs.keep_file.Tie as tie
 
 -- The function's start, and the call that reads the count; from where it is read back, and from behind the modules.
-abbrev begun : tie.After-keep-count-arg → tie.Start
+abbrev begun : tie.After-keep_count-arg-1 → tie.Start
 begun c = let known = c.before in known.before.before.before.before
 
-abbrev counting : tie.After-way → tie.After-keep-count
+abbrev counting : tie.In-On-2 → tie.After-keep_count-way
 counting c = c.before.before.before.before
 
-abbrev entry : tie.After-way → tie.Start
+abbrev entry : tie.In-On-2 → tie.Start
 entry c = begun (counting c).before
 
-abbrev read : tie.After-last-kept → tie.After-way
+abbrev read : tie.After-last_kept-count → tie.In-On-2
 read c = c.before.before.before
 
-abbrev modules : tie.After-slice-known7 → tie.After-keep-modules
+abbrev modules : tie.After-slice_known-7-1 → tie.After-keep_modules
 modules c = let lists = c.before.before.before in lists.before.before.before
 
 -- The count is laid out, and reading stands behind it.
-there : (c : tie.After-way)
-    → CountTaken most_modules (entry c).args.bytes.now first (entry c).args.numbers.now
-    c.way.given.0.0 (counting c).keep-count.new.1.1.1.0
-there c = counted most_modules (stands-first (entry c).requires.0) c.way.given.1 (counting c).keep-count.ensures
+there : (c : tie.In-On-2)
+    → CountTaken most_modules (entry c).args.bytes.now first (entry c).args.numbers-1.now
+    c.way-1.given.0.0 (counting c).keep_count-way.new.1.1.1.0
+there c = counted most_modules (stands-first (entry c).requires.0) c.way-1.given.1 (counting c).keep_count-way.ensures
 
-returns : tie.Need-returns
-returns c = through-refused c.enum_told.given.1 c.before.before.before.before.keep-count.ensures
+returns : tie.Need-returns-in_default
+returns c = through-refused c.enum_told-1.given.1 c.before.before.before.before.keep_count-way.ensures
 
-cast-count : tie.Need-overflow-cast-count
-cast-count c = let h = (there (read c)).small in omega (arith, c.last-kept.ensures)
+cast-count : tie.Need-overflow_cast-count
+cast-count c = let h = (there (read c)).small in omega (arith, c.last_kept-count.ensures)
 
-keep-modules-requires : tie.Need-keep-modules-requires
+keep-modules-requires : tie.Need-keep_modules-requires
 keep-modules-requires c κs =
     let count = c.before.before.before in
     let p = read count in
     let h = (there p).small in
-    let fit = (entry p).pre.1 in (
+    let fit = (entry p).requires.1 in (
       (there p).there.stands,
       record {
-        in_numbers = omega (arith, fit.in_numbers, count.last-kept.ensures);
-        in_bytes = omega (arith, fit.in_bytes, count.last-kept.ensures);
+        in_numbers = omega (arith, fit.in_numbers, count.last_kept-count.ensures);
+        in_bytes = omega (arith, fit.in_bytes, count.last_kept-count.ensures);
       },
     )
 
-returns-2 : tie.Need-returns-2
+returns-2 : tie.Need-returns
 returns-2 c =
     let m = modules c in
     let count = m.before.before.before.before in
-    through-modules (there (read count)) count.last-kept.ensures m.keep-modules.ensures
+    through-modules (there (read count)) count.last_kept-count.ensures m.keep_modules.ensures
 
-pub keep-file-spec : {M : Type 1} → statement M
-keep-file-spec =
+pub keep_file_spec : {M : Type 1} → statement M
+keep_file_spec =
     tie.close
     (tie.spec
     (λ c κs. stands-first (begun c).requires.0)

@@ -10,70 +10,70 @@ use Rattle.read_file.proofs.Modules.{Passing, passing-first, passing-next, passi
 use Rattle.read_file.proofs.keep_modules.Statement.{statement}
 use Rattle.read_file.proofs.keep_modules.Tie as tie
 
-abbrev invariant-loop : tie.invariant-loop
+abbrev invariant-loop : tie.invariant-loop-i
 invariant-loop count bytes numbers₀ starts₀ offsets₀ spot₀ i₀ numbers starts offsets spot i =
     Passing bytes spot₀ count i numbers₀ numbers starts₀ starts offsets₀ offsets spot
 
-abbrev decreases-loop : tie.decreases-loop
+abbrev decreases-loop : tie.decreases-loop-i
 decreases-loop count bytes numbers₀ starts₀ offsets₀ spot₀ i₀ numbers starts offsets spot i = count - i
 
 -- The function's start, from the loop's head.
-abbrev entry : tie.At-loop invariant-loop decreases-loop → tie.Start invariant-loop decreases-loop
+abbrev entry : tie.At-loop-i invariant-loop decreases-loop → tie.Start invariant-loop decreases-loop
 entry c = let known = c.before in known.before.before.before.before
 
 -- The lists of places are as long as they came.
-starts_length : (c : tie.At-loop invariant-loop decreases-loop) → length c.loop.starts ≡ length (entry c).args.starts.now
-starts_length c = passing_starts c.loop.invariant (entry c).requires.1
+starts_length : (c : tie.At-loop-i invariant-loop decreases-loop) → length c.loop-i.starts ≡ length (entry c).args.starts.now
+starts_length c = passing_starts c.loop-i.invariant (entry c).requires.1
 
-offsets_length : (c : tie.At-loop invariant-loop decreases-loop) → length c.loop.offsets ≡ length (entry c).args.offsets.now
-offsets_length c = passing_offsets c.loop.invariant (entry c).requires.1
+offsets_length : (c : tie.At-loop-i invariant-loop decreases-loop) → length c.loop-i.offsets ≡ length (entry c).args.offsets.now
+offsets_length c = passing_offsets c.loop-i.invariant (entry c).requires.1
 
-slice-write-starts : tie.Need-slice-write-starts invariant-loop decreases-loop
-slice-write-starts c = fits_starts c.before.loop.invariant (entry c.before).pre.1 c.loop-test.true
+slice-write-starts : tie.Need-bounds-starts-i invariant-loop decreases-loop
+slice-write-starts c = fits_starts c.before.loop-i.invariant (entry c.before).requires.1 c.loop-i-test.true
 
-mul-starts : tie.Need-overflow-mul-starts invariant-loop decreases-loop
+mul-starts : tie.Need-offset_bounds-starts-i invariant-loop decreases-loop
 mul-starts c =
     let h = slice-write-starts c in
     let l = starts_length c.before in
     omega (arith, (entry c.before).good)
 
-slice-write-offsets : tie.Need-slice-write-offsets invariant-loop decreases-loop
-slice-write-offsets c = fits_offsets c.before.loop.invariant (entry c.before).pre.1 c.loop-test.true
+slice-write-offsets : tie.Need-bounds-offsets-i invariant-loop decreases-loop
+slice-write-offsets c = fits_offsets c.before.loop-i.invariant (entry c.before).requires.1 c.loop-i-test.true
 
-mul-offsets : tie.Need-overflow-mul-offsets invariant-loop decreases-loop
+mul-offsets : tie.Need-offset_bounds-offsets-i invariant-loop decreases-loop
 mul-offsets c =
     let h = slice-write-offsets c in
     let l = offsets_length c.before in
     omega (arith, (entry c.before).good)
 
 -- The turn that a call is made in.
-abbrev turn : tie.After-keep-module invariant-loop decreases-loop → tie.In-loop invariant-loop decreases-loop
+abbrev turn : tie.After-keep_module-way invariant-loop decreases-loop → tie.In-loop-i invariant-loop decreases-loop
 turn c = c.before.before
 
-returns : tie.Need-returns invariant-loop decreases-loop
+returns : tie.Need-returns-in_default invariant-loop decreases-loop
 returns c =
     let called = c.before.before.before.before in
     let t = turn called in
-    passing-refused t.before.loop.inv (entry t.before).pre.1 t.loop-test.taken c.enum_told.given.1
-    called.keep-module.ensures
+    passing-refused t.before.loop-i.inv (entry t.before).requires.1 t.loop-i-test.taken c.enum_told-1.given.1
+    called.keep_module-way.ensures
 
-same-length-2 : tie.Need-same-length-2 invariant-loop decreases-loop
+same-length-2 : tie.Need-shape_of-starts-in_default invariant-loop decreases-loop
 same-length-2 c = simp length-set (starts_length (turn c.before.before.before.before).before)
 
-same-length-3 : tie.Need-same-length-3 invariant-loop decreases-loop
+same-length-3 : tie.Need-shape_of-offsets-in_default invariant-loop decreases-loop
 same-length-3 c = simp length-set (offsets_length (turn c.before.before.before.before).before)
 
-loop-again : tie.Need-loop-preserved invariant-loop decreases-loop
+loop-again : tie.Need-loop-i-preserved invariant-loop decreases-loop
 loop-again c =
     let way = c.before in
     let called = way.before.before.before.before in
     let t = turn called in
-    let inv = t.before.loop.inv in
-    passing-next inv (entry t.before).pre.1 t.loop-test.taken
-    (reached sound_module inv.turning.stands way.way.given.1 called.keep-module.ensures)
+    let inv = t.before.loop-i.inv in
+    passing-next inv (entry t.before).requires.1 t.loop-i-test.taken
+    (reached sound_module inv.turning.stands way.way-1.given.1 called.keep_module-way.ensures)
 
-pub keep-modules-spec : {M : Type 1} → statement M
-keep-modules-spec =
+pub keep_modules_spec : {M : Type 1} → statement M
+keep_modules_spec =
     tie.close
     (tie.spec
     invariant-loop
@@ -96,4 +96,4 @@ keep-modules-spec =
     (λ c. omega arith)
     (λ c. starts_length c.before)
     (λ c. offsets_length c.before)
-    (λ c. passing-last c.before.loop.invariant c.loop-test.false))
+    (λ c. passing-last c.before.loop-i.invariant c.loop-i-test.false))

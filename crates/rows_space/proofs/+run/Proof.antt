@@ -44,38 +44,38 @@ module _ (t : ℕ) where
   )
 
   -- The start, from the first decision.
-  abbrev start : lts.After-slice-known claims (given t) run.Post → lts.Start claims (given t) run.Post
+  abbrev start : lts.After-slice_known-1 claims (given t) run.Post → lts.Start claims (given t) run.Post
   start c = let site = c.before.before.before in site.before.before
 
-pub +run-spec : {M : Type 1} → statement M
-+run-spec =
+pub +run_spec : {M : Type 1} → statement M
++run_spec =
     close μ-run λ t.
     lts.spec (claims t) (given t) run.Post
-    (λ c κs. omega (arith, (start t c.before).pre.1.roomy, c.if1.true))
+    (λ c κs. omega (arith, (start t c.before).requires.1.roomy, c.if-size-room.true))
     (λ c κs.
     let over = c.before.before in
-    let rows = (start t over.before).pre in
-    (omega (arith, rows.0, rows.1.roomy, over.if1.true, c.before.larger.ensures), rows.1))
-    (λ c κs. let small = c.before in resized (start t small.before.before).pre.1 (omega (arith, small.if2.true, small.before.if1.false)))
-    (λ c κs. let middle = c.before in resized (start t middle.before.before.before).pre.1 (omega (arith, middle.if3.true, middle.before.before.if1.false)))
-    (λ c κs. let large = c.before in resized (start t large.before.before.before.before).pre.1 (omega (arith, large.if4.true, large.before.before.before.if1.false)))
-    (λ c κs. let largest = c.before in (start t largest.before.before.before.before).pre.1)
+    let rows = (start t over.before).requires in
+    (omega (arith, rows.0, rows.1.roomy, over.if-size-room.true, c.before.larger.ensures), rows.1))
+    (λ c κs. let small = c.before in resized (start t small.before.before).requires.1 (omega (arith, small.if-size-le256.true, small.before.if-size-room.false)))
+    (λ c κs. let middle = c.before in resized (start t middle.before.before.before).requires.1 (omega (arith, middle.if-size-le1024.true, middle.before.before.if-size-room.false)))
+    (λ c κs. let large = c.before in resized (start t large.before.before.before.before).requires.1 (omega (arith, large.if-size-le8192.true, large.before.before.before.if-size-room.false)))
+    (λ c κs. let largest = c.before in (start t largest.before.before.before.before).requires.1)
     (λ c. c.before.before.run.auto.1.1.1.1.1.1.1.0)
     (λ c s. c.before.before.run.ensures s)
-    (λ c. c.before.before.in-256.kept.1.1.1.1.1.1.0)
+    (λ c. c.before.before.in_256.kept.1.1.1.1.1.1.0)
     (λ c s.
     let done = c.before.before in
     let small = done.before.before in
-    done.in-256.ensures (resized s (omega (arith, small.if2.true, small.before.if1.false))))
-    (λ c. c.before.before.in-1024.kept.1.1.1.1.1.1.0)
+    done.in_256.ensures (resized s (omega (arith, small.if-size-le256.true, small.before.if-size-room.false))))
+    (λ c. c.before.before.in_1024.kept.1.1.1.1.1.1.0)
     (λ c s.
     let done = c.before.before in
     let middle = done.before.before in
-    done.in-1024.ensures (resized s (omega (arith, middle.if3.true, middle.before.before.if1.false))))
-    (λ c. c.before.before.in-8192.kept.1.1.1.1.1.1.0)
+    done.in_1024.ensures (resized s (omega (arith, middle.if-size-le1024.true, middle.before.before.if-size-room.false))))
+    (λ c. c.before.before.in_8192.kept.1.1.1.1.1.1.0)
     (λ c s.
     let done = c.before.before in
     let large = done.before.before in
-    done.in-8192.ensures (resized s (omega (arith, large.if4.true, large.before.before.before.if1.false))))
-    (λ c. c.before.before.in-65536.kept.1.1.1.1.1.1.0)
-    (λ c s. c.before.before.in-65536.ensures s)
+    done.in_8192.ensures (resized s (omega (arith, large.if-size-le8192.true, large.before.before.before.if-size-room.false))))
+    (λ c. c.before.before.in_65536.kept.1.1.1.1.1.1.0)
+    (λ c s. c.before.before.in_65536.ensures s)

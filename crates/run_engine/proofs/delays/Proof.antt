@@ -17,28 +17,28 @@ use Rattle.run_engine.proofs.delays.Statement.{statement}
 use Rattle.run_engine.proofs.delays.Tie as tie
 
 -- Back from each step to the one before it, and to the function's entry.
-abbrev began : tie.After-module-at → tie.Start
+abbrev began : tie.After-module_at-header → tie.Start
 began c = let lists = c.before.before.before in lists.before.before.before.before
 
-abbrev placed : tie.After-clear → tie.After-module-at
+abbrev placed : tie.After-clear → tie.After-module_at-header
 placed c = c.before.before
 
-abbrev zeroed : tie.After-clear2 → tie.After-clear
+abbrev zeroed : tie.After-clear-2 → tie.After-clear
 zeroed c = c.before.before.before.before
 
-abbrev both-zeroed : tie.After-run-module → tie.After-clear2
+abbrev both-zeroed : tie.After-run_module → tie.After-clear-2
 both-zeroed c = let lent = c.before.before in lent.before.before.before
 
-abbrev ran : tie.After-latest → tie.After-run-module
+abbrev ran : tie.After-latest-latest → tie.After-run_module
 ran c = let lent = c.before.before.before in lent.before.before.before.before
 
 -- The header is that of any module that can be called in either list.
 header :
-    (c : tie.After-module-at) {scratch : List ℕ}
+    (c : tie.After-module_at-header) {scratch : List ℕ}
     → let a = (began c).args in
     (e : Callable a.image.now a.starts.now a.nets.now a.k a.room scratch)
-    → HeaderOf a.image.now (get_or a.starts.now a.k 0) e.scene.m c.module-at.result
-header c e = c.module-at.ensures e.scene.m (module_stands e.scene)
+    → HeaderOf a.image.now (get_or a.starts.now a.k 0) e.scene.m c.module_at-header.result
+header c e = c.module_at-header.ensures e.scene.m (module_stands e.scene)
 
 clear-requires : tie.Need-clear-requires
 clear-requires c κs =
@@ -48,33 +48,33 @@ clear-requires c κs =
 clear-requires-2 : tie.Need-clear-requires-2
 clear-requires-2 c κs =
     let at = placed c.before.before.before in
-    let e = (began at).pre.1 in
+    let e = (began at).requires.1 in
     omega (arith, (header at e).inputs, answers.inputs-fit e, answers.needed-given e, e.enough)
 
-run-module-requires : tie.Need-run-module-requires
+run-module-requires : tie.Need-run_module-requires
 run-module-requires c κs =
     let both = c.before.before.before.before in
     let one = zeroed both in
     let at = placed one in
-    let given = (began at).pre in (
+    let given = (began at).requires in (
       answers.runnable given.0 (answers.zeros-fed given.0 (header at given.0) one.clear.ensures),
-      answers.runnable given.1 (answers.zeros-fed given.1 (header at given.1) both.clear2.ensures),
+      answers.runnable given.1 (answers.zeros-fed given.1 (header at given.1) both.clear-2.ensures),
     )
 
-latest-requires : tie.Need-latest-requires
+latest-requires : tie.Need-latest-latest-requires
 latest-requires c κs =
     let lent = c.before.before in
     let run = lent.before.before.before.before in
     let both = both-zeroed run in
     let one = zeroed both in
     let at = placed one in
-    let given = (began at).pre in
+    let given = (began at).requires in
     let fed = answers.zeros-fed given.0 (header at given.0) one.clear.ensures in
-    let fed' = answers.zeros-fed given.1 (header at given.1) both.clear2.ensures in (
-      answers.outputs-readable given.0 fed (times_work one_each) (run.run-module.ensures.0 (answers.runnable given.0 fed))
-          (header at given.0) run.run-module.auto.1.1.1.1.1.0,
+    let fed' = answers.zeros-fed given.1 (header at given.1) both.clear-2.ensures in (
+      answers.outputs-readable given.0 fed (times_work one_each) (run.run_module.ensures.0 (answers.runnable given.0 fed))
+          (header at given.0) run.run_module.auto.1.1.1.1.1.0,
       answers.outputs-readable given.1 fed' (times_work (delay_in (began at).args.family.delays))
-          (run.run-module.ensures.1 (answers.runnable given.1 fed')) (header at given.1) run.run-module.auto.1.1.1.1.1.1.0,
+          (run.run_module.ensures.1 (answers.runnable given.1 fed')) (header at given.1) run.run_module.auto.1.1.1.1.1.1.0,
     )
 
 clear-requires-3 : tie.Need-clear-requires-3
@@ -83,7 +83,7 @@ clear-requires-3 c κs =
     let one = zeroed (both-zeroed run) in
     let e = (began (placed one)).requires.0 in
     let fed = answers.zeros-fed e (header (placed one) e) one.clear.ensures in
-    omega (arith, run.run-module.kept.1.1.1.1.1.0, answers.fed-size e fed, e.enough)
+    omega (arith, run.run_module.kept.1.1.1.1.1.0, answers.fed-size e fed, e.enough)
 
 returns : tie.Need-returns
 returns c =
@@ -93,24 +93,24 @@ returns c =
     let both = both-zeroed run in
     let one = zeroed both in
     let at = placed one in
-    let e₀ = (began at).pre.0 in
+    let e₀ = (began at).requires.0 in
     let fed₀ = answers.zeros-fed e₀ (header at e₀) one.clear.ensures in (
       λ e.
           let fed = answers.zeros-fed e (header at e) one.clear.ensures in
-          found.latest.ensures.0
-          ∙ ap largest (answers.outputs-read e fed (times_work one_each) (run.run-module.ensures.0 (answers.runnable e fed)) (header at e)),
+          found.latest-latest.ensures.0
+          ∙ ap largest (answers.outputs-read e fed (times_work one_each) (run.run_module.ensures.0 (answers.runnable e fed)) (header at e)),
       (
         λ e.
-            let fed = answers.zeros-fed e (header at e) both.clear2.ensures in
-            found.latest.ensures.1
+            let fed = answers.zeros-fed e (header at e) both.clear-2.ensures in
+            found.latest-latest.ensures.1
             ∙ ap largest
-            (answers.outputs-read e fed (times_work (delay_in (began at).args.family.delays)) (run.run-module.ensures.1 (answers.runnable e fed)) (header at e)),
-        answers.leaves-clean e₀ fed₀ (times_work one_each) (run.run-module.ensures.0 (answers.runnable e₀ fed₀)) cleared.clear3.ensures,
+            (answers.outputs-read e fed (times_work (delay_in (began at).args.family.delays)) (run.run_module.ensures.1 (answers.runnable e fed)) (header at e)),
+        answers.leaves-clean e₀ fed₀ (times_work one_each) (run.run_module.ensures.0 (answers.runnable e₀ fed₀)) cleared.clear-3.ensures,
       ),
     )
 
-pub delays-spec : {M : Type 1} → statement M
-delays-spec =
+pub delays_spec : {M : Type 1} → statement M
+delays_spec =
     tie.close
     (tie.spec
     (λ c.

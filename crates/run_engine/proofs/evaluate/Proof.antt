@@ -15,24 +15,24 @@ use Rattle.run_engine.proofs.evaluate.Statement.{statement}
 use Rattle.run_engine.proofs.evaluate.Tie as tie
 
 -- Where the function began, from where the header is read.
-abbrev began : tie.After-module-at → tie.Start
+abbrev began : tie.After-module_at-header → tie.Start
 began c = let lists = c.before.before.before.before in lists.before.before.before.before
 
-mul-module-at : tie.Need-overflow-mul-module-at
+mul-module-at : tie.Need-offset_bounds-starts-k
 mul-module-at c =
     let lists = c.before.before in
     let start = lists.before.before.before.before in
     let e = start.requires.callable in
     omega (arith, in_starts e.scene, start.well-formed)
 
-shared-slice-read-module-at : tie.Need-shared-slice-read-module-at
+shared-slice-read-module-at : tie.Need-bounds-starts-k
 shared-slice-read-module-at c =
     let lists = c.before.before.before in
     let start = lists.before.before.before.before in
     let e = start.requires.callable in
     in_starts e.scene
 
-module-at-requires : tie.Need-module-at-requires
+module-at-requires : tie.Need-module_at-header-requires
 module-at-requires c κs =
     let lists = c.before.before.before in
     let start = lists.before.before.before.before in
@@ -44,11 +44,11 @@ load-requires c κs =
     let e = (began c.before).requires in
     omega (arith, e.fed, answers.inputs-fit e.callable, answers.needed-given e.callable, e.callable.enough)
 
-run-module-requires : tie.Need-run-module-requires
+run-module-requires : tie.Need-run_module-requires
 run-module-requires c κs =
     let loaded = c.before.before.before in
     let start = began loaded.before.before in
-    let e = start.pre in
+    let e = start.requires in
     answers.runnable e.callable (answers.values-fed e.callable start.args.values.now e.fed loaded.load.ensures)
 
 give-requires : tie.Need-give-requires
@@ -58,13 +58,13 @@ give-requires c κs =
     let placed = loaded.before.before in
     let start = began placed in
     let a = start.args in
-    let e = start.pre in
+    let e = start.requires in
     let call = e.callable in
     let fed = answers.values-fed call a.values.now e.fed loaded.load.ensures in
-    let run = ran.run-module.ensures (answers.runnable call fed) in
-    let header = placed.module-at.ensures call.scene.m (module_stands call.scene) in
+    let run = ran.run_module.ensures (answers.runnable call fed) in
+    let header = placed.module_at-header.ensures call.scene.m (module_stands call.scene) in
     record {
-      readable = answers.outputs-readable call fed value_work run header ran.run-module.auto.1.1.1.1.0;
+      readable = answers.outputs-readable call fed value_work run header ran.run_module.auto.1.1.1.1.0;
       bytes =
           subst Bytes (sym (answers.outputs-read call fed value_work run header))
           (answers.answers-bytes call.rs a.k (entries-bytes a.values.now));
@@ -82,17 +82,17 @@ returns c e =
     let a = (began placed).args in
     let call = e.callable in
     let fed = answers.values-fed call a.values.now e.fed loaded.load.ensures in
-    let run = ran.run-module.ensures (answers.runnable call fed) in
-    let header = placed.module-at.ensures call.scene.m (module_stands call.scene) in
+    let run = ran.run_module.ensures (answers.runnable call fed) in
+    let header = placed.module_at-header.ensures call.scene.m (module_stands call.scene) in
     record {
       outputs =
           given.give.ensures
-          ∙ ap (λ (l : List ℕ). l ++ drop (length l) a.out.now) (answers.outputs-read call fed value_work run header);
+          ∙ ap (λ (l : List ℕ). l ++ drop (length l) a.out-1.now) (answers.outputs-read call fed value_work run header);
       clean = answers.leaves-clean call fed value_work run cleared.clear.ensures;
     }
 
-pub evaluate-spec : {M : Type 1} → statement M
-evaluate-spec =
+pub evaluate_spec : {M : Type 1} → statement M
+evaluate_spec =
     tie.close
     (tie.spec
     mul-module-at

@@ -24,10 +24,10 @@ past_all : (counts : List ℕ) (kind : ℕ) → kind ≡ length counts → total
 unfolding total
 past_all counts kind e = rw (e, drop-length)
 
-abbrev invariant-loop : tie.invariant-loop
+abbrev invariant-loop : tie.invariant-loop-kind
 invariant-loop tally gates₀ kind₀ gates kind = (kind ≤ 16) × (gates + total (drop kind tally.counts) ≡ total tally.counts)
 
-abbrev decreases-loop : tie.decreases-loop
+abbrev decreases-loop : tie.decreases-loop-kind
 decreases-loop tally gates₀ kind₀ gates kind = 16 - kind
 
 long : (c : tie.Start invariant-loop decreases-loop) → length c.args.t1.counts ≡ 16
@@ -35,22 +35,22 @@ long c = search rules
 
 -- The count that is added, and those ahead of it.
 split :
-    (c : tie.After-gates invariant-loop decreases-loop)
+    (c : tie.After-gates-1 invariant-loop decreases-loop)
     → let counts = c.before.before.before.args.t1.counts in
-    let head = c.before.before.loop in
-    head.gates + (get_or counts head.kind 0 + total (drop (head.kind + 1) counts)) ≡ total counts
+    let head = c.before.before.loop-kind in
+    head.gates-1 + (get_or counts head.kind 0 + total (drop (head.kind + 1) counts)) ≡ total counts
 split c =
-    let head = c.before.before.loop in
+    let head = c.before.before.loop-kind in
     let start = c.before.before.before in
     omega (arith, head.invariant.1, from_one start.args.t1.counts head.kind (omega (arith, long start)))
 
 returns : tie.Need-returns invariant-loop decreases-loop
 returns c =
     let start = c.before.before in
-    omega (arith, c.before.loop.invariant.1, past_all start.args.t1.counts c.before.loop.kind (omega (arith, long start)))
+    omega (arith, c.before.loop-kind.invariant.1, past_all start.args.t1.counts c.before.loop-kind.kind (omega (arith, long start)))
 
-pub gates-of-spec : {M : Type 1} → statement M
-gates-of-spec =
+pub gates_of_spec : {M : Type 1} → statement M
+gates_of_spec =
     tie.close
     (tie.spec
     invariant-loop

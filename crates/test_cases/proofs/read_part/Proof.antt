@@ -5,11 +5,11 @@ use borrow.Author.Rules.{rules}
 use Rattle.test_cases.proofs.read_part.Statement.{statement}
 use Rattle.test_cases.proofs.read_part.Tie as tie
 
-slice-aggregate-read-full : tie.Need-slice-aggregate-read-full
+slice-aggregate-read-full : tie.Need-slice_bounds-read_full-end-2
 slice-aggregate-read-full c = sym (length-take-le _ _ (search rules))
 
-pub read-part-spec : {M : Type 1} → statement M
-read-part-spec =
+pub read_part_spec : {M : Type 1} → statement M
+read_part_spec =
     tie.close
     (tie.spec
     (λ c κs. search rules)

@@ -5,8 +5,8 @@ use lib.Seq.{length-take-le}
 use Rattle.test_check.proofs.check_case.Statement.{statement}
 use Rattle.test_check.proofs.check_case.Tie as tie
 
-pub check-case-spec : {M : Type 1} → statement M
-check-case-spec =
+pub check_case_spec : {M : Type 1} → statement M
+check_case_spec =
     tie.close
     (tie.spec
     (λ c κs. search rules)

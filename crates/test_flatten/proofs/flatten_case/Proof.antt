@@ -5,8 +5,8 @@ use lib.Seq.{length-take-le}
 use Rattle.test_flatten.proofs.flatten_case.Statement.{statement}
 use Rattle.test_flatten.proofs.flatten_case.Tie as tie
 
-pub flatten-case-spec : {M : Type 1} → statement M
-flatten-case-spec =
+pub flatten_case_spec : {M : Type 1} → statement M
+flatten_case_spec =
     tie.close
     (tie.spec
     (λ c κs. search rules)

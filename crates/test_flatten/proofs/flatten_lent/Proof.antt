@@ -5,8 +5,8 @@ use lib.Seq.{length-take-le}
 use Rattle.test_flatten.proofs.flatten_lent.Statement.{statement}
 use Rattle.test_flatten.proofs.flatten_lent.Tie as tie
 
-pub flatten-lent-spec : {M : Type 1} → statement M
-flatten-lent-spec =
+pub flatten_lent_spec : {M : Type 1} → statement M
+flatten_lent_spec =
     tie.close
     (tie.spec
     (λ c. search rules)

@@ -6,14 +6,14 @@ use lib.ListN.{length}
 use Rattle.test_gates.proofs.print_all.Statement.{statement}
 use Rattle.test_gates.proofs.print_all.Tie as tie
 
-abbrev invariant-loop : tie.invariant-loop
+abbrev invariant-loop : tie.invariant-loop-i
 invariant-loop args i₀ i-end i = i-end ≡ length args
 
-abbrev decreases-loop : tie.decreases-loop
+abbrev decreases-loop : tie.decreases-loop-i
 decreases-loop args i₀ i-end i = i-end - i
 
-pub print-all-spec : {M : Type 1} → statement M
-print-all-spec =
+pub print_all_spec : {M : Type 1} → statement M
+print_all_spec =
     tie.close
     (tie.spec
     invariant-loop

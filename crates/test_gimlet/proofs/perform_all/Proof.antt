@@ -6,14 +6,14 @@ use borrow.Author.Rules.{rules}
 use Rattle.test_gimlet.proofs.perform_all.Statement.{statement}
 use Rattle.test_gimlet.proofs.perform_all.Tie as tie
 
-abbrev invariant-loop : tie.invariant-loop
+abbrev invariant-loop : tie.invariant-loop-from
 invariant-loop lines₀ from₀ lines from = (length lines ≡ length lines₀) × (from ≤ length lines)
 
-abbrev decreases-loop : tie.decreases-loop
+abbrev decreases-loop : tie.decreases-loop-from
 decreases-loop lines₀ from₀ lines from = length lines - from
 
-pub perform-all-spec : {M : Type 1} → statement M
-perform-all-spec =
+pub perform_all_spec : {M : Type 1} → statement M
+perform_all_spec =
     tie.close
     (tie.spec
     invariant-loop

@@ -5,14 +5,14 @@ use lib.ListN.{length}
 use Rattle.test_list.proofs.list_all.Statement.{statement}
 use Rattle.test_list.proofs.list_all.Tie as tie
 
-abbrev invariant-loop : tie.invariant-loop
+abbrev invariant-loop : tie.invariant-loop-left
 invariant-loop label₀ file₀ left₀ label file left = (length label ≡ length label₀) × (length file ≡ length file₀)
 
-abbrev decreases-loop : tie.decreases-loop
+abbrev decreases-loop : tie.decreases-loop-left
 decreases-loop label₀ file₀ left₀ label file left = left
 
-pub list-all-spec : {M : Type 1} → statement M
-list-all-spec =
+pub list_all_spec : {M : Type 1} → statement M
+list_all_spec =
     tie.close
     (tie.spec
     invariant-loop

@@ -6,14 +6,14 @@ use lib.ListN.{length}
 use Rattle.test_orders.proofs.print_bytes.Statement.{statement}
 use Rattle.test_orders.proofs.print_bytes.Tie as tie
 
-abbrev invariant-loop : tie.invariant-loop
+abbrev invariant-loop : tie.invariant-loop-i
 invariant-loop bytes i₀ i-end i = i-end ≡ length bytes
 
-abbrev decreases-loop : tie.decreases-loop
+abbrev decreases-loop : tie.decreases-loop-i
 decreases-loop bytes i₀ i-end i = i-end - i
 
-pub print-bytes-spec : {M : Type 1} → statement M
-print-bytes-spec =
+pub print_bytes_spec : {M : Type 1} → statement M
+print_bytes_spec =
     tie.close
     (tie.spec
     invariant-loop

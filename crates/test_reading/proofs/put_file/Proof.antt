@@ -5,20 +5,20 @@ use lib.ListN.{length}
 use Rattle.test_reading.proofs.put_file.Statement.{statement}
 use Rattle.test_reading.proofs.put_file.Tie as tie
 
-abbrev invariant-loop : tie.invariant-loop
+abbrev invariant-loop : tie.invariant-loop-large
 invariant-loop out₀ head at₀ large₀ out at large = length out ≡ length out₀
 
-abbrev decreases-loop : tie.decreases-loop
+abbrev decreases-loop : tie.decreases-loop-large
 decreases-loop out₀ head at₀ large₀ out at large = large
 
-abbrev invariant-loop2 : tie.invariant-loop2
+abbrev invariant-loop2 : tie.invariant-loop-small
 invariant-loop2 out₀ head at₀ large small₀ out at small = length out ≡ length out₀
 
-abbrev decreases-loop2 : tie.decreases-loop2
+abbrev decreases-loop2 : tie.decreases-loop-small
 decreases-loop2 out₀ head at₀ large small₀ out at small = small
 
-pub put-file-spec : {M : Type 1} → statement M
-put-file-spec =
+pub put_file_spec : {M : Type 1} → statement M
+put_file_spec =
     tie.close
     (tie.spec
     invariant-loop

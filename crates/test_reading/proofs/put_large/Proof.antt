@@ -5,14 +5,14 @@ use lib.ListN.{length}
 use Rattle.test_reading.proofs.put_large.Statement.{statement}
 use Rattle.test_reading.proofs.put_large.Tie as tie
 
-abbrev invariant-loop : tie.invariant-loop
+abbrev invariant-loop : tie.invariant-loop-left
 invariant-loop at out₀ at₀ left₀ out at' left = length out ≡ length out₀
 
-abbrev decreases-loop : tie.decreases-loop
+abbrev decreases-loop : tie.decreases-loop-left
 decreases-loop at out₀ at₀ left₀ out at' left = left
 
-pub put-large-spec : {M : Type 1} → statement M
-put-large-spec =
+pub put_large_spec : {M : Type 1} → statement M
+put_large_spec =
     tie.close
     (tie.spec
     invariant-loop

@@ -5,20 +5,20 @@ use lib.Seq.{length-take-le}
 use Rattle.test_run.proofs.run_case.Statement.{statement}
 use Rattle.test_run.proofs.run_case.Tie as tie
 
-slice-aggregate-evaluate : tie.Need-slice-aggregate-evaluate
+slice-aggregate-evaluate : tie.Need-slice_bounds-evaluate-end-2
 slice-aggregate-evaluate c = sym (length-take-le _ _ (search rules))
 
-slice-aggregate-evaluate-2 : tie.Need-slice-aggregate-evaluate-2
+slice-aggregate-evaluate-2 : tie.Need-slice_bounds-evaluate-end-4
 slice-aggregate-evaluate-2 c = sym (length-take-le _ _ (search rules))
 
-slice-aggregate-evaluate-3 : tie.Need-slice-aggregate-evaluate-3
+slice-aggregate-evaluate-3 : tie.Need-slice_bounds-evaluate-end-6
 slice-aggregate-evaluate-3 c = sym (length-take-le _ _ (search rules))
 
-slice-aggregate-evaluate-4 : tie.Need-slice-aggregate-evaluate-4
+slice-aggregate-evaluate-4 : tie.Need-slice_bounds-evaluate-end-8
 slice-aggregate-evaluate-4 c = sym (length-take-le _ _ (search rules))
 
-pub run-case-spec : {M : Type 1} → statement M
-run-case-spec =
+pub run_case_spec : {M : Type 1} → statement M
+run_case_spec =
     tie.close
     (tie.spec
     (λ c κs. search rules)

@@ -5,11 +5,11 @@ use lib.Seq.{length-take-le}
 use Rattle.test_run.proofs.show.Statement.{statement}
 use Rattle.test_run.proofs.show.Tie as tie
 
-slice-aggregate-show-word : tie.Need-slice-aggregate-show-word
+slice-aggregate-show-word : tie.Need-slice_bounds-show_word-end
 slice-aggregate-show-word c = sym (length-take-le _ _ (search rules))
 
-pub show-spec : {M : Type 1} → statement M
-show-spec =
+pub show_spec : {M : Type 1} → statement M
+show_spec =
     tie.close
     (tie.spec
     (λ c. search rules)

@@ -7,17 +7,17 @@ use lib.ListN.{length}
 use Rattle.test_run.proofs.show_word.Statement.{statement}
 use Rattle.test_run.proofs.show_word.Tie as tie
 
-abbrev invariant-loop : tie.invariant-loop
+abbrev invariant-loop : tie.invariant-loop-i
 invariant-loop values i₀ i-end i = i-end ≡ length values
 
-abbrev decreases-loop : tie.decreases-loop
+abbrev decreases-loop : tie.decreases-loop-i
 decreases-loop values i₀ i-end i = i-end - i
 
-cast-print-decimal : tie.Need-overflow-cast-print-decimal invariant-loop decreases-loop
-cast-print-decimal c = omega (arith, c.shared-slice-known2.given c.before.before.loop.i)
+cast-print-decimal : tie.Need-overflow_cast-values invariant-loop decreases-loop
+cast-print-decimal c = omega (arith, c.shared_slice_known-in-loop-i-1.given c.before.before.loop-i.i)
 
-pub show-word-spec : {M : Type 1} → statement M
-show-word-spec =
+pub show_word_spec : {M : Type 1} → statement M
+show_word_spec =
     tie.close
     (tie.spec
     invariant-loop

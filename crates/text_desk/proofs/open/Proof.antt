@@ -10,71 +10,71 @@ use Rattle.text_desk.proofs.raise.Reads as raise-reads
 
 -- src/lib.rt:48:13
 raise-requires : tie.Need-raise-requires
-raise-requires c κs = first_raisable _ _ _ c.before.before.before.requires c.before.match.keys2
+raise-requires c κs = first_raisable _ _ _ c.before.before.before.requires c.before.in-2.keys2
 
 -- src/lib.rt:52:13
-raise-requires-2 : tie.Need-raise-requires-2
-raise-requires-2 c κs = body_raisable _ _ _ c.before.before.before.requires c.before.match.keys3
+raise-requires-2 : tie.Need-raise-requires-in-9
+raise-requires-2 c κs = body_raisable _ _ _ c.before.before.before.requires c.before.in-9.keys3
 
 -- src/lib.rt:56:13
-mul-numbers : tie.Need-overflow-mul-numbers
+mul-numbers : tie.Need-offset_bounds-numbers-at
 mul-numbers c = search rules
 
 -- src/lib.rt:56:13
-slice-write-numbers : tie.Need-slice-write-numbers
+slice-write-numbers : tie.Need-bounds-numbers-at
 slice-write-numbers c = search rules
 
 -- src/lib.rt:58:21
-add-t13 : tie.Need-overflow-add-t13
+add-t13 : tie.Need-overflow_add-result
 add-t13 c = search rules
 
 -- src/lib.rt:64:13
-mul-numbers-2 : tie.Need-overflow-mul-numbers-2
+mul-numbers-2 : tie.Need-offset_bounds-numbers-at-in_default
 mul-numbers-2 c = search rules
 
 -- src/lib.rt:64:13
-slice-write-numbers-2 : tie.Need-slice-write-numbers-2
+slice-write-numbers-2 : tie.Need-bounds-numbers-at-in_default
 slice-write-numbers-2 c = search rules
 
 -- src/lib.rt:66:21
-add-t15 : tie.Need-overflow-add-t15
+add-t15 : tie.Need-overflow_add-result-in_default
 add-t15 c = search rules
 
 -- src/lib.rt:39:1
-returns : tie.Need-returns
-returns c = opens_none _ _ _ c.before.before.requires c.match.keys1
+returns : tie.Need-returns-in-4
+returns c = opens_none _ _ _ c.before.before.requires c.in-4.keys1
 
 -- src/lib.rt:39:1
-same_length : tie.Need-same-length
+same_length : tie.Need-shape_of-numbers-in-2
 same_length c = search rules
 
 -- src/lib.rt:39:1
-returns-2 : tie.Need-returns-2
-returns-2 c = opens_module _ _ _ c.before.before.before.before.before.before.requires c.before.before.before.before.match.keys2 _ c.before.before.raise.ensures
+returns-2 : tie.Need-returns-in-2
+returns-2 c = opens_module _ _ _ c.before.before.before.before.before.before.requires c.before.before.before.before.in-2.keys2 _ c.before.before.raise.ensures
 
 -- src/lib.rt:39:1
-same-length-2 : tie.Need-same-length-2
+same-length-2 : tie.Need-shape_of-numbers-in-9
 same-length-2 c = search rules
 
 -- src/lib.rt:39:1
-returns-3 : tie.Need-returns-3
-returns-3 c = opens_occurrence _ _ _ c.before.before.before.before.before.before.requires c.before.before.before.before.match.keys3 _ c.before.before.raise2.ensures
+returns-3 : tie.Need-returns-in-9
+returns-3 c = opens_occurrence _ _ _ c.before.before.before.before.before.before.requires c.before.before.before.before.in-9.keys3 _ c.before.before.raise-in-9.ensures
 
 -- src/lib.rt:39:1
-same-length-3 : tie.Need-same-length-3
+same-length-3 : tie.Need-shape_of-numbers-in-8
 same-length-3 c = search rules
 
 -- src/lib.rt:39:1
-returns-4 : tie.Need-returns-4
-returns-4 c = opens_body _ _ _ c.before.before.requires c.match.keys4
+returns-4 : tie.Need-returns-in-8
+returns-4 c = opens_body _ _ _ c.before.before.requires c.in-8.keys4
 
 -- src/lib.rt:39:1
-same-length-4 : tie.Need-same-length-4
+same-length-4 : tie.Need-shape_of-numbers-in_default
 same-length-4 c = search rules
 
 -- src/lib.rt:39:1
-returns-5 : tie.Need-returns-5
-returns-5 c = opens_list _ _ _ c.before.before.requires (λ e. c.match.rest.0.0.0.1 (inl e)) (λ e. c.match.rest.0.0.0.1 (inr e)) c.match.rest.0.0.1 c.match.rest.0.1 c.match.rest.1
+returns-5 : tie.Need-returns-in_default
+returns-5 c = opens_list _ _ _ c.before.before.requires (λ e. c.in_default.rest.0.0.0.1 (inl e)) (λ e. c.in_default.rest.0.0.0.1 (inr e)) c.in_default.rest.0.0.1 c.in_default.rest.0.1 c.in_default.rest.1
 
 pub open_spec : {M : Type 1} → statement M
 open_spec =

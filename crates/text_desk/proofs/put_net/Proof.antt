@@ -12,25 +12,25 @@ raise-requires : tie.Need-raise-requires
 raise-requires c κs = search rules
 
 -- src/lib.rt:97:5
-mul-numbers : tie.Need-overflow-mul-numbers
+mul-numbers : tie.Need-offset_bounds-numbers-at
 mul-numbers c = search rules
 
 -- src/lib.rt:97:5
-slice-write-numbers : tie.Need-slice-write-numbers
+slice-write-numbers : tie.Need-bounds-numbers-at
 slice-write-numbers c = search rules
 
 -- src/lib.rt:99:13
-add-t9 : tie.Need-overflow-add-t9
+add-t9 : tie.Need-overflow_add-result
 add-t9 c = search rules
 
 -- src/lib.rt:90:1
-same_length : tie.Need-same-length
+same_length : tie.Need-shape_of-numbers
 same_length c = search rules
 
 -- src/lib.rt:90:1
 returns : tie.Need-returns
 returns c = puts_net _ _ _ _ c.before.before.raise.ensures c.before.before.before.before.before.requires
 
-pub put-net-spec : {M : Type 1} → statement M
-put-net-spec =
+pub put_net_spec : {M : Type 1} → statement M
+put_net_spec =
     tie.close (tie.spec raise-requires mul-numbers slice-write-numbers add-t9 same_length returns)

@@ -4,35 +4,35 @@ use Rattle.text_lines.proofs.excerpt.Statement.{statement}
 use Rattle.text_lines.proofs.excerpt.Tie as tie
 use Rattle.text_lines.proofs.excerpt.Reads as reads
 use Rattle.text_lines.proofs.excerpt.Lts as lts
-use Rattle.text_lines.proofs.choose.Reads as choose-reads
+use Rattle.text_lines.proofs.choose-part.Reads as choose-reads
 use Rattle.text_lines.proofs.line_of.Reads as line-of-reads
 
 -- src/lib.rt:127:23
-line-of-requires : tie.Need-line-of-requires
+line-of-requires : tie.Need-line_of-requires
 line-of-requires c κs = search rules
 
 -- src/lib.rt:127:9
-choose-requires : tie.Need-choose-requires
+choose-requires : tie.Need-choose-part-requires
 choose-requires c κs = search rules
 
 -- src/lib.rt:130:5
-sub-result : tie.Need-overflow-sub-result
+sub-result : tie.Need-slice_bounds-result-count
 sub-result c = search rules
 
 -- src/lib.rt:130:5
-part-result-start : tie.Need-slice-bounds-result-start
+part-result-start : tie.Need-slice_bounds-result-start
 part-result-start c = search rules
 
 -- src/lib.rt:130:5
-part-result-end : tie.Need-slice-bounds-result-end
+part-result-end : tie.Need-slice_bounds-result-end
 part-result-end c = search rules
 
 -- src/lib.rt:124:1
 returns : tie.Need-returns
-returns c = excerpt_there _ _ _ c.before.choose.result c.before.before.Line-of.ensures.there c.before.choose.ensures
+returns c = excerpt_there _ _ _ c.before.choose-part.result-1 c.before.before.Line-of.ensures.there c.before.choose-part.ensures
 
-pub excerpt-spec : {M : Type 1} → statement M
-excerpt-spec =
+pub excerpt_spec : {M : Type 1} → statement M
+excerpt_spec =
     tie.close
     (tie.spec
     line-of-requires

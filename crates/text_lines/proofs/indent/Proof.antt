@@ -9,7 +9,7 @@ use Rattle.text_lines.proofs.choose.Reads as choose-reads
 use Rattle.text_lines.proofs.line_of.Reads as line-of-reads
 
 -- src/lib.rt:120:12
-line-of-requires : tie.Need-line-of-requires
+line-of-requires : tie.Need-line_of-requires
 line-of-requires c κs = search rules
 
 -- src/lib.rt:120:5
@@ -20,5 +20,5 @@ choose-requires c κs = search rules
 returns : tie.Need-returns
 returns c = c.choose.ensures.indent ∙ ap indent_of c.before.Line-of.ensures.there.left
 
-pub indent-spec : {M : Type 1} → statement M
-indent-spec = tie.close (tie.spec line-of-requires choose-requires returns)
+pub indent_spec : {M : Type 1} → statement M
+indent_spec = tie.close (tie.spec line-of-requires choose-requires returns)

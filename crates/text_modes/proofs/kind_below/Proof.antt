@@ -10,25 +10,25 @@ use Rattle.text_modes.specs.Right.{among, but_for}
 use Rattle.text_modes.proofs.kind_below.Statement.{statement}
 use Rattle.text_modes.proofs.kind_below.Tie as tie
 
-other : tie.Need-returns-8
+other : tie.Need-returns-in_default
 unfolding kind_of all_below among
 other c =
     let b = c.before.args.b in
-    let others = c.match.rest in
+    let others = c.in_default.rest in
     eqb-true 3 (kind_code (kind_of b))
     (but_for (10 ∷ 13 ∷ 32 ∷ 39 ∷ 40 ∷ 41 ∷ 45 ∷ []) 48 (λ b. eqb 3 (kind_code (kind_of b))) refl b c.before.requires
     (rw (ne_eqb b 10 others.0.0.0.0.0.0.1, ne_eqb b 13 others.0.0.0.0.0.1, ne_eqb b 32 others.0.0.0.0.1, ne_eqb b 39 others.0.0.0.1, ne_eqb b 40 others.0.0.1, ne_eqb b 41 others.0.1, ne_eqb b 45 others.1)))
 
-pub kind-below-spec : {M : Type 1} → statement M
+pub kind_below_spec : {M : Type 1} → statement M
 unfolding kind_of
-kind-below-spec =
+kind_below_spec =
     tie.close
     (tie.spec
-    (λ c. rw c.match.keys1)
-    (λ c. rw c.match.keys2)
-    (λ c. rw c.match.keys3)
-    (λ c. rw c.match.keys4)
-    (λ c. rw c.match.keys5)
-    (λ c. rw c.match.keys6)
-    (λ c. rw c.match.keys7)
+    (λ c. rw c.in-10.keys1)
+    (λ c. rw c.in-13.keys2)
+    (λ c. rw c.in-32.keys3)
+    (λ c. rw c.in-39.keys4)
+    (λ c. rw c.in-40.keys5)
+    (λ c. rw c.in-41.keys6)
+    (λ c. rw c.in-45.keys7)
     other)

@@ -8,20 +8,20 @@ use Rattle.text_names.proofs.capital.Reads as reads
 use Rattle.text_names.proofs.capital.Lts as lts
 
 -- src/lib.rt:16:9
-returns : tie.Need-returns
+returns : tie.Need-returns-then-b-lt97
 returns c = sym (capital-under c.before.args.b (omega arith))
 
 -- src/lib.rt:19:9
-returns-2 : tie.Need-returns-2
+returns-2 : tie.Need-returns-then-b-gt122
 returns-2 c = sym (capital-over c.before.before.args.b (omega arith))
 
 -- src/lib.rt:21:5
-sub-result : tie.Need-overflow-sub-result
+sub-result : tie.Need-overflow_sub-result
 sub-result c = search rules
 
 -- src/lib.rt:12:1
-returns-3 : tie.Need-returns-3
+returns-3 : tie.Need-returns
 returns-3 c = sym (capital-lower c.before.before.args.b (omega arith) (omega arith))
 
-pub capital-spec : {M : Type 1} → statement M
-capital-spec = tie.close (tie.spec returns returns-2 sub-result returns-3)
+pub capital_spec : {M : Type 1} → statement M
+capital_spec = tie.close (tie.spec returns returns-2 sub-result returns-3)

@@ -7,92 +7,92 @@ use Rattle.text_names.proofs.child.Statement.{statement}
 use Rattle.text_names.proofs.child.Tie as tie
 use Rattle.text_names.proofs.child.Reads as reads
 use Rattle.text_names.proofs.child.Lts as lts
-use Rattle.text_names.proofs.letter.Reads as letter-reads
-use Rattle.text_names.proofs.wide.Reads as wide-reads
+use Rattle.text_names.proofs.letter-sought.Reads as letter-reads
+use Rattle.text_names.proofs.wide-u.Reads as wide-reads
 
-abbrev invariant-loop : tie.invariant-loop
+abbrev invariant-loop : tie.invariant-loop-u
 invariant-loop tree count n c sought u₀ u = Along tree count n c u
 
-abbrev decreases-loop : tie.decreases-loop
+abbrev decreases-loop : tie.decreases-loop-u
 decreases-loop tree count n c sought u₀ u = u
 
-letter-requires : tie.Need-letter-requires invariant-loop decreases-loop
+letter-requires : tie.Need-letter-sought-requires invariant-loop decreases-loop
 letter-requires c κs = search rules
 
-mul_wide : tie.Need-overflow-mul-wide invariant-loop decreases-loop
+mul_wide : tie.Need-overflow_mul-n invariant-loop decreases-loop
 mul_wide c = omega arith
 
-mul-wide-2 : tie.Need-overflow-mul-wide-2 invariant-loop decreases-loop
+mul-wide-2 : tie.Need-offset_bounds-tree-n invariant-loop decreases-loop
 mul-wide-2 c = omega arith
 
-shared-slice-read-wide : tie.Need-shared-slice-read-wide invariant-loop decreases-loop
+shared-slice-read-wide : tie.Need-bounds-tree-n invariant-loop decreases-loop
 shared-slice-read-wide c = omega arith
 
-wide-requires : tie.Need-wide-requires invariant-loop decreases-loop
+wide-requires : tie.Need-wide-u-requires invariant-loop decreases-loop
 wide-requires c κs = search rules
 
-loop-holds : tie.Need-loop-init invariant-loop decreases-loop
-loop-holds c = along-first _ _ _ _ c.before.before.before.before.requires _ c.wide.ensures
+loop-holds : tie.Need-loop-u-init invariant-loop decreases-loop
+loop-holds c = along-first _ _ _ _ c.before.before.before.before.requires _ c.wide-u.ensures
 
-mul-if1 : tie.Need-overflow-mul-if1 invariant-loop decreases-loop
+mul-if1 : tie.Need-overflow_mul-u invariant-loop decreases-loop
 mul-if1 c = omega arith
 
-add-if1 : tie.Need-overflow-add-if1 invariant-loop decreases-loop
+add-if1 : tie.Need-overflow_add-u invariant-loop decreases-loop
 add-if1 c = omega arith
 
-mul-if1-2 : tie.Need-overflow-mul-if1-2 invariant-loop decreases-loop
+mul-if1-2 : tie.Need-offset_bounds-tree-u invariant-loop decreases-loop
 mul-if1-2 c = omega arith
 
-shared-slice-read-if1 : tie.Need-shared-slice-read-if1 invariant-loop decreases-loop
+shared-slice-read-if1 : tie.Need-bounds-tree-u invariant-loop decreases-loop
 shared-slice-read-if1 c = omega arith
 
-returns : tie.Need-returns invariant-loop decreases-loop
+returns : tie.Need-returns-then-tree-u invariant-loop decreases-loop
 returns c =
     let turn = c.before.before.before in
     let begun = turn.before.before.before in
-    along-found _ _ _ _ begun.before.before.requires turn.loop.u (c.if1.true ∙ begun.letter.ensures) (omega arith) turn.loop.invariant
+    along-found _ _ _ _ begun.before.before.requires turn.loop-u.u (c.if-tree-u.true ∙ begun.letter-sought.ensures) (omega arith) turn.loop-u.invariant
 
-mul-wide-3 : tie.Need-overflow-mul-wide-3 invariant-loop decreases-loop
+mul-wide-3 : tie.Need-overflow_mul-u-in-loop-u invariant-loop decreases-loop
 mul-wide-3 c = omega arith
 
-add_wide : tie.Need-overflow-add-wide invariant-loop decreases-loop
+add_wide : tie.Need-overflow_add-u-in-loop-u invariant-loop decreases-loop
 add_wide c = omega arith
 
-mul-wide-4 : tie.Need-overflow-mul-wide-4 invariant-loop decreases-loop
+mul-wide-4 : tie.Need-offset_bounds-tree-u-in-loop-u invariant-loop decreases-loop
 mul-wide-4 c = omega arith
 
-shared-slice-read-wide-2 : tie.Need-shared-slice-read-wide-2 invariant-loop decreases-loop
+shared-slice-read-wide-2 : tie.Need-bounds-tree-u-in-loop-u invariant-loop decreases-loop
 shared-slice-read-wide-2 c = omega arith
 
-wide-requires-2 : tie.Need-wide-requires-2 invariant-loop decreases-loop
+wide-requires-2 : tie.Need-wide-u-requires-in-loop-u invariant-loop decreases-loop
 wide-requires-2 c κs = search rules
 
-loop-less : tie.Need-loop-smaller invariant-loop decreases-loop
+loop-less : tie.Need-loop-u-smaller invariant-loop decreases-loop
 loop-less c =
     let tested = c.before.before in
     let turn = tested.before.before.before in
     let begun = turn.before.before.before in
-    let l : _ = along-falls _ _ _ _ begun.before.before.requires turn.loop.u (omega arith) turn.loop.invariant in
-    omega (arith, l, c.wide2.ensures)
+    let l : _ = along-falls _ _ _ _ begun.before.before.requires turn.loop-u.u (omega arith) turn.loop-u.invariant in
+    omega (arith, l, c.wide-u-in-loop-u.ensures)
 
-loop-again : tie.Need-loop-preserved invariant-loop decreases-loop
+loop-again : tie.Need-loop-u-preserved invariant-loop decreases-loop
 loop-again c =
     let tested = c.before.before in
     let turn = tested.before.before.before in
     let begun = turn.before.before.before in
-    along-next _ _ _ _ begun.before.before.requires turn.loop.u _ (omega arith)
-    (λ e. tested.if1.false (e ∙ sym begun.letter.ensures))
-    c.wide2.ensures
-    turn.loop.invariant
+    along-next _ _ _ _ begun.before.before.requires turn.loop-u.u _ (omega arith)
+    (λ e. tested.if-tree-u.false (e ∙ sym begun.letter-sought.ensures))
+    c.wide-u-in-loop-u.ensures
+    turn.loop-u.invariant
 
-returns-2 : tie.Need-returns-2 invariant-loop decreases-loop
+returns-2 : tie.Need-returns invariant-loop decreases-loop
 returns-2 c =
     let end = c.before in
     let begun = end.before.before.before in
-    along-none _ _ _ _ begun.before.before.requires end.loop.u c.loop-test.false end.loop.invariant
+    along-none _ _ _ _ begun.before.before.requires end.loop-u.u c.loop-u-test.false end.loop-u.invariant
 
-pub child-spec : {M : Type 1} → statement M
-child-spec =
+pub child_spec : {M : Type 1} → statement M
+child_spec =
     tie.close
     (tie.spec
     invariant-loop

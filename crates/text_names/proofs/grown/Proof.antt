@@ -8,16 +8,16 @@ use Rattle.text_names.proofs.grown.Reads as reads
 use Rattle.text_names.proofs.grown.Lts as lts
 
 -- src/lib.rt:79:9
-add-result : tie.Need-overflow-add-result
+add-result : tie.Need-overflow_add-result
 add-result c = search rules
 
 -- src/lib.rt:74:1
-returns : tie.Need-returns
-returns c = rw (eq-eqb _ _ c.if1.true)
+returns : tie.Need-returns-then-node-count
+returns c = rw (eq-eqb _ _ c.if-node-count.true)
 
 -- src/lib.rt:74:1
-returns-2 : tie.Need-returns-2
-returns-2 c = rw (ne_eqb _ _ c.if1.false)
+returns-2 : tie.Need-returns-else-node-count
+returns-2 c = rw (ne_eqb _ _ c.if-node-count.false)
 
-pub grown-spec : {M : Type 1} → statement M
-grown-spec = tie.close (tie.spec add-result returns returns-2)
+pub grown_spec : {M : Type 1} → statement M
+grown_spec = tie.close (tie.spec add-result returns returns-2)

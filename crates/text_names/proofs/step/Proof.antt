@@ -6,31 +6,31 @@ use Rattle.text_names.proofs.step.Statement.{statement}
 use Rattle.text_names.proofs.step.Tie as tie
 use Rattle.text_names.proofs.step.Reads as reads
 use Rattle.text_names.proofs.step.Lts as lts
-use Rattle.text_names.proofs.child.Reads as child-reads
+use Rattle.text_names.proofs.child-u.Reads as child-reads
 use Rattle.text_names.proofs.letter.Reads as letter-reads
 
 -- src/lib.rt:59:9
-child-requires : tie.Need-child-requires
+child-requires : tie.Need-child-u-requires
 child-requires c κs = search rules
 
 -- src/lib.rt:61:9
-same_length : tie.Need-same-length
+same_length : tie.Need-shape_of-tree-then-u-ne0
 same_length c = search rules
 
 -- src/lib.rt:61:9
-returns : tie.Need-returns
-returns c = λ b. step-found _ _ b _ _ _ (omega arith) (c.before.child.ensures b)
+returns : tie.Need-returns-then-u-ne0
+returns c = λ b. step-found _ _ b _ _ _ (omega arith) (c.before.child-u.ensures b)
 
 -- src/lib.rt:63:23
-mul-before : tie.Need-overflow-mul-before
+mul-before : tie.Need-overflow_mul-before
 mul-before c = search rules
 
 -- src/lib.rt:63:18
-mul-before-2 : tie.Need-overflow-mul-before-2
+mul-before-2 : tie.Need-offset_bounds-tree-n
 mul-before-2 c = search rules
 
 -- src/lib.rt:63:18
-slice-read-before : tie.Need-slice-read-before
+slice-read-before : tie.Need-bounds-tree-n
 slice-read-before c = search rules
 
 -- src/lib.rt:64:27
@@ -38,61 +38,61 @@ letter-requires : tie.Need-letter-requires
 letter-requires c κs = search rules
 
 -- src/lib.rt:64:10
-mul-tree : tie.Need-overflow-mul-tree
+mul-tree : tie.Need-overflow_mul-tree
 mul-tree c = search rules
 
 -- src/lib.rt:64:10
-add-tree : tie.Need-overflow-add-tree
+add-tree : tie.Need-overflow_add-tree
 add-tree c = search rules
 
 -- src/lib.rt:64:5
-mul-tree-2 : tie.Need-overflow-mul-tree-2
+mul-tree-2 : tie.Need-offset_bounds-tree-count
 mul-tree-2 c = search rules
 
 -- src/lib.rt:64:5
-slice-write-tree : tie.Need-slice-write-tree
+slice-write-tree : tie.Need-bounds-tree-count
 slice-write-tree c = search rules
 
 -- src/lib.rt:65:10
-mul-tree-3 : tie.Need-overflow-mul-tree-3
+mul-tree-3 : tie.Need-overflow_mul-tree-2
 mul-tree-3 c = search rules
 
 -- src/lib.rt:65:10
-add-tree-2 : tie.Need-overflow-add-tree-2
+add-tree-2 : tie.Need-overflow_add-tree-2
 add-tree-2 c = search rules
 
 -- src/lib.rt:65:5
-mul-tree-4 : tie.Need-overflow-mul-tree-4
+mul-tree-4 : tie.Need-offset_bounds-tree-count-2
 mul-tree-4 c = search rules
 
 -- src/lib.rt:65:5
-slice-write-tree-2 : tie.Need-slice-write-tree-2
+slice-write-tree-2 : tie.Need-bounds-tree-count-2
 slice-write-tree-2 c = simp length-set (omega arith)
 
 -- src/lib.rt:66:19
-cast-tree : tie.Need-overflow-cast-tree
+cast-tree : tie.Need-overflow_cast-tree
 cast-tree c = search rules
 
 -- src/lib.rt:66:10
-mul-tree-5 : tie.Need-overflow-mul-tree-5
+mul-tree-5 : tie.Need-overflow_mul-tree-3
 mul-tree-5 c = search rules
 
 -- src/lib.rt:66:5
-mul-tree-6 : tie.Need-overflow-mul-tree-6
+mul-tree-6 : tie.Need-offset_bounds-tree-n-2
 mul-tree-6 c = search rules
 
 -- src/lib.rt:66:5
-slice-write-tree-3 : tie.Need-slice-write-tree-3
+slice-write-tree-3 : tie.Need-bounds-tree-n-2
 slice-write-tree-3 c = simp length-set (omega arith)
 
 -- src/lib.rt:55:1
-same-length-2 : tie.Need-same-length-2
+same-length-2 : tie.Need-shape_of-tree
 same-length-2 c = search rules
 
 -- src/lib.rt:55:1
-returns-2 : tie.Need-returns-2
+returns-2 : tie.Need-returns
 returns-2 c = λ b.
-    step-grown _ _ b _ _ _ _ (omega arith) (omega arith) c.before.before.if1.false c.letter.ensures (c.before.before.before.child.ensures b)
+    step-grown _ _ b _ _ _ _ (omega arith) (omega arith) c.before.before.if-u-ne0.false c.letter.ensures (c.before.before.before.child-u.ensures b)
 
 pub step_spec : {M : Type 1} → statement M
 step_spec =

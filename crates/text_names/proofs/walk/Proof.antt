@@ -9,58 +9,58 @@ use Rattle.text_names.proofs.walk.Tie as tie
 use Rattle.text_names.proofs.walk.Reads as reads
 use Rattle.text_names.proofs.walk.Lts as lts
 use Rattle.text_names.proofs.capital.Reads as capital-reads
-use Rattle.text_names.proofs.grown.Reads as grown-reads
-use Rattle.text_names.proofs.step.Reads as step-reads
+use Rattle.text_names.proofs.grown-all.Reads as grown-reads
+use Rattle.text_names.proofs.step-node.Reads as step-reads
 
-abbrev invariant-loop : tie.invariant-loop
+abbrev invariant-loop : tie.invariant-loop-i
 invariant-loop name tree₀ root count node₀ all₀ i₀ tree node all i = Stepping name tree₀ root count tree node all i
 
-abbrev decreases-loop : tie.decreases-loop
+abbrev decreases-loop : tie.decreases-loop-i
 decreases-loop name tree₀ root count node₀ all₀ i₀ tree node all i = length name - i
 
-loop-holds : tie.Need-loop-init invariant-loop decreases-loop
+loop-holds : tie.Need-loop-i-init invariant-loop decreases-loop
 loop-holds c = stepping-first _ _ _ _ c.before.before.requires
 
-shared-slice-read-capital : tie.Need-shared-slice-read-capital invariant-loop decreases-loop
+shared-slice-read-capital : tie.Need-bounds-name-i invariant-loop decreases-loop
 shared-slice-read-capital c = omega arith
 
 capital-requires : tie.Need-capital-requires invariant-loop decreases-loop
 capital-requires c κs = search rules
 
-step-requires : tie.Need-step-requires invariant-loop decreases-loop
+step-requires : tie.Need-step-node-requires invariant-loop decreases-loop
 step-requires c κs =
     let turn = c.before.before.before.before in
-    steppable _ _ _ _ turn.before.before.before.requires _ _ _ turn.loop.i (omega arith) turn.loop.invariant
+    steppable _ _ _ _ turn.before.before.before.requires _ _ _ turn.loop-i.i (omega arith) turn.loop-i.invariant
 
-grown-requires : tie.Need-grown-requires invariant-loop decreases-loop
+grown-requires : tie.Need-grown-all-requires invariant-loop decreases-loop
 grown-requires c κs =
     let stepped = c.before.before.before in
     let turn = stepped.before.before.before.before in
-    (steppable _ _ _ _ turn.before.before.before.requires _ _ _ turn.loop.i (omega arith) turn.loop.invariant).few
+    (steppable _ _ _ _ turn.before.before.before.requires _ _ _ turn.loop-i.i (omega arith) turn.loop-i.invariant).few
 
-add-i : tie.Need-overflow-add-i invariant-loop decreases-loop
+add-i : tie.Need-overflow_add-i invariant-loop decreases-loop
 add-i c = omega arith
 
-loop-less : tie.Need-loop-smaller invariant-loop decreases-loop
+loop-less : tie.Need-loop-i-smaller invariant-loop decreases-loop
 loop-less c = omega arith
 
-loop-again : tie.Need-loop-preserved invariant-loop decreases-loop
+loop-again : tie.Need-loop-i-preserved invariant-loop decreases-loop
 loop-again c =
     let stepped = c.before.before.before in
     let read = stepped.before in
     let turn = read.before.before.before.before in
-    stepping-next _ _ _ _ turn.before.before.before.requires _ _ _ turn.loop.i _ _ _ _ (omega arith) read.capital.ensures c.grown.ensures
-    stepped.step.ensures
-    turn.loop.invariant
+    stepping-next _ _ _ _ turn.before.before.before.requires _ _ _ turn.loop-i.i _ _ _ _ (omega arith) read.capital.ensures c.grown-all.ensures
+    stepped.step-node.ensures
+    turn.loop-i.invariant
 
-same_length : tie.Need-same-length invariant-loop decreases-loop
-same_length c = (c.before.loop.invariant.reached c.before.before.before.before.requires.book).room
+same_length : tie.Need-shape_of-tree invariant-loop decreases-loop
+same_length c = (c.before.loop-i.invariant.reached c.before.before.before.before.requires.book).room
 
 returns : tie.Need-returns invariant-loop decreases-loop
-returns c = stepping-last _ _ _ _ c.before.before.before.before.requires _ _ _ c.before.loop.i (omega arith) c.before.loop.invariant
+returns c = stepping-last _ _ _ _ c.before.before.before.before.requires _ _ _ c.before.loop-i.i (omega arith) c.before.loop-i.invariant
 
-pub walk-spec : {M : Type 1} → statement M
-walk-spec =
+pub walk_spec : {M : Type 1} → statement M
+walk_spec =
     tie.close
     (tie.spec
     invariant-loop

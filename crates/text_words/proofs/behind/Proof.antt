@@ -7,48 +7,48 @@ use Rattle.text_words.proofs.behind.Statement.{statement}
 use Rattle.text_words.proofs.behind.Tie as tie
 use Rattle.text_words.proofs.behind.Reads as reads
 use Rattle.text_words.proofs.behind.Lts as lts
-use Rattle.text_words.proofs.step.Reads as step-reads
+use Rattle.text_words.proofs.step-cursor.Reads as step-reads
 
-abbrev invariant-loop : tie.invariant-loop
+abbrev invariant-loop : tie.invariant-loop-i
 invariant-loop text from level depth more i₀ cursor₀ i cursor = Searching text from level depth more i cursor
 
-abbrev decreases-loop : tie.decreases-loop
+abbrev decreases-loop : tie.decreases-loop-i
 decreases-loop text from level depth more i₀ cursor₀ i cursor = length text - i
 
 -- src/lib.rt:85:5
-loop-holds : tie.Need-loop-init invariant-loop decreases-loop
+loop-holds : tie.Need-loop-i-init invariant-loop decreases-loop
 loop-holds c = record { few = c.before.requires.0; is = refl; deep = omega arith }
 
 -- src/lib.rt:86:23
-shared-slice-read-step : tie.Need-shared-slice-read-step invariant-loop decreases-loop
+shared-slice-read-step : tie.Need-bounds-text-i invariant-loop decreases-loop
 shared-slice-read-step c = omega arith
 
 -- src/lib.rt:86:9
-step-requires : tie.Need-step-requires invariant-loop decreases-loop
-step-requires c κs = let deep = c.before.before.loop.invariant.deep in omega arith
+step-requires : tie.Need-step-cursor-requires invariant-loop decreases-loop
+step-requires c κs = let deep = c.before.before.loop-i.invariant.deep in omega arith
 
 -- src/lib.rt:87:9
-add-i : tie.Need-overflow-add-i invariant-loop decreases-loop
+add-i : tie.Need-overflow_add-i invariant-loop decreases-loop
 add-i c = omega arith
 
 -- src/lib.rt:89:13
-returns : tie.Need-returns invariant-loop decreases-loop
-returns c = let turn = c.before.before.before in search-met _ _ _ _ _ _ _ c.before.step.result turn.before.loop.invariant turn.loop-test.true c.before.step.ensures c.if1.true
+returns : tie.Need-returns-then-cursor invariant-loop decreases-loop
+returns c = let turn = c.before.before.before in search-met _ _ _ _ _ _ _ c.before.step-cursor.result turn.before.loop-i.invariant turn.loop-i-test.true c.before.step-cursor.ensures c.if-cursor.true
 
 -- src/lib.rt:85:5
-loop-less : tie.Need-loop-smaller invariant-loop decreases-loop
+loop-less : tie.Need-loop-i-smaller invariant-loop decreases-loop
 loop-less c = omega arith
 
 -- src/lib.rt:85:5
-loop-again : tie.Need-loop-preserved invariant-loop decreases-loop
-loop-again c = let turn = c.before.before.before in searching_on _ _ _ _ _ _ _ c.before.step.result turn.before.loop.invariant turn.loop-test.true c.before.step.ensures c.if1.false
+loop-again : tie.Need-loop-i-preserved invariant-loop decreases-loop
+loop-again c = let turn = c.before.before.before in searching_on _ _ _ _ _ _ _ c.before.step-cursor.result turn.before.loop-i.invariant turn.loop-i-test.true c.before.step-cursor.ensures c.if-cursor.false
 
 -- src/lib.rt:74:1
-returns-2 : tie.Need-returns-2 invariant-loop decreases-loop
-returns-2 c = search-off _ _ _ _ _ _ _ c.before.loop.invariant c.loop-test.false
+returns-2 : tie.Need-returns invariant-loop decreases-loop
+returns-2 c = search-off _ _ _ _ _ _ _ c.before.loop-i.invariant c.loop-i-test.false
 
-pub behind-spec : {M : Type 1} → statement M
-behind-spec =
+pub behind_spec : {M : Type 1} → statement M
+behind_spec =
     tie.close
     (tie.spec
     invariant-loop

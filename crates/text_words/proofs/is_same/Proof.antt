@@ -10,65 +10,65 @@ use Rattle.text_words.proofs.is_same.Reads as reads
 use Rattle.text_words.proofs.is_same.Lts as lts
 use Rattle.text_words.proofs.is_alike.Reads as is-alike-reads
 
-abbrev invariant-loop : tie.invariant-loop
+abbrev invariant-loop : tie.invariant-loop-i
 invariant-loop one other i₀ i-end i = Left one other i
 
-abbrev decreases-loop : tie.decreases-loop
+abbrev decreases-loop : tie.decreases-loop-i
 decreases-loop one other i₀ i-end i = i-end - i
 
 -- src/lib.rt:169:9
-returns : tie.Need-returns invariant-loop decreases-loop
-returns c = let asked = c.before.before.before.args in same_length asked.one.now asked.other.now c.if1.true
+returns : tie.Need-returns-then-one-other invariant-loop decreases-loop
+returns c = let asked = c.before.before.before.args in same_length asked.one.now asked.other.now c.if-one-other.true
 
 -- src/lib.rt:171:5
-loop-holds : tie.Need-loop-init invariant-loop decreases-loop
+loop-holds : tie.Need-loop-i-init invariant-loop decreases-loop
 loop-holds c = refl
 
 -- src/lib.rt:172:22
-shared-slice-read-is-alike : tie.Need-shared-slice-read-is-alike invariant-loop decreases-loop
+shared-slice-read-is-alike : tie.Need-bounds-one-i invariant-loop decreases-loop
 shared-slice-read-is-alike c = omega arith
 
 -- src/lib.rt:172:30
-shared-slice-read-is-alike-2 : tie.Need-shared-slice-read-is-alike-2 invariant-loop decreases-loop
+shared-slice-read-is-alike-2 : tie.Need-bounds-other-i invariant-loop decreases-loop
 shared-slice-read-is-alike-2 c = omega arith
 
 -- src/lib.rt:172:13
-is-alike-requires : tie.Need-is-alike-requires invariant-loop decreases-loop
+is-alike-requires : tie.Need-is_alike-requires invariant-loop decreases-loop
 is-alike-requires c κs = search rules
 
 -- src/lib.rt:173:13
-returns-2 : tie.Need-returns-2 invariant-loop decreases-loop
+returns-2 : tie.Need-returns-then-not-is_alike invariant-loop decreases-loop
 returns-2 c =
     let turn = c.before.before.before.before in
     let head = turn.before in
     let asked = head.before.before.before.before.args in
-    same-apart asked.one.now asked.other.now head.loop.i head.before.if1.false turn.loop-test.true head.loop.invariant _ c.before.is-alike.ensures (not-true _ c.if2.true)
+    same-apart asked.one.now asked.other.now head.loop-i.i head.before.if-one-other.false turn.loop-i-test.true head.loop-i.invariant _ c.before.is_alike.ensures (not-true _ c.if-not-is_alike.true)
 
 -- src/lib.rt:171:9
-add-i : tie.Need-overflow-add-i invariant-loop decreases-loop
+add-i : tie.Need-overflow_step-i invariant-loop decreases-loop
 add-i c = omega arith
 
 -- src/lib.rt:171:5
-loop-less : tie.Need-loop-smaller invariant-loop decreases-loop
+loop-less : tie.Need-loop-i-smaller invariant-loop decreases-loop
 loop-less c = omega arith
 
 -- src/lib.rt:171:5
-loop-again : tie.Need-loop-preserved invariant-loop decreases-loop
+loop-again : tie.Need-loop-i-preserved invariant-loop decreases-loop
 loop-again c =
     let turn = c.before.before.before.before in
     let head = turn.before in
     let asked = head.before.before.before.before.args in
-    same-on asked.one.now asked.other.now head.loop.i head.before.if1.false turn.loop-test.true head.loop.invariant _ c.before.is-alike.ensures (not-false _ c.if2.false)
+    same-on asked.one.now asked.other.now head.loop-i.i head.before.if-one-other.false turn.loop-i-test.true head.loop-i.invariant _ c.before.is_alike.ensures (not-false _ c.if-not-is_alike.false)
 
 -- src/lib.rt:165:1
-returns-3 : tie.Need-returns-3 invariant-loop decreases-loop
+returns-3 : tie.Need-returns invariant-loop decreases-loop
 returns-3 c =
     let head = c.before in
     let asked = head.before.before.before.before.args in
-    sym (head.loop.invariant ∙ same_none asked.one.now asked.other.now head.loop.i head.before.if1.false c.loop-test.false)
+    sym (head.loop-i.invariant ∙ same_none asked.one.now asked.other.now head.loop-i.i head.before.if-one-other.false c.loop-i-test.false)
 
-pub is-same-spec : {M : Type 1} → statement M
-is-same-spec =
+pub is_same_spec : {M : Type 1} → statement M
+is_same_spec =
     tie.close
     (tie.spec
     invariant-loop

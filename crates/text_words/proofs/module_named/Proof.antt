@@ -10,54 +10,54 @@ use Rattle.text_words.proofs.module_named.Lts as lts
 use Rattle.text_words.proofs.is_same.Reads as is-same-reads
 use Rattle.text_words.proofs.module_name.Reads as module-name-reads
 
-abbrev invariant-loop : tie.invariant-loop
+abbrev invariant-loop : tie.invariant-loop-k
 invariant-loop text name k₀ k = Unnamed text name k
 
-abbrev decreases-loop : tie.decreases-loop
+abbrev decreases-loop : tie.decreases-loop-k
 decreases-loop text name k₀ k = 128 - k
 
 -- src/lib.rt:184:5
-loop-holds : tie.Need-loop-init invariant-loop decreases-loop
+loop-holds : tie.Need-loop-k-init invariant-loop decreases-loop
 loop-holds c = (omega arith, refl)
 
 -- src/lib.rt:185:20
-module-name-requires : tie.Need-module-name-requires invariant-loop decreases-loop
+module-name-requires : tie.Need-module_name-requires invariant-loop decreases-loop
 module-name-requires c κs = search rules
 
 -- src/lib.rt:185:12
-is-same-requires : tie.Need-is-same-requires invariant-loop decreases-loop
+is-same-requires : tie.Need-is_same-requires invariant-loop decreases-loop
 is-same-requires c κs = search rules
 
 -- src/lib.rt:186:13
-returns : tie.Need-returns invariant-loop decreases-loop
+returns : tie.Need-returns-then-is_same invariant-loop decreases-loop
 returns c =
     let found = c.before.before in
     let head = found.before.before in
     let asked = head.before.before.before.args in
-    named_here asked.text.now asked.name.now _ head.loop.k _ found.before.loop-test.true head.loop.invariant found.module-name.ensures c.before.is_same.ensures c.if1.true
+    named_here asked.text.now asked.name.now _ head.loop-k.k _ found.before.loop-k-test.true head.loop-k.invariant found.module_name.ensures c.before.is_same.ensures c.if-is_same.true
 
 -- src/lib.rt:188:9
-add-k : tie.Need-overflow-add-k invariant-loop decreases-loop
+add-k : tie.Need-overflow_add-k invariant-loop decreases-loop
 add-k c = omega arith
 
 -- src/lib.rt:184:5
-loop-less : tie.Need-loop-smaller invariant-loop decreases-loop
+loop-less : tie.Need-loop-k-smaller invariant-loop decreases-loop
 loop-less c = omega arith
 
 -- src/lib.rt:184:5
-loop-again : tie.Need-loop-preserved invariant-loop decreases-loop
+loop-again : tie.Need-loop-k-preserved invariant-loop decreases-loop
 loop-again c =
     let found = c.before.before in
     let head = found.before.before in
     let asked = head.before.before.before.args in
-    named-on asked.text.now asked.name.now _ head.loop.k _ found.before.loop-test.true head.loop.invariant found.module-name.ensures c.before.is_same.ensures c.if1.false
+    named-on asked.text.now asked.name.now _ head.loop-k.k _ found.before.loop-k-test.true head.loop-k.invariant found.module_name.ensures c.before.is_same.ensures c.if-is_same.false
 
 -- src/lib.rt:180:1
-returns-2 : tie.Need-returns-2 invariant-loop decreases-loop
-returns-2 c = let asked = c.before.before.before.before.args in named_none asked.text.now asked.name.now _ c.loop-test.false c.before.loop.invariant
+returns-2 : tie.Need-returns invariant-loop decreases-loop
+returns-2 c = let asked = c.before.before.before.before.args in named_none asked.text.now asked.name.now _ c.loop-k-test.false c.before.loop-k.invariant
 
-pub module-named-spec : {M : Type 1} → statement M
-module-named-spec =
+pub module_named_spec : {M : Type 1} → statement M
+module_named_spec =
     tie.close
     (tie.spec
     invariant-loop

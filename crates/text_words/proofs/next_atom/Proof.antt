@@ -10,18 +10,18 @@ use Rattle.text_words.proofs.next_atom.Reads as reads
 use Rattle.text_words.proofs.next_atom.Lts as lts
 use Rattle.text_modes.proofs.kind.Reads as kind-reads
 
-abbrev invariant-loop : tie.invariant-loop
+abbrev invariant-loop : tie.invariant-loop-i
 invariant-loop text from i₀ i = Nearing text from i
 
-abbrev decreases-loop : tie.decreases-loop
+abbrev decreases-loop : tie.decreases-loop-i
 decreases-loop text from i₀ i = length text - i
 
 -- src/lib.rt:101:5
-loop-holds : tie.Need-loop-init invariant-loop decreases-loop
+loop-holds : tie.Need-loop-i-init invariant-loop decreases-loop
 loop-holds c = record { few = c.before.requires; is = refl }
 
 -- src/lib.rt:102:17
-shared-slice-read-kind : tie.Need-shared-slice-read-kind invariant-loop decreases-loop
+shared-slice-read-kind : tie.Need-bounds-text-i invariant-loop decreases-loop
 shared-slice-read-kind c = omega arith
 
 -- src/lib.rt:102:12
@@ -29,27 +29,27 @@ kind-requires : tie.Need-kind-requires invariant-loop decreases-loop
 kind-requires c κs = search rules
 
 -- src/lib.rt:103:13
-returns : tie.Need-returns invariant-loop decreases-loop
-returns c = let turn = c.before.before.before in at-atom _ _ _ turn.before.loop.invariant turn.loop-test.true (sym c.before.kind.ensures ∙ c.if1.true)
+returns : tie.Need-returns-then-kind-eq4 invariant-loop decreases-loop
+returns c = let turn = c.before.before.before in at-atom _ _ _ turn.before.loop-i.invariant turn.loop-i-test.true (sym c.before.kind.ensures ∙ c.if-kind-eq4.true)
 
 -- src/lib.rt:105:9
-add-i : tie.Need-overflow-add-i invariant-loop decreases-loop
+add-i : tie.Need-overflow_add-i invariant-loop decreases-loop
 add-i c = omega arith
 
 -- src/lib.rt:101:5
-loop-less : tie.Need-loop-smaller invariant-loop decreases-loop
+loop-less : tie.Need-loop-i-smaller invariant-loop decreases-loop
 loop-less c = omega arith
 
 -- src/lib.rt:101:5
-loop-again : tie.Need-loop-preserved invariant-loop decreases-loop
-loop-again c = let turn = c.before.before.before in nearing_on _ _ _ turn.before.loop.invariant turn.loop-test.true (λ e. c.if1.false (c.before.kind.ensures ∙ e))
+loop-again : tie.Need-loop-i-preserved invariant-loop decreases-loop
+loop-again c = let turn = c.before.before.before in nearing_on _ _ _ turn.before.loop-i.invariant turn.loop-i-test.true (λ e. c.if-kind-eq4.false (c.before.kind.ensures ∙ e))
 
 -- src/lib.rt:96:1
-returns-2 : tie.Need-returns-2 invariant-loop decreases-loop
-returns-2 c = no_atom _ _ _ c.before.loop.invariant c.loop-test.false
+returns-2 : tie.Need-returns invariant-loop decreases-loop
+returns-2 c = no_atom _ _ _ c.before.loop-i.invariant c.loop-i-test.false
 
-pub next-atom-spec : {M : Type 1} → statement M
-next-atom-spec =
+pub next_atom_spec : {M : Type 1} → statement M
+next_atom_spec =
     tie.close
     (tie.spec
     invariant-loop

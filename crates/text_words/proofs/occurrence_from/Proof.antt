@@ -4,7 +4,7 @@ use borrow.Author.Rules.{rules}
 use Rattle.text_words.proofs.occurrence_from.Statement.{statement}
 use Rattle.text_words.proofs.occurrence_from.Tie as tie
 
-module-from-requires : tie.Need-module-from-requires
+module-from-requires : tie.Need-module_from-from-requires
 module-from-requires c κs = search rules
 
 behind-requires : tie.Need-behind-requires
@@ -13,7 +13,7 @@ behind-requires c κs = search rules
 returns : tie.Need-returns
 returns c =
     let asked = c.before.before.before.args in
-    record { few = c.behind.ensures.few; is = c.behind.ensures.is ∙ ap (behind 3 2 asked.occurrence) c.before.module-from.ensures.is }
+    record { few = c.behind.ensures.few; is = c.behind.ensures.is ∙ ap (behind 3 2 asked.occurrence) c.before.module_from-from.ensures.is }
 
-pub occurrence-from-spec : {M : Type 1} → statement M
-occurrence-from-spec = tie.close (tie.spec module-from-requires behind-requires returns)
+pub occurrence_from_spec : {M : Type 1} → statement M
+occurrence_from_spec = tie.close (tie.spec module-from-requires behind-requires returns)

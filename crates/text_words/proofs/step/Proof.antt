@@ -20,47 +20,47 @@ code : (c : tie.After-kind) {n : ℕ} → c.kind.result ≡ n → kind_code (kin
 code c e = sym c.kind.ensures ∙ e
 
 -- src/lib.rt:33:28
-add-t8 : tie.Need-overflow-add-t8
+add-t8 : tie.Need-overflow_add-result
 add-t8 c = search rules
 
 -- src/lib.rt:31:17
-returns : tie.Need-returns
-returns c = opens_other _ _ _ _ (code c.before.before c.before.match.keys1) c.if1.true
+returns : tie.Need-returns-then-depth-level
+returns c = opens_other _ _ _ _ (code c.before.before c.before.in-1.keys1) c.if-depth-level.true
 
 -- src/lib.rt:38:17
-returns-2 : tie.Need-returns-2
-returns-2 c = opens_it _ _ _ _ (code c.before.before.before c.before.before.match.keys1) c.before.if1.false c.if2.true
+returns-2 : tie.Need-returns-then-more-eq0
+returns-2 c = opens_it _ _ _ _ (code c.before.before.before c.before.before.in-1.keys1) c.before.if-depth-level.false c.if-more-eq0.true
 
 -- src/lib.rt:46:24
-add-t9 : tie.Need-overflow-add-t9
+add-t9 : tie.Need-overflow_add-result-in-1
 add-t9 c = search rules
 
 -- src/lib.rt:47:23
-sub-t10 : tie.Need-overflow-sub-t10
+sub-t10 : tie.Need-overflow_sub-result
 sub-t10 c = search rules
 
 -- src/lib.rt:52:17
-returns-3 : tie.Need-returns-3
+returns-3 : tie.Need-returns-then-depth-eq0
 returns-3 c =
     let depth = c.before.before.before.args.depth in
-    closes _ _ depth _ (code c.before.before c.before.match.keys2) depth (omega arith)
+    closes _ _ depth _ (code c.before.before c.before.in-2.keys2) depth (omega arith)
 
 -- src/lib.rt:60:24
-sub-t12 : tie.Need-overflow-sub-t12
+sub-t12 : tie.Need-overflow_sub-result-in-2
 sub-t12 c = search rules
 
 -- src/lib.rt:24:1
-returns-4 : tie.Need-returns-4
-returns-4 c = opens_like _ _ _ _ (code c.before.before.before c.before.before.match.keys1) c.before.if1.false c.if2.false
+returns-4 : tie.Need-returns-else-more-eq0
+returns-4 c = opens_like _ _ _ _ (code c.before.before.before c.before.before.in-1.keys1) c.before.if-depth-level.false c.if-more-eq0.false
 
 -- src/lib.rt:24:1
-returns-5 : tie.Need-returns-5
-returns-5 c = closes _ _ _ _ (code c.before.before c.before.match.keys2) _ refl
+returns-5 : tie.Need-returns-else-depth-eq0
+returns-5 c = closes _ _ _ _ (code c.before.before c.before.in-2.keys2) _ refl
 
 -- src/lib.rt:24:1
-returns-6 : tie.Need-returns-6
+returns-6 : tie.Need-returns-in_default
 returns-6 c =
-    passes (kind_code (kind_of c.before.before.args.b)) _ _ _ (λ e. c.match.rest.0.1 (c.before.kind.ensures ∙ e)) (λ e. c.match.rest.1 (c.before.kind.ensures ∙ e))
+    passes (kind_code (kind_of c.before.before.args.b)) _ _ _ (λ e. c.in_default.rest.0.1 (c.before.kind.ensures ∙ e)) (λ e. c.in_default.rest.1 (c.before.kind.ensures ∙ e))
 
 pub step_spec : {M : Type 1} → statement M
 step_spec =

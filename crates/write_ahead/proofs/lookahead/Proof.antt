@@ -11,60 +11,60 @@ use Rattle.write_ahead.proofs.lookahead.Statement.{statement}
 use Rattle.write_ahead.proofs.lookahead.Tie as tie
 
 -- The places behind the pieces, each from the one behind the next.
-abbrev start : tie.After-carry-and-bits → tie.Start
+abbrev start : tie.After-carry_and_bits-outputs → tie.Start
 start c = c.before.before.before
 
-abbrev inputs : tie.After-carries → tie.After-carry-and-bits
+abbrev inputs : tie.After-carries-count → tie.After-carry_and_bits-outputs
 inputs c = c.before.before.before.before
 
-abbrev outputs : tie.After-height → tie.After-carries
+abbrev outputs : tie.After-height → tie.After-carries-count
 outputs c = c.before.before.before
 
-abbrev high : tie.After-chain → tie.After-height
+abbrev high : tie.After-chain-laid → tie.After-height
 high c = c.before.before
 
-carries-requires : tie.Need-carries-requires
+carries-requires : tie.Need-carries-count-requires
 carries-requires c κs =
     let first = c.before.before.before in
     let pre = (start first).requires in
-    (pre.1, outputs-room pre.0 pre.1 pre.2 first.carry-and-bits.ensures)
+    (pre.1, outputs-room pre.0 pre.1 pre.2 first.carry_and_bits-outputs.ensures)
 
-add-chain : tie.Need-overflow-add-chain
+add-chain : tie.Need-overflow_add-count
 add-chain c =
     let second = outputs c.before in
     let first = inputs second in
-    let pre = (start first).pre in
-    omega (arith, place-within pre.0 pre.1 pre.2 first.carry-and-bits.ensures second.carries.ensures, (start first).good)
+    let pre = (start first).requires in
+    omega (arith, place-within pre.0 pre.1 pre.2 first.carry_and_bits-outputs.ensures second.carries-count.ensures, (start first).good)
 
-chain-requires : tie.Need-chain-requires
+chain-requires : tie.Need-chain-laid-requires
 chain-requires c κs =
     let h = c.before in
     let second = outputs h in
     let first = inputs second in
-    let pre = (start first).pre in
-    chain_able pre.0 pre.1 pre.2 first.carry-and-bits.ensures second.carries.ensures h.height.ensures.0 h.height.ensures.1
+    let pre = (start first).requires in
+    chain_able pre.0 pre.1 pre.2 first.carry_and_bits-outputs.ensures second.carries-count.ensures h.height.ensures.0 h.height.ensures.1
 
-trees : (c : tie.After-chain) → c.chain.result.trees ≤ 2 * (start (inputs (outputs (high c)))).args.width
+trees : (c : tie.After-chain-laid) → c.chain-laid.result.trees ≤ 2 * (start (inputs (outputs (high c)))).args.width
 trees c =
     let h = high c in
     let second = outputs h in
     let first = inputs second in
-    let pre = (start first).pre in
-    trees-within pre.0 pre.1 pre.2 first.carry-and-bits.ensures second.carries.ensures h.height.ensures.0
+    let pre = (start first).requires in
+    trees-within pre.0 pre.1 pre.2 first.carry_and_bits-outputs.ensures second.carries-count.ensures h.height.ensures.0
     h.height.ensures.1
-    c.chain.ensures
+    c.chain-laid.ensures
 
-slice-write-bytes : tie.Need-slice-write-bytes
+slice-write-bytes : tie.Need-bounds-bytes-count
 slice-write-bytes c =
     let laid = c.before.before.before in
     let h = high laid in
     let second = outputs h in
     let first = inputs second in
-    let pre = (start first).pre in
+    let pre = (start first).requires in
     let able =
-    chain_able pre.0 pre.1 pre.2 first.carry-and-bits.ensures second.carries.ensures h.height.ensures.0
+    chain_able pre.0 pre.1 pre.2 first.carry_and_bits-outputs.ensures second.carries-count.ensures h.height.ensures.0
     h.height.ensures.1 in
-    omega (arith, able.room.fits, chained-length able laid.chain.ensures)
+    omega (arith, able.room.fits, chained-length able laid.chain-laid.ensures)
 
 returns : tie.Need-returns
 returns c =
@@ -72,18 +72,18 @@ returns c =
     let h = high laid in
     let second = outputs h in
     let first = inputs second in
-    let pre = (start first).pre in
-    lookahead-put pre.0 pre.1 pre.2 first.carry-and-bits.ensures second.carries.ensures h.height.ensures.0
+    let pre = (start first).requires in
+    lookahead-put pre.0 pre.1 pre.2 first.carry_and_bits-outputs.ensures second.carries-count.ensures h.height.ensures.0
     h.height.ensures.1
-    laid.chain.ensures
+    laid.chain-laid.ensures
 
-same_length : tie.Need-same-length
+same_length : tie.Need-shape_of-bytes
 same_length c =
     let room = (start (inputs (outputs (high c.before.before.before)))).requires.2 in
     length-put (returns c) (omega (arith, room.fits)) (omega (arith, room.fits, (returns c).place))
 
-pub lookahead-spec : {M : Type 1} → statement M
-lookahead-spec =
+pub lookahead_spec : {M : Type 1} → statement M
+lookahead_spec =
     tie.close
     (tie.spec
     (λ c. search rules)

@@ -12,79 +12,79 @@ use Rattle.write_alu.proofs.file_with.Statement.{statement}
 use Rattle.write_alu.proofs.file_with.Tie as tie
 
 -- The places behind the count of modules and behind the modules, each from the one behind the next.
-abbrev start : tie.After-copy → tie.Start
+abbrev start : tie.After-copy-first → tie.Start
 start c = c.before.before.before.before
 
-abbrev behind-count : tie.After-alu-module → tie.After-copy
+abbrev behind-count : tie.After-alu_module-second → tie.After-copy-first
 behind-count c = c.before.before.before.before
 
-abbrev behind-first : tie.After-control → tie.After-alu-module
+abbrev behind-first : tie.After-control-third → tie.After-alu_module-second
 behind-first c = c.before.before.before.before
 
-abbrev behind-second : tie.After-cell → tie.After-control
+abbrev behind-second : tie.After-cell-fourth → tie.After-control-third
 behind-second c = c.before.before.before.before
 
-abbrev behind-third : tie.After-lookahead → tie.After-cell
+abbrev behind-third : tie.After-lookahead-fifth → tie.After-cell-fourth
 behind-third c = c.before.before.before.before
 
-abbrev behind-fourth : tie.After-carry-two → tie.After-lookahead
+abbrev behind-fourth : tie.After-carry_two-sixth → tie.After-lookahead-fifth
 behind-fourth c = c.before.before.before.before
 
-room : (c : tie.Start) → Room (file_pieces c.args.width c.args.copied) c.args.bytes.now 0
+room : (c : tie.Start) → Room (file_pieces c.args.width c.args.copied) c.args.bytes-1.now 0
 room c =
     let n = c.args.width in
     rw (← bytes-of-file n c.args.copied c.requires.2) (omega (arith, alu-bytes n, c.requires.3))
 
-alu-module-requires : tie.Need-alu-module-requires
+alu-module-requires : tie.Need-alu_module-second-requires
 alu-module-requires c κs =
     let count = c.before.before.before in
     let begin = start count in
-    let one = laying-put count.copy.ensures (laying-start (room begin)) in
-    let pre = begin.pre in (
+    let one = laying-put count.copy-first.ensures (laying-start (room begin)) in
+    let pre = begin.requires in (
       pre.0,
       pre.1,
       omega (arith, pre.1, pre.2, copies-most begin.args.width),
       room-first _ (laying-left one),
     )
 
-control-requires : tie.Need-control-requires
+control-requires : tie.Need-control-third-requires
 control-requires c κs =
     let first = c.before.before.before in
     let count = behind-count first in
-    let one = laying-put count.copy.ensures (laying-start (room (start count))) in
-    room-first _ (laying-left (laying-put first.alu-module.ensures one))
+    let one = laying-put count.copy-first.ensures (laying-start (room (start count))) in
+    room-first _ (laying-left (laying-put first.alu_module-second.ensures one))
 
-cell-requires : tie.Need-cell-requires
+cell-requires : tie.Need-cell-fourth-requires
 cell-requires c κs =
     let second = c.before.before.before in
     let first = behind-first second in
     let count = behind-count first in
-    let one = laying-put count.copy.ensures (laying-start (room (start count))) in
-    room-first _ (laying-left (laying-put second.control.ensures (laying-put first.alu-module.ensures one)))
+    let one = laying-put count.copy-first.ensures (laying-start (room (start count))) in
+    room-first _ (laying-left (laying-put second.control-third.ensures (laying-put first.alu_module-second.ensures one)))
 
-lookahead-requires : tie.Need-lookahead-requires
+lookahead-requires : tie.Need-lookahead-fifth-requires
 lookahead-requires c κs =
     let third = c.before.before.before in
     let second = behind-second third in
     let first = behind-first second in
     let count = behind-count first in
-    let one = laying-put count.copy.ensures (laying-start (room (start count))) in
-    let three = laying-put second.control.ensures (laying-put first.alu-module.ensures one) in
-    let pre = (start count).pre in
-    (pre.0, pre.1, room-first _ (laying-left (laying-put third.cell.ensures three)))
+    let one = laying-put count.copy-first.ensures (laying-start (room (start count))) in
+    let three = laying-put second.control-third.ensures (laying-put first.alu_module-second.ensures one) in
+    let pre = (start count).requires in
+    (pre.0, pre.1, room-first _ (laying-left (laying-put third.cell-fourth.ensures three)))
 
-carry-two-requires : tie.Need-carry-two-requires
+carry-two-requires : tie.Need-carry_two-sixth-requires
 carry-two-requires c κs =
     let fourth = c.before.before.before in
     let third = behind-third fourth in
     let second = behind-second third in
     let first = behind-first second in
     let count = behind-count first in
-    let one = laying-put count.copy.ensures (laying-start (room (start count))) in
-    let three = laying-put second.control.ensures (laying-put first.alu-module.ensures one) in
-    room-first _ (laying-left (laying-put fourth.lookahead.ensures (laying-put third.cell.ensures three)))
+    let one = laying-put count.copy-first.ensures (laying-start (room (start count))) in
+    let three = laying-put second.control-third.ensures (laying-put first.alu_module-second.ensures one) in
+    room-first _ (laying-left (laying-put fourth.lookahead-fifth.ensures (laying-put third.cell-fourth.ensures three)))
 
-carry-one-requires : tie.Need-carry-one-requires
+carry-one-requires : tie.Need-carry_one-requires
 carry-one-requires c κs =
     let fifth = c.before.before.before in
     let fourth = behind-fourth fifth in
@@ -92,10 +92,10 @@ carry-one-requires c κs =
     let second = behind-second third in
     let first = behind-first second in
     let count = behind-count first in
-    let one = laying-put count.copy.ensures (laying-start (room (start count))) in
-    let three = laying-put second.control.ensures (laying-put first.alu-module.ensures one) in
-    let five = laying-put fourth.lookahead.ensures (laying-put third.cell.ensures three) in
-    laying-left (laying-put fifth.carry-two.ensures five)
+    let one = laying-put count.copy-first.ensures (laying-start (room (start count))) in
+    let three = laying-put second.control-third.ensures (laying-put first.alu_module-second.ensures one) in
+    let five = laying-put fourth.lookahead-fifth.ensures (laying-put third.cell-fourth.ensures three) in
+    laying-left (laying-put fifth.carry_two-sixth.ensures five)
 
 returns : tie.Need-returns
 returns c =
@@ -107,14 +107,14 @@ returns c =
     let first = behind-first second in
     let count = behind-count first in
     let begin = start count in
-    let one = laying-put count.copy.ensures (laying-start (room begin)) in
-    let three = laying-put second.control.ensures (laying-put first.alu-module.ensures one) in
-    let five = laying-put fourth.lookahead.ensures (laying-put third.cell.ensures three) in
-    rw (bytes-of-file begin.args.width begin.args.copied begin.pre.2)
-    (put_front (laying-last sixth.carry-one.ensures (laying-put fifth.carry-two.ensures five)))
+    let one = laying-put count.copy-first.ensures (laying-start (room begin)) in
+    let three = laying-put second.control-third.ensures (laying-put first.alu_module-second.ensures one) in
+    let five = laying-put fourth.lookahead-fifth.ensures (laying-put third.cell-fourth.ensures three) in
+    rw (bytes-of-file begin.args.width begin.args.copied begin.requires.2)
+    (put_front (laying-last sixth.carry_one.ensures (laying-put fifth.carry_two-sixth.ensures five)))
 
-pub file-with-spec : {M : Type 1} → statement M
-file-with-spec =
+pub file_with_spec : {M : Type 1} → statement M
+file_with_spec =
     tie.close
     (tie.spec
     (λ c. search rules)

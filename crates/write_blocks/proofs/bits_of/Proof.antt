@@ -14,5 +14,5 @@ returns c =
     let exact : (1 * 2 ^ level) % 2 ^ 8 ≡ 2 ^ level = shl_exact {a = 1} 1 level 8 (omega arith) (omega arith) ∙ one-mul (2 ^ level) in
     rw exact (refl, pow_mono {i = level} {j = 6} (omega arith))
 
-pub bits-of-spec : {M : Type 1} → statement M
-bits-of-spec = tie.close (tie.spec (λ c. search rules) returns)
+pub bits_of_spec : {M : Type 1} → statement M
+bits_of_spec = tie.close (tie.spec (λ c. search rules) returns)

@@ -7,12 +7,12 @@ use Rattle.write_blocks.specs.BlockNumbers.{number-above}
 use Rattle.write_blocks.proofs.block_number.Statement.{statement}
 use Rattle.write_blocks.proofs.block_number.Tie as tie
 
-returns : tie.Need-returns
+returns : tie.Need-returns-then-level-eq0
 unfolding block_number
-returns c = rw c.if1.true
+returns c = rw c.if-level-eq0.true
 
-returns-2 : tie.Need-returns-2
+returns-2 : tie.Need-returns-else-level-eq0
 returns-2 c = sym (number-above c.before.args.level (omega arith))
 
-pub block-number-spec : {M : Type 1} → statement M
-block-number-spec = tie.close (tie.spec (λ c. search rules) returns returns-2)
+pub block_number_spec : {M : Type 1} → statement M
+block_number_spec = tie.close (tie.spec (λ c. search rules) returns returns-2)

@@ -11,42 +11,42 @@ use Rattle.write_blocks.specs.BlockNumbers.{rest-of-blocks, no_blocks}
 use Rattle.write_blocks.proofs.blocks.Statement.{statement}
 use Rattle.write_blocks.proofs.blocks.Tie as tie
 
-abbrev invariant-loop : tie.invariant-loop
+abbrev invariant-loop : tie.invariant-loop-left
 invariant-loop level bytes₀ at at₀ left₀ bytes at' left =
     (left ≤ 6) × Laying (each module_numbers (blocks level)) (each module_numbers (blocks left)) bytes₀ at bytes at'
 
-abbrev decreases-loop : tie.decreases-loop
+abbrev decreases-loop : tie.decreases-loop-left
 decreases-loop level bytes₀ at at₀ left₀ bytes at' left = left
 
-loop-holds : tie.Need-loop-init invariant-loop decreases-loop
+loop-holds : tie.Need-loop-left-init invariant-loop decreases-loop
 loop-holds c =
     let start = c.before in
-    (start.requires.0, laying-none start.args.bytes.now start.args.at refl start.requires.1.fits)
+    (start.requires.0, laying-none start.args.bytes-1.now start.args.at refl start.requires.1.fits)
 
-block-requires : tie.Need-block-requires invariant-loop decreases-loop
+block-requires : tie.Need-block-at-requires invariant-loop decreases-loop
 block-requires c κs =
     let turn = c.before in
-    let loop = turn.before.loop in
+    let loop = turn.before.loop-left in
     omega (
       arith,
-      laying-room loop.invariant.1 (module_numbers (block (loop.left - 1))) _ (rest-of-blocks loop.left turn.loop-test.true),
+      laying-room loop.invariant.1 (module_numbers (block (loop.left - 1))) _ (rest-of-blocks loop.left turn.loop-left-test.true),
     )
 
-loop-again : tie.Need-loop-preserved invariant-loop decreases-loop
+loop-again : tie.Need-loop-left-preserved invariant-loop decreases-loop
 loop-again c =
     let turn = c.before.before.before.before in
-    let loop = turn.before.loop in (
+    let loop = turn.before.loop-left in (
       omega arith,
       laying-more loop.invariant.1 (module_numbers (block (loop.left - 1))) _
-          (rest-of-blocks loop.left turn.loop-test.true)
-          c.before.before.block.ensures,
+          (rest-of-blocks loop.left turn.loop-left-test.true)
+          c.before.before.block-at.ensures,
     )
 
 returns : tie.Need-returns invariant-loop decreases-loop
-returns c = laying-all c.before.loop.invariant.1 (no_blocks c.before.loop.left c.loop-test.false)
+returns c = laying-all c.before.loop-left.invariant.1 (no_blocks c.before.loop-left.left c.loop-left-test.false)
 
-pub blocks-spec : {M : Type 1} → statement M
-blocks-spec =
+pub blocks_spec : {M : Type 1} → statement M
+blocks_spec =
     tie.close
     (tie.spec
     invariant-loop
@@ -56,5 +56,5 @@ blocks-spec =
     block-requires
     (λ c. omega arith)
     loop-again
-    (λ c. laying-length c.before.loop.invariant.1)
+    (λ c. laying-length c.before.loop-left.invariant.1)
     returns)

@@ -8,15 +8,15 @@ use Rattle.bytes_out.specs.Puts.{put-more}
 use Rattle.write_blocks.proofs.pair_block.Statement.{statement}
 use Rattle.write_blocks.proofs.pair_block.Tie as tie
 
-head-requires : tie.Need-head-requires
+head-requires : tie.Need-head-empty-requires
 unfolding module_numbers occurrence_numbers each head_numbers up_from
 head-requires c κs = omega arith
 
-gate-requires : tie.Need-gate-requires
+gate-requires : tie.Need-gate-count-requires
 unfolding module_numbers occurrence_numbers each head_numbers up_from
 gate-requires c κs = omega arith
 
-gate-requires-2 : tie.Need-gate-requires-2
+gate-requires-2 : tie.Need-gate-requires
 unfolding module_numbers occurrence_numbers each head_numbers up_from
 gate-requires-2 c κs = omega arith
 
@@ -26,8 +26,8 @@ returns c =
     let third = c.before.before in
     let second = third.before.before.before.before in
     let first = second.before.before.before.before in
-    let two = put-more first.head.ensures (omega arith) second.gate.ensures in
-    put-more two (omega arith) third.gate2.ensures
+    let two = put-more first.head-empty.ensures (omega arith) second.gate-count.ensures in
+    put-more two (omega arith) third.gate.ensures
 
-pub pair-block-spec : {M : Type 1} → statement M
-pair-block-spec = tie.close (tie.spec head-requires gate-requires gate-requires-2 (λ c. search rules) returns)
+pub pair_block_spec : {M : Type 1} → statement M
+pair_block_spec = tie.close (tie.spec head-requires gate-requires gate-requires-2 (λ c. search rules) returns)

@@ -9,70 +9,70 @@ use Rattle.write_counter.proofs.part.Statement.{statement}
 use Rattle.write_counter.proofs.part.Tie as tie
 
 -- The places behind the pieces, each from the one behind the next.
-abbrev behind-count : tie.After-run → tie.After-copy
+abbrev behind-count : tie.After-run-rest → tie.After-copy-low_bits
 behind-count c = c.before.before.before.before
 
-abbrev behind-low : tie.After-run2 → tie.After-run
+abbrev behind-low : tie.After-run-number → tie.After-run-rest
 behind-low c = c.before.before.before.before
 
-abbrev behind-rest : tie.After-copy2 → tie.After-run2
+abbrev behind-rest : tie.After-copy-taken → tie.After-run-number
 behind-rest c = c.before.before.before.before.before
 
-abbrev behind-number : tie.After-row → tie.After-copy2
+abbrev behind-number : tie.After-row-choice → tie.After-copy-taken
 behind-number c = c.before.before.before.before
 
-abbrev named : tie.After-copy → tie.After-block-number
+abbrev named : tie.After-copy-low_bits → tie.After-block_number-block
 named c = c.before.before.before
 
-abbrev start : tie.After-block-number → tie.Start
+abbrev start : tie.After-block_number-block → tie.Start
 start c = c.before.before.before
 
-room : (c : tie.After-block-number)
+room : (c : tie.After-block_number-block)
     → Room
     (part_numbers (start c).args.level (start c).args.bits (start c).args.count (start c).args.below
-    c.before.bits_of.result c.block-number.result)
-    (start c).args.bytes.now
+    c.before.bits_of-size.result c.block_number-block.result)
+    (start c).args.bytes-1.now
     (start c).args.at
 room c =
     let a = (start c).args in
-    rw (numbers-of-part a.level a.bits a.count a.below _ _ c.before.bits_of.ensures.0 c.block-number.ensures
+    rw (numbers-of-part a.level a.bits a.count a.below _ _ c.before.bits_of-size.ensures.0 c.block_number-block.ensures
     (start c).requires.2)
     at (start c).requires.4
 
-copy-requires : tie.Need-copy-requires
+copy-requires : tie.Need-copy-low_bits-requires
 copy-requires c κs = omega (arith, room c.before.before)
 
-run-requires : tie.Need-run-requires
+run-requires : tie.Need-run-rest-requires
 run-requires c κs =
     let count = c.before.before.before in
-    let one = laying-put count.copy.ensures (laying-start (room (named count))) in
+    let one = laying-put count.copy-low_bits.ensures (laying-start (room (named count))) in
     (omega arith, room_for_run _ _ _ (laying-left one))
 
-run-requires-2 : tie.Need-run-requires-2
+run-requires-2 : tie.Need-run-number-requires
 run-requires-2 c κs =
     let low = c.before.before.before in
     let count = behind-count low in
-    let one = laying-put count.copy.ensures (laying-start (room (named count))) in
-    (omega arith, room_for_run _ _ _ (laying-left (laying-put low.run.ensures one)))
+    let one = laying-put count.copy-low_bits.ensures (laying-start (room (named count))) in
+    (omega arith, room_for_run _ _ _ (laying-left (laying-put low.run-rest.ensures one)))
 
-copy-requires-2 : tie.Need-copy-requires-2
+copy-requires-2 : tie.Need-copy-taken-requires
 copy-requires-2 c κs =
     let rest = c.before.before.before.before in
     let low = behind-low rest in
     let count = behind-count low in
-    let one = laying-put count.copy.ensures (laying-start (room (named count))) in
-    omega (arith, laying-left (laying-put rest.run2.ensures (laying-put low.run.ensures one)))
+    let one = laying-put count.copy-low_bits.ensures (laying-start (room (named count))) in
+    omega (arith, laying-left (laying-put rest.run-number.ensures (laying-put low.run-rest.ensures one)))
 
-row-requires : tie.Need-row-requires
+row-requires : tie.Need-row-choice-requires
 row-requires c κs =
     let number = c.before.before.before in
     let rest = behind-rest number in
     let low = behind-low rest in
     let count = behind-count low in
-    let one = laying-put count.copy.ensures (laying-start (room (named count))) in
-    let three = laying-put rest.run2.ensures (laying-put low.run.ensures one) in (
-      omega (arith, (start (named count)).requires, (named count).before.bits_of.ensures),
-      room-first _ (laying-left (laying-put number.copy2.ensures three)),
+    let one = laying-put count.copy-low_bits.ensures (laying-start (room (named count))) in
+    let three = laying-put rest.run-number.ensures (laying-put low.run-rest.ensures one) in (
+      omega (arith, (start (named count)).requires, (named count).before.bits_of-size.ensures),
+      room-first _ (laying-left (laying-put number.copy-taken.ensures three)),
     )
 
 choose-requires : tie.Need-choose-requires
@@ -83,13 +83,13 @@ choose-requires c κs =
     let low = behind-low rest in
     let count = behind-count low in
     let pre = (start (named count)).requires in
-    let one = laying-put count.copy.ensures (laying-start (room (named count))) in
-    let three = laying-put rest.run2.ensures (laying-put low.run.ensures one) in (
+    let one = laying-put count.copy-low_bits.ensures (laying-start (room (named count))) in
+    let three = laying-put rest.run-number.ensures (laying-put low.run-rest.ensures one) in (
       omega arith,
       omega arith,
       omega arith,
       omega arith,
-      laying-left (laying-put taken.row.ensures (laying-put number.copy2.ensures three)),
+      laying-left (laying-put taken.row-choice.ensures (laying-put number.copy-taken.ensures three)),
     )
 
 returns : tie.Need-returns
@@ -102,15 +102,15 @@ returns c =
     let count = behind-count low in
     let place = named count in
     let a = (start place).args in
-    let one = laying-put count.copy.ensures (laying-start (room place)) in
-    let three = laying-put rest.run2.ensures (laying-put low.run.ensures one) in
-    let five = laying-put taken.row.ensures (laying-put number.copy2.ensures three) in
-    rw (numbers-of-part a.level a.bits a.count a.below _ _ place.before.bits_of.ensures.0 place.block-number.ensures
-    (start place).pre.2)
+    let one = laying-put count.copy-low_bits.ensures (laying-start (room place)) in
+    let three = laying-put rest.run-number.ensures (laying-put low.run-rest.ensures one) in
+    let five = laying-put taken.row-choice.ensures (laying-put number.copy-taken.ensures three) in
+    rw (numbers-of-part a.level a.bits a.count a.below _ _ place.before.bits_of-size.ensures.0 place.block_number-block.ensures
+    (start place).requires.2)
     (laying-last choice.choose.ensures five)
 
-pub part-spec : {M : Type 1} → statement M
-part-spec =
+pub part_spec : {M : Type 1} → statement M
+part_spec =
     tie.close
     (tie.spec
     (λ c κs. search rules)

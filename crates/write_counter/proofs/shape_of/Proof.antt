@@ -7,31 +7,31 @@ use Rattle.write_counter.proofs.Running.{Shaping, shaping_start, shaping_one, sh
 use Rattle.write_counter.proofs.shape_of.Statement.{statement}
 use Rattle.write_counter.proofs.shape_of.Tie as tie
 
-abbrev invariant-loop : tie.invariant-loop
+abbrev invariant-loop : tie.invariant-loop-left
 invariant-loop width left₀ level₀ count₀ below₀ occurrences₀ left level count below occurrences =
     Shaping width left level count below occurrences
 
-abbrev decreases-loop : tie.decreases-loop
+abbrev decreases-loop : tie.decreases-loop-left
 decreases-loop width left₀ level₀ count₀ below₀ occurrences₀ left level count below occurrences = left
 
 -- In a turn a digit is left.
-within : (c : tie.In-loop invariant-loop decreases-loop) → c.before.loop.level ≤ 6
-within c = level_within c.before.loop.invariant.running c.loop-test.true
+within : (c : tie.In-loop-left invariant-loop decreases-loop) → c.before.loop-left.level ≤ 6
+within c = level_within c.before.loop-left.invariant.running c.loop-left-test.true
 
-loop-again : tie.Need-loop-preserved invariant-loop decreases-loop
+loop-again : tie.Need-loop-left-preserved invariant-loop decreases-loop
 loop-again c =
     let turn = c.before in
-    let shaping = turn.before.loop.invariant in
+    let shaping = turn.before.loop-left.invariant in
     ⊎_elim
     (λ w. rw (w.1, w.2, w.3) (shaping_one shaping w.0.taken))
-    (λ w. rw (w.1, w.2, w.3) (shaping_zero shaping turn.loop-test.true w.0.left))
-    c.if1.branch
+    (λ w. rw (w.1, w.2, w.3) (shaping_zero shaping turn.loop-left-test.true w.0.left))
+    c.if-left-eq1.branch
 
 returns : tie.Need-returns invariant-loop decreases-loop
-returns c = shaping_end c.before.loop.invariant c.loop-test.false
+returns c = shaping_end c.before.loop-left.invariant c.loop-left-test.false
 
-pub shape-of-spec : {M : Type 1} → statement M
-shape-of-spec =
+pub shape_of_spec : {M : Type 1} → statement M
+shape_of_spec =
     tie.close
     (tie.spec
     invariant-loop

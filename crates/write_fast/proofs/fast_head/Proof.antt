@@ -9,39 +9,39 @@ use Rattle.write_fast.proofs.fast_head.Statement.{statement}
 use Rattle.write_fast.proofs.fast_head.Tie as tie
 
 -- The places behind the pieces, each from the one behind the next.
-abbrev start : tie.After-carry-and-bits → tie.Start
+abbrev start : tie.After-carry_and_bits-outputs → tie.Start
 start c = c.before.before.before
 
-abbrev inputs : tie.After-put-list → tie.After-carry-and-bits
+abbrev inputs : tie.After-put_list-sums → tie.After-carry_and_bits-outputs
 inputs c = let asked = c.before.before in asked.before.before.before
 
-abbrev count : tie.After-put-run → tie.After-put-list
+abbrev count : tie.After-put_run-last → tie.After-put_list-sums
 count c = c.before.before.before.before
 
-room : (c : tie.Start) → Room (head_pieces c.args.width) c.args.bytes.now c.args.at
+room : (c : tie.Start) → Room (head_pieces c.args.width) c.args.bytes-1.now c.args.at
 room c = rw (bytes-of-head c.args.width) at c.requires.1
 
-put-list-requires : tie.Need-put-list-requires
+put-list-requires : tie.Need-put_list-sums-requires
 put-list-requires c κs =
     let first = c.before.before.before.before in
-    let one = laying-put first.carry-and-bits.ensures (laying-start (room (start first))) in
+    let one = laying-put first.carry_and_bits-outputs.ensures (laying-start (room (start first))) in
     (all_small _ (omega arith, tt), room-first _ (laying-left one))
 
-put-run-requires : tie.Need-put-run-requires
+put-run-requires : tie.Need-put_run-last-requires
 put-run-requires c κs =
     let second = c.before.before.before in
     let first = inputs second in
-    let one = laying-put first.carry-and-bits.ensures (laying-start (room (start first))) in
-    (omega arith, room-first _ (laying-left (laying-put second.put-list.ensures one)))
+    let one = laying-put first.carry_and_bits-outputs.ensures (laying-start (room (start first))) in
+    (omega arith, room-first _ (laying-left (laying-put second.put_list-sums.ensures one)))
 
-put-list-requires-2 : tie.Need-put-list-requires-2
+put-list-requires-2 : tie.Need-put_list-requires
 put-list-requires-2 c κs =
     let third = c.before.before.before.before in
     let second = count third in
     let first = inputs second in
-    let one = laying-put first.carry-and-bits.ensures (laying-start (room (start first))) in (
+    let one = laying-put first.carry_and_bits-outputs.ensures (laying-start (room (start first))) in (
       all_small _ (omega arith, (omega arith, tt)),
-      laying-left (laying-put third.put-run.ensures (laying-put second.put-list.ensures one)),
+      laying-left (laying-put third.put_run-last.ensures (laying-put second.put_list-sums.ensures one)),
     )
 
 returns : tie.Need-returns
@@ -51,12 +51,12 @@ returns c =
     let third = asked.before.before.before in
     let second = count third in
     let first = inputs second in
-    let one = laying-put first.carry-and-bits.ensures (laying-start (room (start first))) in
+    let one = laying-put first.carry_and_bits-outputs.ensures (laying-start (room (start first))) in
     rw (bytes-of-head (start first).args.width)
-    (laying-last fourth.put-list2.ensures (laying-put third.put-run.ensures (laying-put second.put-list.ensures one)))
+    (laying-last fourth.put_list.ensures (laying-put third.put_run-last.ensures (laying-put second.put_list-sums.ensures one)))
 
-pub fast-head-spec : {M : Type 1} → statement M
-fast-head-spec =
+pub fast_head_spec : {M : Type 1} → statement M
+fast_head_spec =
     tie.close
     (tie.spec
     (λ c. search rules)

@@ -14,58 +14,58 @@ use Rattle.write_ripple.proofs.CellNumbers.{cells_from, cell_of, small-cell, all
 use Rattle.write_ripple.proofs.cells.Statement.{statement}
 use Rattle.write_ripple.proofs.cells.Tie as tie
 
-abbrev invariant-loop : tie.invariant-loop
+abbrev invariant-loop : tie.invariant-loop-i
 invariant-loop width bytes₀ at at₀ carry-in₀ i₀ bytes at' carry_in i =
     (carry_in ≤ 4 * width)
     × Laying (each number_bytes (cells_numbers 1 (width + 1) (2 * width + 1) (3 * width + 1) 0 width))
     (each number_bytes (cells_from width i carry_in))
     bytes₀ at bytes at'
 
-abbrev decreases-loop : tie.decreases-loop
+abbrev decreases-loop : tie.decreases-loop-i
 decreases-loop width bytes₀ at at₀ carry-in₀ i₀ bytes at' carry_in i = width - i
 
-loop-holds : tie.Need-loop-init invariant-loop decreases-loop
+loop-holds : tie.Need-loop-i-init invariant-loop decreases-loop
 unfolding ripple_adder cells_numbers
 loop-holds c =
     let start = c.before in (
       omega arith,
-      laying-none start.args.bytes.now start.args.at (ap (each number_bytes) (all-cells start.args.width)) start.requires.1.fits,
+      laying-none start.args.bytes-1.now start.args.at (ap (each number_bytes) (all-cells start.args.width)) start.requires.1.fits,
     )
 
 -- In a turn the bytes of a cell come first of those left.
-next : (c : tie.In-loop invariant-loop decreases-loop)
+next : (c : tie.In-loop-i invariant-loop decreases-loop)
     → (let n = c.before.before.before.args.width in
-    let loop = c.before.loop in
+    let loop = c.before.loop-i in
     each number_bytes (cells_from n loop.i loop.carry_in)
     ≡ each number_bytes (cell_of n loop.i loop.carry_in) ++ each number_bytes (cells_from n (loop.i + 1) (3 * n + 1 + loop.i)))
 next c =
-    let loop = c.before.loop in
-    bytes-of-piece _ _ (rest-of-cells c.before.before.before.args.width loop.i loop.carry_in c.loop-test.true)
+    let loop = c.before.loop-i in
+    bytes-of-piece _ _ (rest-of-cells c.before.before.before.args.width loop.i loop.carry_in c.loop-i-test.true)
 
-put-list-requires : tie.Need-put-list-requires invariant-loop decreases-loop
+put-list-requires : tie.Need-put_list-at-requires invariant-loop decreases-loop
 put-list-requires c κs =
     let turn = c.before.before in
-    let loop = turn.before.loop in
+    let loop = turn.before.loop-i in
     let start = turn.before.before.before in (
-      small-cell start.args.width loop.i loop.carry_in start.requires.0 turn.loop-test.true loop.invariant.0,
+      small-cell start.args.width loop.i loop.carry_in start.requires.0 turn.loop-i-test.true loop.invariant.0,
       omega (arith, laying-room loop.invariant.1 (each number_bytes (cell_of start.args.width loop.i loop.carry_in)) _ (next turn)),
     )
 
-loop-again : tie.Need-loop-preserved invariant-loop decreases-loop
+loop-again : tie.Need-loop-i-preserved invariant-loop decreases-loop
 loop-again c =
     let turn = c.before.before.before.before.before in
-    let loop = turn.before.loop in
-    (omega arith, laying-more loop.invariant.1 _ _ (next turn) c.before.before.put-list.ensures)
+    let loop = turn.before.loop-i in
+    (omega arith, laying-more loop.invariant.1 _ _ (next turn) c.before.before.put_list-at.ensures)
 
 returns : tie.Need-returns invariant-loop decreases-loop
 unfolding ripple_adder cells_numbers
 returns c =
-    let loop = c.before.loop in
+    let loop = c.before.loop-i in
     laying-all loop.invariant.1
-    (no_bytes (no_cells c.before.before.before.args.width loop.i loop.carry_in c.loop-test.false))
+    (no_bytes (no_cells c.before.before.before.args.width loop.i loop.carry_in c.loop-i-test.false))
 
-pub cells-spec : {M : Type 1} → statement M
-cells-spec =
+pub cells_spec : {M : Type 1} → statement M
+cells_spec =
     tie.close
     (tie.spec
     invariant-loop
@@ -85,5 +85,5 @@ cells-spec =
     (λ c. omega arith)
     (λ c. omega arith)
     loop-again
-    (λ c. laying-length c.before.loop.invariant.1)
+    (λ c. laying-length c.before.loop-i.invariant.1)
     returns)

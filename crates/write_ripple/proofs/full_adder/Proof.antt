@@ -8,19 +8,19 @@ use Rattle.bytes_out.specs.Puts.{put-more}
 use Rattle.write_ripple.proofs.full_adder.Statement.{statement}
 use Rattle.write_ripple.proofs.full_adder.Tie as tie
 
-copy-requires : tie.Need-copy-requires
+copy-requires : tie.Need-copy-first-requires
 unfolding module_numbers occurrence_numbers each
 copy-requires c κs = omega arith
 
-copy-requires-2 : tie.Need-copy-requires-2
+copy-requires-2 : tie.Need-copy-second-requires
 unfolding module_numbers occurrence_numbers each
 copy-requires-2 c κs = omega arith
 
-copy-requires-3 : tie.Need-copy-requires-3
+copy-requires-3 : tie.Need-copy-either-requires
 unfolding module_numbers occurrence_numbers each
 copy-requires-3 c κs = omega arith
 
-copy-requires-4 : tie.Need-copy-requires-4
+copy-requires-4 : tie.Need-copy-requires
 unfolding module_numbers occurrence_numbers each
 copy-requires-4 c κs = omega arith
 
@@ -32,12 +32,12 @@ returns c =
     let second = third.before.before.before.before.before in
     let first = second.before.before.before.before.before in
     let start = first.before.before.before.before in
-    let fits : start.args.at ≤ length start.args.bytes.now = omega (arith, start.requires) in
-    let two = put-more first.copy.ensures fits second.copy2.ensures in
-    put-more (put-more two fits third.copy3.ensures) fits fourth.copy4.ensures
+    let fits : start.args.at ≤ length start.args.bytes-1.now = omega (arith, start.requires) in
+    let two = put-more first.copy-first.ensures fits second.copy-second.ensures in
+    put-more (put-more two fits third.copy-either.ensures) fits fourth.copy.ensures
 
-pub full-adder-spec : {M : Type 1} → statement M
-full-adder-spec =
+pub full_adder_spec : {M : Type 1} → statement M
+full_adder_spec =
     tie.close
     (tie.spec
     (λ c. search rules)

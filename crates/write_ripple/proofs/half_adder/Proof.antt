@@ -8,15 +8,15 @@ use Rattle.bytes_out.specs.Puts.{put-more}
 use Rattle.write_ripple.proofs.half_adder.Statement.{statement}
 use Rattle.write_ripple.proofs.half_adder.Tie as tie
 
-copy-requires : tie.Need-copy-requires
+copy-requires : tie.Need-copy-sum-requires
 unfolding module_numbers occurrence_numbers each
 copy-requires c κs = omega arith
 
-copy-requires-2 : tie.Need-copy-requires-2
+copy-requires-2 : tie.Need-copy-carry-requires
 unfolding module_numbers occurrence_numbers each
 copy-requires-2 c κs = omega arith
 
-copy-requires-3 : tie.Need-copy-requires-3
+copy-requires-3 : tie.Need-copy-requires
 unfolding module_numbers occurrence_numbers each
 copy-requires-3 c κs = omega arith
 
@@ -27,11 +27,11 @@ returns c =
     let second = third.before.before.before.before.before in
     let first = second.before.before.before.before.before in
     let start = first.before.before.before.before in
-    let fits : start.args.at ≤ length start.args.bytes.now = omega (arith, start.requires) in
-    put-more (put-more first.copy.ensures fits second.copy2.ensures) fits third.copy3.ensures
+    let fits : start.args.at ≤ length start.args.bytes-1.now = omega (arith, start.requires) in
+    put-more (put-more first.copy-sum.ensures fits second.copy-carry.ensures) fits third.copy.ensures
 
-pub half-adder-spec : {M : Type 1} → statement M
-half-adder-spec =
+pub half_adder_spec : {M : Type 1} → statement M
+half_adder_spec =
     tie.close
     (tie.spec
     (λ c. search rules)

@@ -26,18 +26,18 @@ below t = and 0 leaves-kinds.ps (falls 0 leaves-kinds.ps ◌<◌ μ-leaves t) le
 
 module _ (t : ℕ) where
   -- The node, and its bits.
-  joined : (c : lts.After-known-told (split-reads.Asked, split-reads.Learnt, below t, leaves.Post) (given t) leaves.Post)
-      → (let told = c.before.x.given.0 in
+  joined : (c : lts.In-Node (split-reads.Asked, split-reads.Learnt, below t, leaves.Post) (given t) leaves.Post)
+      → (let told = c.before.x-1.given.0 in
       Joined c.before.before.before.before.args.tree told.0 told.1.0 told.1.1.0)
-  joined c = subst (Parted c.before.before.before.before.args.tree) c.before.x.given.1 c.before.before.before.split.ensures
+  joined c = subst (Parted c.before.before.before.before.args.tree) c.before.x-1.given.1 c.before.before.before.split.ensures
 
-  bits : (c : lts.After-known-told (split-reads.Asked, split-reads.Learnt, below t, leaves.Post) (given t) leaves.Post)
-      → (let told = c.before.x.given.0 in
+  bits : (c : lts.In-Node (split-reads.Asked, split-reads.Learnt, below t, leaves.Post) (given t) leaves.Post)
+      → (let told = c.before.x-1.given.0 in
       Counted (tree_of c.before.before.before.before.args.tree) (tree_of told.0) (tree_of told.1.0) (tree_of told.1.1.0))
   bits c = counted _ _ _ (joined c).is
 
-pub +leaves-spec : {M : Type 1} → statement M
-+leaves-spec =
+pub +leaves_spec : {M : Type 1} → statement M
++leaves_spec =
     close μ-leaves λ t.
     lts.spec (split-reads.Asked, split-reads.Learnt, below t, leaves.Post) (given t) leaves.Post
     (λ c κs. c.requires.1.0)
@@ -51,7 +51,7 @@ pub +leaves-spec : {M : Type 1} → statement M
     (omega (arith, entry.requires), ((joined t node).middle, omega (arith, entry.requires))))
     (λ c.
     let node = c.before.before in
-    omega (arith, node.before.before.before.before.requires, bits t node, c.leaves2.ensures, c.before.leaves.ensures))
+    omega (arith, node.before.before.before.before.requires, bits t node, c.leaves-in-Node.ensures, c.before.leaves.ensures))
     (λ c κs.
     let node = c.before.before in
     let entry = node.before.before.before.before in
@@ -63,13 +63,13 @@ pub +leaves-spec : {M : Type 1} → statement M
       arith,
       node.before.before.before.before.requires,
       bits t node,
-      c.leaves3.ensures,
-      c.before.leaves2.ensures,
+      c.leaves-in-Node-2.ensures,
+      c.before.leaves-in-Node.ensures,
       c.before.before.leaves.ensures,
     ))
     (λ c.
     let entry = c.before.before.before in
-    one_bit (subst (Parted entry.args.tree) c.enum_told.given.1 c.before.before.split.ensures))
+    one_bit (subst (Parted entry.args.tree) c.enum_told-1.given.1 c.before.before.split.ensures))
     (λ c.
     let node = c.before.before.before in
-    omega (arith, bits t node, c.leaves3.ensures, c.before.leaves2.ensures, c.before.before.leaves.ensures))
+    omega (arith, bits t node, c.leaves-in-Node-2.ensures, c.before.leaves-in-Node.ensures, c.before.before.leaves.ensures))

@@ -6,18 +6,18 @@ use Rattle.write_trees.proofs.Heights.{Searching, searching_start, few-leaves, s
 use Rattle.write_trees.proofs.height.Statement.{statement}
 use Rattle.write_trees.proofs.height.Tie as tie
 
-abbrev invariant-loop : tie.invariant-loop
+abbrev invariant-loop : tie.invariant-loop-height
 invariant-loop width height₀ height = Searching width height
 
-abbrev decreases-loop : tie.decreases-loop
+abbrev decreases-loop : tie.decreases-loop-height
 decreases-loop width height₀ height = 5 - height
 
 -- A height that is too low is below 5.
-further : (c : tie.Then1 invariant-loop decreases-loop)
-    → (let loop = c.before.before in Searching loop.before.args.width (loop.loop.height + 1))
+further : (c : tie.In-loop-height invariant-loop decreases-loop)
+    → (let loop = c.before.before in Searching loop.before.args.width (loop.loop-height.height + 1))
 further c =
     let loop = c.before.before in
-    searching_more loop.loop.invariant loop.before.requires (omega (arith, c.if1.true, c.before.leaves.ensures))
+    searching_more loop.loop-height.invariant loop.before.requires (omega (arith, c.loop-height-test.true, c.before.leaves.ensures))
 
 pub height_spec : {M : Type 1} → statement M
 height_spec =
@@ -26,10 +26,10 @@ height_spec =
     invariant-loop
     decreases-loop
     (λ c. searching_start c.args.width)
-    (λ c κs. (omega (arith, c.loop.invariant.low), few-leaves c.loop.height c.loop.invariant.low))
+    (λ c κs. (omega (arith, c.loop-height.invariant.low), few-leaves c.loop-height.height c.loop-height.invariant.low))
     (λ c. omega (arith, (further c).low))
     (λ c. omega (arith, (further c).low))
     further
     (λ c.
     let loop = c.before.before in
-    (searching_end loop.loop.invariant (omega (arith, c.if1.false, c.before.leaves.ensures)), loop.loop.invariant.low)))
+    (searching_end loop.loop-height.invariant (omega (arith, c.loop-height-test.false, c.before.leaves.ensures)), loop.loop-height.invariant.low)))

@@ -17,52 +17,52 @@ use Rattle.call_count.proofs.figuring.figures_at.Statement.{statement}
 use Rattle.call_count.proofs.figuring.figures_at.Tie as tie
 
 -- Back from each walk to what was done before it, and to the function's entry.
-abbrev start : tie.After-slice-known2 → tie.Start
+abbrev start : tie.After-slice_known-2-1 → tie.Start
 start c = c.before.before.before.before.before
 
-abbrev entered : tie.After-module-at → tie.Start
+abbrev entered : tie.After-module_at-header → tie.Start
 entered c = start c.before.before
 
-abbrev header : tie.After-delays → tie.After-module-at
+abbrev header : tie.After-delays-delays → tie.After-module_at-header
 header c = let figured = c.before.before in figured.before.before.before
 
-abbrev timed : tie.After-weigh → tie.After-delays
+abbrev timed : tie.After-weigh-weighed → tie.After-delays-delays
 timed c = let lent = c.before.before.before in lent.before.before.before.before
 
-abbrev weighed : tie.After-reached → tie.After-weigh
+abbrev weighed : tie.After-reached-1 → tie.After-weigh-weighed
 weighed c = c.before.before.before.before.before
 
-cast-inputs : tie.Need-overflow-cast-inputs
+cast-inputs : tie.Need-overflow_cast-inputs
 cast-inputs c =
     let s = (entered c.before).requires.0 in
-    omega (arith, inputs_are s c.before.module-at.ensures, (module_within s).inputs.count)
+    omega (arith, inputs_are s c.before.module_at-header.ensures, (module_within s).inputs.count)
 
-sub-outputs : tie.Need-overflow-sub-outputs
+sub-outputs : tie.Need-overflow_sub-outputs
 sub-outputs c =
     let headed = c.before.before in
-    omega (arith, outputs-are (entered headed).requires.0 headed.module-at.ensures)
+    omega (arith, outputs-are (entered headed).requires.0 headed.module_at-header.ensures)
 
-cast-outputs : tie.Need-overflow-cast-outputs
+cast-outputs : tie.Need-overflow_cast-outputs
 cast-outputs c =
     let headed = c.before.before in
     let s = (entered headed).requires.0 in
-    omega (arith, outputs-are s headed.module-at.ensures, (module_within s).outputs.count)
+    omega (arith, outputs-are s headed.module_at-header.ensures, (module_within s).outputs.count)
 
 -- Delays are bytes.
-byte : (c : tie.Start) (kind : ℕ) → Fits w8 (get_or c.args.family.delays kind 0)
+byte : (c : tie.Start) (kind : ℕ) → Fits w8 (get_or c.args.family.delays-delays kind 0)
 byte c kind = search rules
 
-family-small : (c : tie.Start) (kind : ℕ) → delay_in c.args.family.delays kind ≤ 255
+family-small : (c : tie.Start) (kind : ℕ) → delay_in c.args.family.delays-delays kind ≤ 255
 family-small c kind = omega (arith, byte c kind)
 
 -- Both lists have the module's room.
-delays-requires : tie.Need-delays-requires
+delays-requires : tie.Need-delays-delays-requires
 delays-requires c κs =
     let from = entered c.before.before.before.before in
-    let s = from.pre.0 in
-    (callable s from.pre.1.0, callable s (loads-roomy from.args.loads.now s from.pre.1.1))
+    let s = from.requires.0 in
+    (callable s from.requires.1.0, callable s (loads-roomy from.args.loads-1.now s from.requires.1.1))
 
-weigh-requires : tie.Need-weigh-requires
+weigh-requires : tie.Need-weigh-weighed-requires
 weigh-requires c κs =
     let lent = c.before.before in
     let ran = lent.before.before.before.before in
@@ -71,41 +71,41 @@ weigh-requires c κs =
       (
         countable given.0,
         (
-          omega (arith, ran.delays.auto.1.1.1.1.1.1.0, given.1.0),
-          omega (arith, ran.delays.auto.1.1.1.1.1.1.1.0, given.1.1),
+          omega (arith, ran.delays-delays.auto.1.1.1.1.1.1.0, given.1.0),
+          omega (arith, ran.delays-delays.auto.1.1.1.1.1.1.1.0, given.1.1),
         ),
       ),
     )
 
-gates-of-requires : tie.Need-gates-of-requires
+gates-of-requires : tie.Need-gates_of-gates-requires
 gates-of-requires c κs =
     let w = weighed c in
     let s = (entered (header (timed w))).requires.0 in
-    tally-fits s (tally-is s w.weigh.ensures.1.0)
+    tally-fits s (tally-is s w.weigh-weighed.ensures.1.0)
 
 returns : tie.Need-returns
 returns c s =
     let summed = c.before in
     let w = weighed summed.before in
     let headed = header (timed w) in
-    let given = (entered headed).pre in
-    let ran = (timed w).delays.ensures in
-    let tally = tally-is s w.weigh.ensures.1.0 in
+    let given = (entered headed).requires in
+    let ran = (timed w).delays-delays.ensures in
+    let tally = tally-is s w.weigh-weighed.ensures.1.0 in
     record {
       is =
           figures-are s _
-          (inputs_are s headed.module-at.ensures)
-          (omega (arith, outputs-are s headed.module-at.ensures))
+          (inputs_are s headed.module_at-header.ensures)
+          (omega (arith, outputs-are s headed.module_at-header.ensures))
           tally
-          (gates-are s tally summed.gates-of.ensures)
+          (gates-are s tally summed.gates_of-gates.ensures)
           (unit-is s (ran.0 (callable s given.1.0)))
-          (load_is s w.weigh.ensures.0)
-          (family-is s _ (family-small (entered headed)) (ran.1.0 (callable s (loads-roomy (entered headed).args.loads.now s given.1.1))));
-      clean = scratch-is s _ ran.1.1 w.weigh.ensures.1.1;
+          (load_is s w.weigh-weighed.ensures.0)
+          (family-is s _ (family-small (entered headed)) (ran.1.0 (callable s (loads-roomy (entered headed).args.loads-1.now s given.1.1))));
+      clean = scratch-is s _ ran.1.1 w.weigh-weighed.ensures.1.1;
     }
 
-pub figures-at-spec : {M : Type 1} → statement M
-figures-at-spec =
+pub figures_at_spec : {M : Type 1} → statement M
+figures_at_spec =
     tie.close
     (tie.spec
     (λ c. search rules)

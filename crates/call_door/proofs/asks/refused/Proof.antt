@@ -10,5 +10,5 @@ use Rattle.call_door.proofs.asks.refused.Tie as tie
 returns : tie.Need-returns
 returns c = ap (λ (x : Counted). record { writing = writing.Refused c.before.args.number c.before.args.place; work = 0; counted = x; listed = listed.Refused c.before.args.number c.before.args.place; named = named.Refused c.before.args.number c.before.args.place }) c.refused.ensures
 
-pub refused-spec : {M : Type 1} → statement M
-refused-spec = tie.close (tie.spec (λ c κs. search rules) returns)
+pub refused_spec : {M : Type 1} → statement M
+refused_spec = tie.close (tie.spec (λ c κs. search rules) returns)

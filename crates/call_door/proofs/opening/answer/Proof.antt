@@ -2,11 +2,11 @@ use borrow.Author.Rules.{rules}
 use Rattle.call_door.proofs.opening.answer.Statement.{statement}
 use Rattle.call_door.proofs.opening.answer.Tie as tie
 
-ask-short-requires : tie.Need-ask-short-requires
-ask-short-requires c κs = c.before.before.before.is-short.ensures c.before.before.if2.true
+ask-short-requires : tie.Need-ask_short-requires
+ask-short-requires c κs = c.before.before.before.is_short.ensures c.before.before.if-is_short.true
 
-pub answer-spec : {M : Type 1} → statement M
-answer-spec =
+pub answer_spec : {M : Type 1} → statement M
+answer_spec =
     tie.close
     (tie.spec
     (λ c κs. search rules)

@@ -11,37 +11,37 @@ use Rattle.call_door.proofs.opening.ask_large.Statement.{statement}
 use Rattle.call_door.proofs.opening.ask_large.Tie as tie
 
 -- The lists before they are made, the preparing from where they are back, and the count of modules from where they are lent on.
-abbrev made : tie.After-slots → tie.After-slice-known2
+abbrev made : tie.After-slots-1 → tie.After-slice_known-2-1
 made c = c.before.before.before.before.before.before.before.before
 
-abbrev prepared : tie.After-slots2 → tie.After-prepare
+abbrev prepared : tie.After-slots-2-1 → tie.After-prepare
 prepared c = c.before.before.before.before.before.before.before.before
 
-abbrev counted : tie.After-rooms3 → tie.After-modules
+abbrev counted : tie.After-rooms-in-Ready-1 → tie.In-Ready-2
 counted c = c.before.before.before.before.before.before.before
 
-ask-open-requires : tie.Need-ask-open-requires
+ask-open-requires : tie.Need-ask_open-requires
 ask-open-requires c κs =
     let known = counted c.before.before in
     let p = (prepared known.before.before).prepare in (
-      record { file = _; opened = opened _ _ _ _ _ _ _ p.result p.ensures _ known.modules.given.1 },
+      record { file = _; opened = opened _ _ _ _ _ _ _ p.result p.ensures _ known.modules-1.given.1 },
       omega (arith, p.kept.1.0, length-replicate {A = ℕ} 65535 0),
     )
 
-returns : tie.Need-returns
+returns : tie.Need-returns-in-Refused
 returns c =
     let p = (prepared c.before.before.before.before).prepare in
-    refused_meets _ (broken _ _ _ _ _ _ _ p.result p.ensures _ _ c.before.before.number.given.1) c.refused.ensures
+    refused_meets _ (broken _ _ _ _ _ _ _ p.result p.ensures _ _ c.before.before.number-1.given.1) c.refused.ensures
 
-returns-2 : tie.Need-returns-2
+returns-2 : tie.Need-returns-in-Ready
 returns-2 c =
     let done = c.before.before.before.before in
     let known = counted done.before.before.before in
     let p = (prepared known.before.before).prepare in
-    done.ask-open.ensures (record { file = _; opened = opened _ _ _ _ _ _ _ p.result p.ensures _ known.modules.given.1 })
+    done.ask_open.ensures (record { file = _; opened = opened _ _ _ _ _ _ _ p.result p.ensures _ known.modules-1.given.1 })
 
-pub ask-large-spec : {M : Type 1} → statement M
-ask-large-spec =
+pub ask_large_spec : {M : Type 1} → statement M
+ask_large_spec =
     tie.close
     (tie.spec
     (λ c. search rules)
@@ -52,7 +52,7 @@ ask-large-spec =
     (λ c. search rules)
     (λ c. search rules)
     (λ c. search rules)
-    (λ c κs. any-space _ (bytes-all _ (λ i. ((made c).before.before.before.shared-slice-known.given i).fits)))
+    (λ c κs. any-space _ (bytes-all _ (λ i. ((made c).before.before.before.shared_slice_known-1.given i).fits)))
     (λ c. search rules)
     (λ c κs. search rules)
     (λ c. search rules)

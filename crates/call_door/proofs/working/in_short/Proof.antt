@@ -5,16 +5,16 @@ use borrow.Author.Tests.{leb-true}
 use Rattle.call_door.proofs.working.in_short.Statement.{statement}
 use Rattle.call_door.proofs.working.in_short.Tie as tie
 
-returns : tie.Need-returns
-returns c _ = rw c.enum_told.given.1 (omega arith)
+returns : tie.Need-returns-in-Count
+returns c _ = rw c.enum_told-1.given.1 (omega arith)
 
-returns-2 : tie.Need-returns-2
-returns-2 c e = rw c.before.enum-told2.given.1 (c.if1.true, leb-true _ _ e)
+returns-2 : tie.Need-returns-then-size-le832
+returns-2 c e = rw c.before.enum_told-in-Flatten-1.given.1 (c.if-size-le832.true, leb-true _ _ e)
 
-returns-3 : tie.Need-returns-3
+returns-3 : tie.Need-returns-else-size-le832
 returns-3 c e =
     let start = c.before.before.before in
-    absurd (omega (arith, leb-true start.args.site.size 832 e, c.if1.false))
+    absurd (omega (arith, leb-true start.args.site.size 832 e, c.if-size-le832.false))
 
-pub in-short-spec : {M : Type 1} → statement M
-in-short-spec = tie.close (tie.spec (λ c. search rules) (λ c. search rules) returns returns-2 returns-3)
+pub in_short_spec : {M : Type 1} → statement M
+in_short_spec = tie.close (tie.spec (λ c. search rules) (λ c. search rules) returns returns-2 returns-3)

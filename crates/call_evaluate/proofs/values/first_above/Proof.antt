@@ -12,10 +12,10 @@ use Rattle.meaning.specs.Calls.{first_above}
 use Rattle.call_evaluate.proofs.values.first_above.Statement.{statement}
 use Rattle.call_evaluate.proofs.values.first_above.Tie as tie
 
-abbrev invariant-loop : tie.invariant-loop
+abbrev invariant-loop : tie.invariant-loop-i
 invariant-loop values i₀ i = (i ≤ length values) × (first_above values ≡ i + first_above (drop i values))
 
-abbrev decreases-loop : tie.decreases-loop
+abbrev decreases-loop : tie.decreases-loop-i
 decreases-loop values i₀ i = length values - i
 
 module _ (values : List ℕ) (i : ℕ) (inside : i < length values) where
@@ -31,38 +31,38 @@ none : (values : List ℕ) (i : ℕ) → length values ≤ i → first_above (dr
 unfolding first_above
 none values i h = ap first_above (drop_of_length-le values h)
 
-loop-holds : tie.Need-loop-init invariant-loop decreases-loop
+loop-holds : tie.Need-loop-i-init invariant-loop decreases-loop
 loop-holds c = (omega arith, sym (omega arith))
 
-shared-slice-read-if1 : tie.Need-shared-slice-read-if1 invariant-loop decreases-loop
+shared-slice-read-if1 : tie.Need-bounds-values-i invariant-loop decreases-loop
 shared-slice-read-if1 c = omega arith
 
-returns : tie.Need-returns invariant-loop decreases-loop
+returns : tie.Need-returns-then-values-i-gt-FLOATING invariant-loop decreases-loop
 returns c =
-    let l = c.before.before.before.loop in
+    let l = c.before.before.before.loop-i in
     let v = c.before.before.before.before.args.values.now in
-    omega (arith, above v l.i c.before.before.loop-test.true c.if1.true)
+    omega (arith, above v l.i c.before.before.loop-i-test.true c.if-values-i-gt-FLOATING.true)
 
-add-i : tie.Need-overflow-add-i invariant-loop decreases-loop
+add-i : tie.Need-overflow_add-i invariant-loop decreases-loop
 add-i c = omega arith
 
-loop-less : tie.Need-loop-smaller invariant-loop decreases-loop
+loop-less : tie.Need-loop-i-smaller invariant-loop decreases-loop
 loop-less c = omega arith
 
-loop-again : tie.Need-loop-preserved invariant-loop decreases-loop
+loop-again : tie.Need-loop-i-preserved invariant-loop decreases-loop
 loop-again c =
-    let l = c.before.before.before.loop in
+    let l = c.before.before.before.loop-i in
     let v = c.before.before.before.before.args.values.now in
-    (omega arith, omega (arith, below v l.i c.before.before.loop-test.true c.if1.false))
+    (omega arith, omega (arith, below v l.i c.before.before.loop-i-test.true c.if-values-i-gt-FLOATING.false))
 
-returns-2 : tie.Need-returns-2 invariant-loop decreases-loop
+returns-2 : tie.Need-returns invariant-loop decreases-loop
 returns-2 c =
-    let l = c.before.loop in
+    let l = c.before.loop-i in
     let v = c.before.before.args.values.now in
-    omega (arith, none v l.i c.loop-test.false)
+    omega (arith, none v l.i c.loop-i-test.false)
 
-pub first-above-spec : {M : Type 1} → statement M
-first-above-spec =
+pub first_above_spec : {M : Type 1} → statement M
+first_above_spec =
     tie.close
     (tie.spec
     invariant-loop

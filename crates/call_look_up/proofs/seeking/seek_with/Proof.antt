@@ -9,23 +9,23 @@ use Rattle.call_look_up.proofs.seeking.seek_with.Statement.{statement}
 use Rattle.call_look_up.proofs.seeking.seek_with.Tie as tie
 
 -- Back from where the file's modules are noted to the noting, and to the function's entry.
-abbrev noted : tie.After-known-told2 → tie.After-note
+abbrev noted : tie.In-Modules → tie.After-note
 noted k = k.before.before.before.before.before.before.before
 
 abbrev entered : tie.After-note → tie.Start
 entered n = n.before.before.before.before.before.before
 
 shelf :
-    (k : tie.After-known-told2)
+    (k : tie.In-Modules)
     → (let n = noted k in
-    Shelved (entered n).args.file.now k.before.modules.given.0.0 n.note.last.1.1.0 n.note.last.1.1.1.0)
+    Shelved (entered n).args.file.now k.before.modules-1.given.0.0 n.note.last.1.1.0 n.note.last.1.1.1.0)
 shelf k =
     let n = noted k in
     noted-shelved (entered n).args.file.now n.note.last.1.1.0 n.note.last.1.1.1.0 n.note.result n.note.ensures
-    k.before.modules.given.0.0 k.before.modules.given.1
+    k.before.modules-1.given.0.0 k.before.modules-1.given.1
 
 -- From the search to where the modules are noted.
-abbrev known : tie.After-find → tie.After-known-told2
+abbrev known : tie.After-find → tie.In-Modules
 known f = f.before.before
 
 finds :
@@ -33,32 +33,32 @@ finds :
     → Finds f.find.result (shelf (known f)).ms (entered (noted (known f))).args.number
 finds f = f.find.ensures (searchable (shelf (known f)))
 
-abbrev found : tie.After-known-told3 → tie.After-find
+abbrev found : tie.In-At → tie.After-find
 found c = c.before.before.before
 
-index : (c : tie.After-known-told3) → c.before.k.given.0.0 < 128
+index : (c : tie.In-At) → c.before.k-1.given.0.0 < 128
 index c =
     let f = found c in
-    sought_index (shelf (known f)) (entered (noted (known f))).args.number f.find.result (finds f) c.before.k.given.0.0 c.before.k.given.1
+    sought_index (shelf (known f)) (entered (noted (known f))).args.number f.find.result (finds f) c.before.k-1.given.0.0 c.before.k-1.given.1
 
-returns : tie.Need-returns
+returns : tie.Need-returns-in-Refused
 returns c =
     let n = c.before.before.before.before.before.before.before in
     noted-refused (entered n).args.file.now n.note.new.1.1.0 n.note.new.1.1.1.0 n.note.result n.note.ensures
-    (entered n).args.number c.before.refusal.given.0.0 c.before.refusal.given.0.1.0 c.before.refusal.given.1
+    (entered n).args.number c.before.refusal-1.given.0.0 c.before.refusal-1.given.0.1.0 c.before.refusal-1.given.1
 
-returns-2 : tie.Need-returns-2
+returns-2 : tie.Need-returns-in-Nowhere
 returns-2 c =
     let f = c.before.before in
-    sought_nowhere (shelf (known f)) (entered (noted (known f))).args.number f.find.result (finds f) c.enum_told.given.1
+    sought_nowhere (shelf (known f)) (entered (noted (known f))).args.number f.find.result (finds f) c.enum_told-1.given.1
 
-returns-3 : tie.Need-returns-3
+returns-3 : tie.Need-returns-in-At
 returns-3 c =
     let f = found c in
-    sought_at (shelf (known f)) (entered (noted (known f))).args.number f.find.result (finds f) c.before.k.given.0.0 c.before.k.given.1
+    sought_at (shelf (known f)) (entered (noted (known f))).args.number f.find.result (finds f) c.before.k-1.given.0.0 c.before.k-1.given.1
 
-pub seek-with-spec : {M : Type 1} → statement M
-seek-with-spec =
+pub seek_with_spec : {M : Type 1} → statement M
+seek_with_spec =
     tie.close
     (tie.spec
     (λ c. search rules)
@@ -77,7 +77,7 @@ seek-with-spec =
     (λ c. omega (arith, index c))
     (λ c.
     let f = found c in
-    sought_order (shelf (known f)) (entered (noted (known f))).args.number f.find.result (finds f) c.before.k.given.0.0 c.before.k.given.1)
+    sought_order (shelf (known f)) (entered (noted (known f))).args.number f.find.result (finds f) c.before.k-1.given.0.0 c.before.k-1.given.1)
     (λ c. search rules)
     returns
     (λ c. search rules)

@@ -10,27 +10,27 @@ use Rattle.call_rewrite.proofs.Answering.{too_long, short-answers}
 use Rattle.call_rewrite.proofs.rewriting.finish.Statement.{statement}
 use Rattle.call_rewrite.proofs.rewriting.finish.Tie as tie
 
-abbrev entered : tie.After-put-file → tie.Start
+abbrev entered : tie.After-put_file-long → tie.Start
 entered p = let known = p.before.before.before.before in known.before.before.before.before.before
 
 -- It is no longer than the list.
-inside : (p : tie.After-put-file) → p.put-file.result ≤ length p.put-file.new.1.1.1.1.1.1.0
+inside : (p : tie.After-put_file-long) → p.put_file-long.result ≤ length p.put_file-long.new-1.1.1.1.1.1.1.0
 inside p =
     let s = (entered p).requires in
-    omega (arith, (p.put-file.ensures s).place, s.room, p.put-file.auto.1.1.1.1.1.1.0)
+    omega (arith, (p.put_file-long.ensures s).place, s.room, p.put_file-long.auto.1.1.1.1.1.1.0)
 
-returns : tie.Need-returns
+returns : tie.Need-returns-then-long-gt65535
 returns c s =
     let p = c.before.before.before in
-    let out = (entered p).args.out.now in
-    too_long (rewrite_file s.ms) (p.put-file.ensures s) (length out) out c.if1.true
+    let out = (entered p).args.out-1.now in
+    too_long (rewrite_file s.ms) (p.put_file-long.ensures s) (length out) out c.if-long-gt65535.true
 
-returns-2 : tie.Need-returns-2
+returns-2 : tie.Need-returns
 returns-2 c s =
     let a = c.before.before in
     let left = a.before.before.before in
     let p = left.before.before.before in
-    short-answers (rewrite_file s.ms) (p.put-file.ensures s) (length (entered p).args.out.now) (omega (arith, left.if1.false)) a.answer.ensures
+    short-answers (rewrite_file s.ms) (p.put_file-long.ensures s) (length (entered p).args.out-1.now) (omega (arith, left.if-long-gt65535.false)) a.answer.ensures
 
 pub finish_spec : {M : Type 1} → statement M
 finish_spec =

@@ -3,15 +3,15 @@ use borrow.Author.Rules.{rules}
 use Rattle.call_rewrite.proofs.rewriting.rewrite.Statement.{statement}
 use Rattle.call_rewrite.proofs.rewriting.rewrite.Tie as tie
 
-pub rewrite-spec : {M : Type 1} → statement M
-rewrite-spec =
+pub rewrite_spec : {M : Type 1} → statement M
+rewrite_spec =
     tie.close
     (tie.spec
     (λ c κs. search rules)
     (λ c. search rules)
     (λ c. search rules)
     (λ c κs. search rules)
-    (λ c κs. c.before.before.is-short.ensures c.before.if2.true)
+    (λ c κs. c.before.before.is_short.ensures c.before.if-is_short.true)
     (λ c κs. search rules)
     (λ c. search rules)
     (λ c. search rules)

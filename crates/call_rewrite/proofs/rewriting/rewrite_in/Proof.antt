@@ -9,7 +9,7 @@ use Rattle.call_rewrite.proofs.rewriting.rewrite_in.Statement.{statement}
 use Rattle.call_rewrite.proofs.rewriting.rewrite_in.Tie as tie
 
 -- The preparing from where the lists are back, and the function's entry from there.
-abbrev prepared : tie.After-slice-known9 → tie.After-prepare
+abbrev prepared : tie.After-slice_known-9-1 → tie.After-prepare
 prepared c = let half = c.before.before.before.before.before.before.before in half.before.before.before.before.before.before.before
 
 abbrev entered : tie.After-prepare → tie.Start
@@ -19,10 +19,10 @@ entered p =
     slices.before.before.before.before.before
 
 -- From where all is lent on to where the file is known to be ready.
-abbrev ready : tie.After-rewrite-ready-arg3 → tie.After-modules
+abbrev ready : tie.After-rewrite-ready-arg3 → tie.In-Ready-2
 ready c = let lists = c.before.before.before.before in lists.before.before.before.before
 
-rewrite-ready-requires : tie.Need-rewrite-ready-requires
+rewrite-ready-requires : tie.Need-rewrite_ready-requires
 rewrite-ready-requires c κs =
     let k = ready c in
     let q = prepared k.before.before in
@@ -30,19 +30,19 @@ rewrite-ready-requires c κs =
     record {
       names = p.last.1.1.1.1.1.0;
       rooms = p.last.1.1.1.1.1.1.1.1.0;
-      beside = opened-beside _ _ _ _ _ _ _ _ _ p.result p.ensures _ _ k.modules.given.1;
+      beside = opened-beside _ _ _ _ _ _ _ _ _ p.result p.ensures _ _ k.modules-1.given.1;
       offsets_long = omega (arith, p.kept.1.1.0, length-replicate {A = ℕ} 129 0);
     }
 
-returns : tie.Need-returns
+returns : tie.Need-returns-in-Refused
 returns c =
     let q = prepared c.before.before.before in
     let p = q.prepare in
-    let out = (entered q).args.out.now in
-    file-refused (entered q).args.file.now (length out) out (broken-beside _ _ _ _ _ _ _ _ _ p.result p.ensures _ _ c.before.number.given.1)
+    let out = (entered q).args.out-1.now in
+    file-refused (entered q).args.file.now (length out) out (broken-beside _ _ _ _ _ _ _ _ _ p.result p.ensures _ _ c.before.number-1.given.1)
 
-pub rewrite-in-spec : {M : Type 1} → statement M
-rewrite-in-spec =
+pub rewrite_in_spec : {M : Type 1} → statement M
+rewrite_in_spec =
     tie.close
     (tie.spec
     (λ c. search rules)
@@ -69,4 +69,4 @@ rewrite-in-spec =
     (λ c. search rules)
     (λ c. search rules)
     (λ c. search rules)
-    (λ c. c.before.before.before.rewrite-ready.ensures))
+    (λ c. c.before.before.before.rewrite_ready.ensures))

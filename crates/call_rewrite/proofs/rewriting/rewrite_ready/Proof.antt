@@ -15,14 +15,14 @@ use Rattle.call_rewrite.proofs.rewriting.rewrite_ready.Statement.{statement}
 use Rattle.call_rewrite.proofs.rewriting.rewrite_ready.Tie as tie
 
 -- Back from where the table is made to where the bytes are known, and to the function's entry.
-abbrev known : tie.After-own → tie.After-shared-slice-known
+abbrev known : tie.After-own-1 → tie.After-shared_slice_known-1
 known c = c.before.before.before.before.before.before.before.before
 
-abbrev entered : tie.After-own → tie.Start
+abbrev entered : tie.After-own-1 → tie.Start
 entered c = (known c).before
 
-bytes : (c : tie.After-own) → Bytes (entered c).args.file.now
-bytes c = bytes-all (entered c).args.file.now (λ i. ((known c).shared-slice-known.given i).fits)
+bytes : (c : tie.After-own-1) → Bytes (entered c).args.file.now
+bytes c = bytes-all (entered c).args.file.now (λ i. ((known c).shared_slice_known-1.given i).fits)
 
 decide-requires : tie.Need-decide-requires
 decide-requires c κs =
@@ -36,32 +36,32 @@ decide-requires c κs =
       own_long = omega (arith, length-replicate {A = ℕ} 128 0);
     }
 
-returns : tie.Need-returns
+returns : tie.Need-returns-in-Refused
 unfolding decide-requires
 returns c =
     let d = c.before.before.before.before in
     let s = entered d.before in
-    let out = s.args.out.now in
-    new-refused s.pre.beside.opened (d.decide.ensures (decide-requires d.before d.decide.lifetimes)) (length out) out c.before.number.given.1
+    let out = s.args.out-1.now in
+    new-refused s.requires.beside.opened (d.decide.ensures (decide-requires d.before d.decide.lifetimes)) (length out) out c.before.number-1.given.1
 
-returns-2 : tie.Need-returns-2
+returns-2 : tie.Need-returns-in-Stays
 unfolding decide-requires
 returns-2 c =
     let a = c.before.before in
     let told = a.before.before in
     let d = told.before.before.before in
     let s = entered d.before in
-    same-written s.pre.beside.opened (d.decide.ensures (decide-requires d.before d.decide.lifetimes))
-    (length s.args.out.now)
+    same-written s.requires.beside.opened (d.decide.ensures (decide-requires d.before d.decide.lifetimes))
+    (length s.args.out-1.now)
     (bytes d.before)
-    told.enum_told.given.1
+    told.enum_told-1.given.1
     a.answer.ensures
 
 -- Where it is known that the new file is to be written.
-abbrev going : tie.After-write-new-arg3 → tie.After-enum-told2
+abbrev going : tie.After-write-new-arg3 → tie.In-Go
 going c = c.before.before.before.before
 
-write-new-requires : tie.Need-write-new-requires
+write-new-requires : tie.Need-write_new-requires
 unfolding decide-requires
 write-new-requires c κs =
     let told = going c in
@@ -74,7 +74,7 @@ write-new-requires c κs =
       reads = o.reads;
       all = o.all;
       accepted = accepted o.held;
-      few = (decided says told.enum-told2.given.1).0;
+      few = (decided says told.enum_told-in-Go-1.given.1).0;
       numbers_are = numbers-are r.beside;
       starts_are = r.beside.kept.starts_are;
       offsets_are = r.beside.kept.offsets_are;
@@ -84,19 +84,19 @@ write-new-requires c κs =
       own_long = omega (arith, d.decide.kept.1.1.1.1.1.0, length-replicate {A = ℕ} 128 0);
     }
 
-returns-3 : tie.Need-returns-3
+returns-3 : tie.Need-returns-in-Go
 unfolding write-new-requires decide-requires
 returns-3 c =
     let w = c.before.before.before.before in
     let told = going w.before in
     let d = told.before.before.before in
     let s = entered d.before in
-    new-written s.pre.beside.opened (d.decide.ensures (decide-requires d.before d.decide.lifetimes)) (length s.args.out.now)
-    told.enum-told2.given.1
+    new-written s.requires.beside.opened (d.decide.ensures (decide-requires d.before d.decide.lifetimes)) (length s.args.out-1.now)
+    told.enum_told-in-Go-1.given.1
     (w.write_new.ensures (write-new-requires w.before w.write_new.lifetimes))
 
-pub rewrite-ready-spec : {M : Type 1} → statement M
-rewrite-ready-spec =
+pub rewrite_ready_spec : {M : Type 1} → statement M
+rewrite_ready_spec =
     tie.close
     (tie.spec
     (λ c. search rules)

@@ -4,11 +4,11 @@ use Rattle.open_beside.specs.Rooms.{short-beside}
 use Rattle.call_rewrite.proofs.rewriting.rewrite_short.Statement.{statement}
 use Rattle.call_rewrite.proofs.rewriting.rewrite_short.Tie as tie
 
-abbrev entered : tie.After-rewrite-in-arg → tie.Start
+abbrev entered : tie.After-rewrite_in-arg-1 → tie.Start
 entered c = c.before.before.before.before.before.before.before
 
-pub rewrite-short-spec : {M : Type 1} → statement M
-rewrite-short-spec =
+pub rewrite_short_spec : {M : Type 1} → statement M
+rewrite_short_spec =
     tie.close
     (tie.spec
     (λ c. search rules)

@@ -11,14 +11,14 @@ use Rattle.call_rewrite.proofs.rewriting.write_new.Statement.{statement}
 use Rattle.call_rewrite.proofs.rewriting.write_new.Tie as tie
 
 -- Back from where the lists are known to where the bytes are, and to the function's entry.
-abbrev known : tie.After-slice-known2 → tie.After-shared-slice-known
+abbrev known : tie.After-slice_known-2-1 → tie.After-shared_slice_known-1
 known c = c.before.before.before.before.before
 
-abbrev entered : tie.After-slice-known2 → tie.Start
+abbrev entered : tie.After-slice_known-2-1 → tie.Start
 entered c = (known c).before
 
-bytes : (c : tie.After-slice-known2) → Bytes (entered c).args.file.now
-bytes c = bytes-all (entered c).args.file.now (λ i. ((known c).shared-slice-known.given i).fits)
+bytes : (c : tie.After-slice_known-2-1) → Bytes (entered c).args.file.now
+bytes c = bytes-all (entered c).args.file.now (λ i. ((known c).shared_slice_known-1.given i).fits)
 
 -- Either list is long enough.
 short-enough : (long : ℕ) → long ≤ 1024 → 3 * long ≤ length (replicate {A = ℕ} 3072 0)
@@ -31,7 +31,7 @@ finish-requires : tie.Need-finish-requires
 finish-requires c κs =
     let branch = c.before.before.before in
     let lists = branch.before in
-    rewritable (bytes lists) (entered lists).requires _ (short-enough _ branch.if1.true)
+    rewritable (bytes lists) (entered lists).requires _ (short-enough _ branch.if-file-le1024.true)
 
 finish-requires-2 : tie.Need-finish-requires-2
 finish-requires-2 c κs =
@@ -39,20 +39,20 @@ finish-requires-2 c κs =
     let k = (entered lists).requires in
     rewritable (bytes lists) k _ (long-enough _ (file-short (bytes lists) k))
 
-returns : tie.Need-returns
+returns : tie.Need-returns-then-file-le1024
 returns c k =
     let f = c.before.before.before in
     let branch = f.before.before.before.before in
-    f.finish.ensures (rewritable (bytes branch.before) k _ (short-enough _ branch.if1.true))
+    f.finish.ensures (rewritable (bytes branch.before) k _ (short-enough _ branch.if-file-le1024.true))
 
-returns-2 : tie.Need-returns-2
+returns-2 : tie.Need-returns
 returns-2 c k =
     let f = c.before.before.before in
     let lists = f.before.before.before.before.before in
-    f.finish2.ensures (rewritable (bytes lists) k _ (long-enough _ (file-short (bytes lists) k)))
+    f.finish-2.ensures (rewritable (bytes lists) k _ (long-enough _ (file-short (bytes lists) k)))
 
-pub write-new-spec : {M : Type 1} → statement M
-write-new-spec =
+pub write_new_spec : {M : Type 1} → statement M
+write_new_spec =
     tie.close
     (tie.spec
     (λ c. omega (arith, last_fits (bytes c) (entered c).requires))

@@ -8,34 +8,34 @@ use Rattle.call_rewrite.proofs.strict.strict_in.Statement.{statement}
 use Rattle.call_rewrite.proofs.strict.strict_in.Tie as tie
 
 -- The preparing from where the lists are back, and the count of modules from where they are lent on.
-abbrev prepared : tie.After-slice-known6 → tie.After-prepare
+abbrev prepared : tie.After-slice_known-6-1 → tie.After-prepare
 prepared c = let half = c.before.before.before.before.before.before in half.before.before.before.before.before
 
-abbrev counted : tie.After-starts3 → tie.After-modules
+abbrev counted : tie.After-starts-in-Ready-1 → tie.In-Ready-2
 counted c = c.before.before.before
 
 judge-requires : tie.Need-judge-requires
 judge-requires c κs =
     let known = counted c in
     let p = (prepared known.before.before).prepare in
-    let o = opened _ _ _ _ _ _ _ p.result p.ensures _ known.modules.given.1 in
+    let o = opened _ _ _ _ _ _ _ p.result p.ensures _ known.modules-1.given.1 in
     record { ms = o.ms; nets = _; held = o.held; all = o.all }
 
-returns : tie.Need-returns
+returns : tie.Need-returns-in-Refused
 returns c =
     let p = (prepared c.before.before.before).prepare in
-    sym (ap check_of (strict_refused _ _ _ (broken _ _ _ _ _ _ _ p.result p.ensures _ _ c.before.number.given.1)))
+    sym (ap check_of (strict_refused _ _ _ (broken _ _ _ _ _ _ _ p.result p.ensures _ _ c.before.number-1.given.1)))
 
-returns-2 : tie.Need-returns-2
+returns-2 : tie.Need-returns-in-Ready
 returns-2 c =
     let known = counted c.before in
     let p = (prepared known.before.before).prepare in
-    let o = opened _ _ _ _ _ _ _ p.result p.ensures _ known.modules.given.1 in
+    let o = opened _ _ _ _ _ _ _ p.result p.ensures _ known.modules-1.given.1 in
     c.judge.ensures (record { ms = o.ms; nets = _; held = o.held; all = o.all })
     ∙ sym (ap check_of (strict_accepted _ o.ms o.reads o.held.good))
 
-pub strict-in-spec : {M : Type 1} → statement M
-strict-in-spec =
+pub strict_in_spec : {M : Type 1} → statement M
+strict_in_spec =
     tie.close
     (tie.spec
     (λ c. search rules)

@@ -5,12 +5,12 @@ use Rattle.open_file.specs.Spaces.{any-space}
 use Rattle.call_rewrite.proofs.strict.strict_long.Statement.{statement}
 use Rattle.call_rewrite.proofs.strict.strict_long.Tie as tie
 
-pub strict-long-spec : {M : Type 1} → statement M
-strict-long-spec =
+pub strict_long_spec : {M : Type 1} → statement M
+strict_long_spec =
     tie.close
     (tie.spec
     (λ c. search rules)
     (λ c. search rules)
     (λ c. search rules)
-    (λ c κs. any-space _ (bytes-all _ (λ i. (c.before.before.before.shared-slice-known.given i).fits)))
+    (λ c κs. any-space _ (bytes-all _ (λ i. (c.before.before.before.shared_slice_known-1.given i).fits)))
     (λ c. search rules))

@@ -4,8 +4,8 @@ use Rattle.open_file.specs.Spaces.{short-space}
 use Rattle.call_rewrite.proofs.strict.strict_short.Statement.{statement}
 use Rattle.call_rewrite.proofs.strict.strict_short.Tie as tie
 
-pub strict-short-spec : {M : Type 1} → statement M
-strict-short-spec =
+pub strict_short_spec : {M : Type 1} → statement M
+strict_short_spec =
     tie.close
     (tie.spec
     (λ c. search rules)

@@ -5,14 +5,14 @@ use Rattle.call_rows.proofs.LargestDecides.{largest-decides}
 use Rattle.call_rows.proofs.values.first_above.Statement.{statement}
 use Rattle.call_rows.proofs.values.first_above.Tie as tie
 
-returns : tie.Need-returns
+returns : tie.Need-returns-then-first_above-eq1
 returns c =
     let asked = c.before in
     let found = asked.before.before in
-    sym (largest-decides found.before.before.args.values.now found.largest.ensures (sym asked.first_above.ensures ∙ c.if1.true))
+    sym (largest-decides found.before.before.args.values.now found.largest.ensures (sym asked.first_above.ensures ∙ c.if-first_above-eq1.true))
 
-pub first-above-spec : {M : Type 1} → statement M
-first-above-spec =
+pub first_above_spec : {M : Type 1} → statement M
+first_above_spec =
     tie.close
     (tie.spec
     (λ c κs. search rules)

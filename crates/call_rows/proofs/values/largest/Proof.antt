@@ -12,10 +12,10 @@ use Rattle.meaning.specs.Figures.{largest}
 use Rattle.call_rows.proofs.values.largest.Statement.{statement}
 use Rattle.call_rows.proofs.values.largest.Tie as tie
 
-abbrev invariant-loop : tie.invariant-loop
+abbrev invariant-loop : tie.invariant-loop-i
 invariant-loop values most₀ i₀ i-end most i = (i ≤ length values) × (max most (largest (drop i values)) ≡ largest values)
 
-abbrev decreases-loop : tie.decreases-loop
+abbrev decreases-loop : tie.decreases-loop-i
 decreases-loop values most₀ i₀ i-end most i = length values - i
 
 next : (values : List ℕ) (i : ℕ) → i < length values → largest (drop i values) ≡ max (get_or values i 0) (largest (drop (i + 1) values))
@@ -26,23 +26,23 @@ end : (values : List ℕ) (i : ℕ) → length values ≤ i → largest (drop i 
 unfolding largest
 end values i h = ap largest (drop_of_length-le values h)
 
-loop-again : tie.Need-loop-preserved invariant-loop decreases-loop
+loop-again : tie.Need-loop-i-preserved invariant-loop decreases-loop
 loop-again c =
     let turn = c.before.before in
-    let l = turn.before.loop in
+    let l = turn.before.loop-i in
     let v = turn.before.before.args.values.now in
-    let here = next v l.i turn.loop-test.true in
-    (omega (arith, turn.loop-test.true), ⊎_elim (λ w. omega (arith, here, l.invariant.1)) (λ w. omega (arith, here, l.invariant.1)) c.if1.branch)
+    let here = next v l.i turn.loop-i-test.true in
+    (omega (arith, turn.loop-i-test.true), ⊎_elim (λ w. omega (arith, here, l.invariant.1)) (λ w. omega (arith, here, l.invariant.1)) c.if-most-x.branch)
 
-pub largest-spec : {M : Type 1} → statement M
-largest-spec =
+pub largest_spec : {M : Type 1} → statement M
+largest_spec =
     tie.close
     (tie.spec
     invariant-loop
     decreases-loop
     (λ c. (omega arith, omega arith))
-    (λ c. c.before.loop-test.true)
-    (λ c. omega (arith, c.before.before.loop-test.true))
-    (λ c. omega (arith, c.before.before.loop-test.true))
+    (λ c. c.before.loop-i-test.true)
+    (λ c. omega (arith, c.before.before.loop-i-test.true))
+    (λ c. omega (arith, c.before.before.loop-i-test.true))
     loop-again
-    (λ c. let l = c.before.loop in omega (arith, l.invariant.1, end c.before.before.args.values.now l.i c.loop-test.false)))
+    (λ c. let l = c.before.loop-i in omega (arith, l.invariant.1, end c.before.before.args.values.now l.i c.loop-i-test.false)))

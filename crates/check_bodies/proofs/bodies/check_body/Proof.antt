@@ -8,70 +8,70 @@ use Rattle.check_bodies.proofs.Walking.{Walking, walk_begins, walk_ends, step-re
 use Rattle.check_bodies.proofs.bodies.check_body.Statement.{statement}
 use Rattle.check_bodies.proofs.bodies.check_body.Tie as tie
 
-abbrev invariant-loop : tie.invariant-loop
+abbrev invariant-loop : tie.invariant-loop-i
 invariant-loop numbers₀ from count k first inputs outputs slots₀ base width sizes rooms at₀ filled₀ so-far₀ i₀ numbers slots at filled so_far i =
     Walking first inputs outputs base k from count width sizes rooms numbers₀ slots₀ numbers slots at filled i so_far
 
-abbrev decreases-loop : tie.decreases-loop
+abbrev decreases-loop : tie.decreases-loop-i
 decreases-loop numbers₀ from count k first inputs outputs slots₀ base width sizes rooms at₀ filled₀ so-far₀ i₀ numbers slots at filled so_far i =
     count - i
 
 -- Back to the function's entry from before the loop and from the loop, from the call to its turn, and from an arm of the match to the call.
-abbrev begun : tie.After-nothing invariant-loop decreases-loop → tie.Start invariant-loop decreases-loop
+abbrev begun : tie.After-nothing-so_far invariant-loop decreases-loop → tie.Start invariant-loop decreases-loop
 begun c = let back = c.before.before.before.before in back.before.before.before.before
 
-abbrev entered : tie.At-loop invariant-loop decreases-loop → tie.Start invariant-loop decreases-loop
+abbrev entered : tie.At-loop-i invariant-loop decreases-loop → tie.Start invariant-loop decreases-loop
 entered l = begun l.before
 
-abbrev turn : tie.After-check-occurrence invariant-loop decreases-loop → tie.In-loop invariant-loop decreases-loop
+abbrev turn : tie.After-check_occurrence invariant-loop decreases-loop → tie.In-loop-i invariant-loop decreases-loop
 turn s = s.before.before.before
 
-abbrev broken : tie.After-known-told invariant-loop decreases-loop → tie.After-check-occurrence invariant-loop decreases-loop
+abbrev broken : tie.In-Broken invariant-loop decreases-loop → tie.After-check_occurrence invariant-loop decreases-loop
 broken c = let lists = c.before.before.before in lists.before.before.before.before
 
-abbrev fine : tie.After-known-told2 invariant-loop decreases-loop → tie.After-check-occurrence invariant-loop decreases-loop
+abbrev fine : tie.In-Fine invariant-loop decreases-loop → tie.After-check_occurrence invariant-loop decreases-loop
 fine c = let lists = c.before.before.before in lists.before.before.before.before
 
-loop-holds : tie.Need-loop-init invariant-loop decreases-loop
-loop-holds c = walk_begins (begun c).requires c.nothing.ensures
+loop-holds : tie.Need-loop-i-init invariant-loop decreases-loop
+loop-holds c = walk_begins (begun c).requires c.nothing-so_far.ensures
 
-check-occurrence-requires : tie.Need-check-occurrence-requires invariant-loop decreases-loop
+check-occurrence-requires : tie.Need-check_occurrence-requires invariant-loop decreases-loop
 check-occurrence-requires c κs =
     let t = c.before.before in
-    step-ready (entered t.before).pre t.before.loop.invariant t.loop-test.true
+    step-ready (entered t.before).requires t.before.loop-i.invariant t.loop-i-test.true
 
-same_length : tie.Need-same-length invariant-loop decreases-loop
-same_length c = let s = broken c in s.check-occurrence.kept.0 ∙ (turn s).before.loop.inv.numbers_long
+same_length : tie.Need-shape_of-numbers-in-Broken invariant-loop decreases-loop
+same_length c = let s = broken c in s.check_occurrence.kept.0 ∙ (turn s).before.loop-i.inv.numbers_long
 
-same-length-2 : tie.Need-same-length-2 invariant-loop decreases-loop
-same-length-2 c = let s = broken c in s.check-occurrence.kept.1.1.1.1.1.1.0 ∙ (turn s).before.loop.inv.slots_long
+same-length-2 : tie.Need-shape_of-slots-in-Broken invariant-loop decreases-loop
+same-length-2 c = let s = broken c in s.check_occurrence.kept.1.1.1.1.1.1.0 ∙ (turn s).before.loop-i.inv.slots_long
 
-returns : tie.Need-returns invariant-loop decreases-loop
+returns : tie.Need-returns-in-Broken invariant-loop decreases-loop
 returns c =
     let s = broken c in
     let t = turn s in
-    walk-stops (entered t.before).pre t.before.loop.inv t.loop-test.taken s.check-occurrence.ensures c.before.rule.given.1
+    walk-stops (entered t.before).requires t.before.loop-i.inv t.loop-i-test.taken s.check_occurrence.ensures c.before.rule-1.given.1
 
-add-i : tie.Need-overflow-add-i invariant-loop decreases-loop
+add-i : tie.Need-overflow_add-i invariant-loop decreases-loop
 add-i c =
     let t = turn (fine c) in
-    omega (arith, t.loop-test.taken, (entered t.before).fits.count)
+    omega (arith, t.loop-i-test.taken, (entered t.before).fits.count)
 
-loop-less : tie.Need-loop-smaller invariant-loop decreases-loop
-loop-less c = omega (arith, (turn (fine c)).loop-test.taken)
+loop-less : tie.Need-loop-i-smaller invariant-loop decreases-loop
+loop-less c = omega (arith, (turn (fine c)).loop-i-test.taken)
 
-loop-again : tie.Need-loop-preserved invariant-loop decreases-loop
+loop-again : tie.Need-loop-i-preserved invariant-loop decreases-loop
 loop-again c =
     let s = fine c in
     let t = turn s in
-    walk-goes-on (entered t.before).pre t.before.loop.inv t.loop-test.taken s.check-occurrence.ensures
-    c.before.next.given.1 s.check-occurrence.kept.0 s.check-occurrence.kept.1.1.1.1.1.1.0
+    walk-goes-on (entered t.before).requires t.before.loop-i.inv t.loop-i-test.taken s.check_occurrence.ensures
+    c.before.next-1.given.1 s.check_occurrence.kept.0 s.check_occurrence.kept.1.1.1.1.1.1.0
 
-returns-2 : tie.Need-returns-2 invariant-loop decreases-loop
-returns-2 c = walk_ends (entered c.before).pre c.before.loop.invariant c.loop-test.false
+returns-2 : tie.Need-returns invariant-loop decreases-loop
+returns-2 c = walk_ends (entered c.before).requires c.before.loop-i.invariant c.loop-i-test.false
 
-pub check-body-spec : {M : Type 1} → statement M
-check-body-spec =
+pub check_body_spec : {M : Type 1} → statement M
+check_body_spec =
     tie.close
     (tie.spec
     invariant-loop
@@ -87,6 +87,6 @@ check-body-spec =
     add-i
     loop-less
     loop-again
-    (λ c. c.before.loop.invariant.numbers_long)
-    (λ c. c.before.loop.invariant.slots_long)
+    (λ c. c.before.loop-i.invariant.numbers_long)
+    (λ c. c.before.loop-i.invariant.slots_long)
     returns-2)

@@ -19,91 +19,91 @@ use Rattle.check_bodies.proofs.occurrences.check_occurrence.Tie as tie
 abbrev begun : tie.After-entry-arg → tie.Start
 begun c = let back = c.before.before.before.before in back.before.before.before.before
 
-abbrev entered : tie.After-learn-list → tie.Start
+abbrev entered : tie.After-learn_list-learnt → tie.Start
 entered c = begun c.before.before.before.before
 
-abbrev passed : tie.After-slice-known4 → tie.After-learn-list
+abbrev passed : tie.After-slice_known-4-1 → tie.After-learn_list-learnt
 passed c = c.before.before.before.before
 
-abbrev learnt : tie.Else1 → tie.After-learn-list
+abbrev learnt : tie.Else-learnt-driven → tie.After-learn_list-learnt
 learnt c = passed c.before
 
-abbrev new : tie.After-write-list → tie.Else1
+abbrev new : tie.After-write_list-written → tie.Else-learnt-driven
 new c = let count = c.before.before.before in count.before.before
 
-abbrev written : tie.Else2 → tie.After-write-list
+abbrev written : tie.Else-written-taken → tie.After-write_list-written
 written c = c.before.before.before
 
-abbrev known : tie.After-judge-reference → tie.Else2
+abbrev known : tie.After-judge_reference → tie.Else-written-taken
 known c = c.before.before
 
-abbrev started : tie.Else2 → tie.Start
+abbrev started : tie.Else-written-taken → tie.Start
 started c = entered (learnt (new (written c)))
 
-learn-list-requires : tie.Need-learn-list-requires
+learn-list-requires : tie.Need-learn_list-learnt-requires
 learn-list-requires c κs =
     let p = (begun c.before.before.before).requires in
     (list-ready p refl refl p.o.drives (drives-stand p.o p.stands) (drives-below p.o p.indexes.in_slots), p.placed.behind)
 
 -- The nets of the first list are new.
 learning :
-    (c : tie.Else1)
+    (c : tie.Else-learnt-driven)
     → (let l = learnt c in
     let a = (entered l).args in
-    Learning a.numbers.now a.slots.now a.base a.at a.filled l.before.before.before.entry.result
-    l.learn-list.result l.learn-list.last.1.1.0 l.learn-list.last.0)
+    Learning a.numbers-1.now a.slots-1.now a.base a.at a.filled l.before.before.before.entry-driven.result
+    l.learn_list-learnt.result l.learn_list-learnt.last.1.1.0 l.learn_list-learnt.last.0)
 learning c =
     let l = learnt c in
-    record { counted = l.before.before.before.entry.ensures; list = l.learn-list.ensures; all = c.if1.false }
+    record { counted = l.before.before.before.entry-driven.ensures; list = l.learn_list-learnt.ensures; all = c.if-learnt-driven.false }
 
 -- Behind them places fit.
 fits :
-    (c : tie.Else1)
+    (c : tie.Else-learnt-driven)
     → (let l = learnt c in
-    ((entered l).args.at + 3 + l.learn-list.result ≤ length l.learn-list.last.0) × (length l.learn-list.last.0 ≤ 65535))
+    ((entered l).args.at + 3 + l.learn_list-learnt.result ≤ length l.learn_list-learnt.last.0) × (length l.learn_list-learnt.last.0 ≤ 65535))
 fits c =
     let l = learnt c in
-    let p = (entered l).pre in
-    (omega (arith, (driven-here (learning c) p).behind.within), omega (arith, l.learn-list.kept.0, p.placed.short))
+    let p = (entered l).requires in
+    (omega (arith, (driven-here (learning c) p).behind.within), omega (arith, l.learn_list-learnt.kept.0, p.placed.short))
 
-write-list-requires : tie.Need-write-list-requires
+write-list-requires : tie.Need-write_list-written-requires
 write-list-requires c κs =
     let n = c.before.before.before.before in
     let l = learnt n in
-    let p = (entered l).pre in
-    list-ready p l.learn-list.kept.0 l.learn-list.kept.1.1.0 p.o.takes
+    let p = (entered l).requires in
+    list-ready p l.learn_list-learnt.kept.0 l.learn_list-learnt.kept.1.1.0 p.o.takes
     (stands-tail (driven-here (learning n) p).behind) (takes-below p.o p.indexes.in_slots)
 
 -- Those of the second list are known.
 writing :
-    (c : tie.Else2)
+    (c : tie.Else-written-taken)
     → (let w = written c in
     let l = learnt (new w) in
     let a = (entered l).args in
-    Writing a.numbers.now a.slots.now a.base a.at a.filled l.before.before.before.entry.result
-    l.learn-list.result w.before.before.before.entry2.result w.write-list.result l.learn-list.last.1.1.0
-    l.learn-list.last.0 w.write-list.last.0)
+    Writing a.numbers-1.now a.slots-1.now a.base a.at a.filled l.before.before.before.entry-driven.result
+    l.learn_list-learnt.result w.before.before.before.entry-taken.result w.write_list-written.result l.learn_list-learnt.last.1.1.0
+    l.learn_list-learnt.last.0 w.write_list-written.last.0)
 writing c =
     let w = written c in
     record {
       learning = learning (new w);
-      counted = w.before.before.before.entry2.ensures;
-      list = w.write-list.ensures;
-      all = c.if2.false;
+      counted = w.before.before.before.entry-taken.ensures;
+      list = w.write_list-written.ensures;
+      all = c.if-written-taken.false;
     }
 
 -- Behind them the numbers are as many as they were, and places fit.
-sized : (c : tie.Else2) → length (written c).write-list.new.0 ≡ length (started c).args.numbers.now
-sized c = (written c).write-list.auto.0 ∙ (learnt (new (written c))).learn-list.auto.0
+sized : (c : tie.Else-written-taken) → length (written c).write_list-written.new.0 ≡ length (started c).args.numbers-1.now
+sized c = (written c).write_list-written.auto.0 ∙ (learnt (new (written c))).learn_list-learnt.auto.0
 
 room :
-    (c : tie.Else2)
+    (c : tie.Else-written-taken)
     → (let w = written c in
     let l = learnt (new w) in
     let a = (entered l).args in
-    (a.filled + l.before.before.before.entry.result ≤ length w.write-list.last.0)
-    × (a.at + 3 + l.learn-list.result + w.write-list.result ≤ length w.write-list.last.0)
-    × (length w.write-list.last.0 ≤ 65535))
+    (a.filled + l.before.before.before.entry-driven.result ≤ length w.write_list-written.last.0)
+    × (a.at + 3 + l.learn_list-learnt.result + w.write_list-written.result ≤ length w.write_list-written.last.0)
+    × (length w.write_list-written.last.0 ≤ 65535))
 room c =
     let p = (started c).requires in
     let n = driven-here (writing c).learning p in
@@ -114,7 +114,7 @@ room c =
       omega (arith, sized c, p.placed.short),
     )
 
-judge-reference-requires : tie.Need-judge-reference-requires
+judge-reference-requires : tie.Need-judge_reference-requires
 judge-reference-requires c κs =
     let p = (started c.before).requires in
     record {
@@ -127,25 +127,25 @@ judge-reference-requires c κs =
 
 -- A module that is meant has its position in the file.
 inside :
-    (c : tie.After-known-told2)
-    → c.before.j.given.0.0 < length (started (known c.before.before.before)).requires.scene.ms
+    (c : tie.In-Module)
+    → c.before.j-1.given.0.0 < length (started (known c.before.before.before)).requires.scene.ms
 inside c =
     let j = c.before.before.before in
     let p = (started (known j)).requires in
-    (judged (writing (known j)) j.judge-reference.ensures c.before.j.given.1 p.scene p.o p.nets p.nets p.stands
+    (judged (writing (known j)) j.judge_reference.ensures c.before.j-1.given.1 p.scene p.o p.nets p.nets p.stands
     p.knows p.wide (record { same = λ x. refl })).2
 
-with-module-requires : tie.Need-with-module-requires
+with-module-requires : tie.Need-with_module-requires
 with-module-requires c κs =
     let h = inside c in
     let p = (started (known c.before.before.before)).requires in
     let f = p.figured in (
       (omega (arith, f.sizes_long), omega (arith, f.rooms_long)),
-      omega (arith, p.fits, f.small.below c.before.j.given.0.0),
+      omega (arith, p.fits, f.small.below c.before.j-1.given.0.0),
     )
 
-pub check-occurrence-spec : {M : Type 1} → statement M
-check-occurrence-spec =
+pub check_occurrence_spec : {M : Type 1} → statement M
+check_occurrence_spec =
     tie.close
     (tie.spec
     (λ c κs. let p = (begun c).requires in omega (arith, p.stands.within, length-of-occurrence p.o))
@@ -155,7 +155,7 @@ check-occurrence-spec =
     (λ c. search rules)
     (λ c.
     let l = passed c.before in
-    step-drives l.before.before.before.entry.ensures l.learn-list.ensures c.if1.true)
+    step-drives l.before.before.before.entry-driven.ensures l.learn_list-learnt.ensures c.if-learnt-driven.true)
     (λ c. let h = fits c in omega arith)
     (λ c. let h = fits c in omega arith)
     (λ c. let h = fits c in omega arith)
@@ -166,7 +166,7 @@ check-occurrence-spec =
     (λ c. search rules)
     (λ c.
     let w = c.before.before.before in
-    step-takes (learning (new w)) w.before.before.before.entry2.ensures w.write-list.ensures c.if2.true)
+    step-takes (learning (new w)) w.before.before.before.entry-taken.ensures w.write_list-written.ensures c.if-written-taken.true)
     (λ c. let h = room c in omega arith)
     (λ c. let h = room c.before in omega arith)
     judge-reference-requires
@@ -187,14 +187,14 @@ check-occurrence-spec =
     with-module-requires
     (λ c. search rules)
     (λ c. search rules)
-    (λ c. let j = c.before.before.before in step-broken (writing (known j)) j.judge-reference.ensures c.before.rule.given.1)
+    (λ c. let j = c.before.before.before in step-broken (writing (known j)) j.judge_reference.ensures c.before.rule-1.given.1)
     (λ c. search rules)
     (λ c. search rules)
     (λ c.
     let j = c.before.before.before in
-    step-gate (writing (known j)) j.judge-reference.ensures c.before.enum_told.given.1 c.with-gate.ensures)
+    step-gate (writing (known j)) j.judge_reference.ensures c.before.enum_told-1.given.1 c.with_gate.ensures)
     (λ c. simp length-set (sized (known c.before.before.before.before)))
     (λ c. search rules)
     (λ c.
     let j = c.before.before.before.before in
-    step_module (writing (known j)) j.judge-reference.ensures c.before.before.j.given.1 c.with-module.ensures))
+    step_module (writing (known j)) j.judge_reference.ensures c.before.before.j-1.given.1 c.with_module.ensures))

@@ -7,8 +7,8 @@ use borrow.Fn.Kinds.{In}
 use borrow.Fn.PlainCycle.{Measures, is, falls, and}
 use Rattle.check_steps.specs.Going.{Reached}
 use Rattle.check_files.proofs.FileEnds.{walk_none}
-use Rattle.check_files.proofs.files.check_from.Reads as check-from
-use Rattle.check_files.proofs.files.check_from.Kinds as check-from-kinds
+use Rattle.check_files.proofs.files.check_from-behind.Reads as check-from
+use Rattle.check_files.proofs.files.check_from-behind.Kinds as check-from-kinds
 use Rattle.check_files.proofs.files.+check_from.Lts-check_from as check-from-lts
 use Rattle.check_steps.proofs.steps.check_at.Reads as check-at-reads
 use Rattle.check_files.proofs.files.+check_from.{statement}
@@ -34,16 +34,16 @@ abbrev Start : ℕ → Type 0
 Start t = check-from-lts.Start (claims t) (check-from-at t) check-from.Post
 
 abbrev Known : ℕ → Type 0
-Known t = check-from-lts.After-slice-known5 (claims t) (check-from-at t) check-from.Post
+Known t = check-from-lts.After-slice_known-5-1 (claims t) (check-from-at t) check-from.Post
 
 abbrev Left : ℕ → Type 0
-Left t = check-from-lts.Else1 (claims t) (check-from-at t) check-from.Post
+Left t = check-from-lts.Else-modules-k (claims t) (check-from-at t) check-from.Post
 
 abbrev Behind : ℕ → Type 0
-Behind t = check-from-lts.After-check-from (claims t) (check-from-at t) check-from.Post
+Behind t = check-from-lts.After-check_from-behind (claims t) (check-from-at t) check-from.Post
 
 abbrev Turn : ℕ → Type 0
-Turn t = check-from-lts.After-check-at-arg5 (claims t) (check-from-at t) check-from.Post
+Turn t = check-from-lts.After-check_at-arg-5-1 (claims t) (check-from-at t) check-from.Post
 
 -- From each back to the one before it.
 abbrev begun : (t : ℕ) → Known t → Start t
@@ -61,7 +61,7 @@ behind t c =
 
 reached :
     (t : ℕ) (c : Turn t)
-    → (let call = (behind t c).check-from in
+    → (let call = (behind t c).check_from-behind in
     let last = call.last.1.1.1.1.1.1.1.1 in
     let args = (begun t (left t (behind t c)).before).args in
     Reached call.last.0 args.starts.now args.modules args.k call.result args.first.now args.inputs.now
@@ -70,32 +70,32 @@ reached t c =
     let later = behind t c in
     let start = begun t (left t later).before in
     record {
-      numbers₀ = start.args.numbers.now;
+      numbers₀ = start.args.numbers-1.now;
       found₀ = start.args.found;
-      slots₀ = start.args.slots.now;
-      nets₀ = start.args.nets.now;
-      sizes₀ = start.args.sizes.now;
-      rooms₀ = start.args.rooms.now;
-      ready = start.pre.1.0;
-      inside = (left t later).if1.left;
-      walk = later.check-from.ensures;
+      slots₀ = start.args.slots-1.now;
+      nets₀ = start.args.nets-1.now;
+      sizes₀ = start.args.sizes-1.now;
+      rooms₀ = start.args.rooms-1.now;
+      ready = start.requires.1.0;
+      inside = (left t later).if-modules-k.left;
+      walk = later.check_from-behind.ensures;
     }
 
-pub +check-from-spec : {M : Type 1} → statement M
+pub +check_from_spec : {M : Type 1} → statement M
 unfolding reached
-+check-from-spec =
++check_from_spec =
     close μ-check-from
     (λ t.
     check-from-lts.spec (claims t)
     (check-from-at t)
     check-from.Post
-    (λ c. let start = begun t c.before in walk_none start.pre.1.0 start.pre.1.1 c.if1.true)
+    (λ c. let start = begun t c.before in walk_none start.requires.1.0 start.requires.1.1 c.if-modules-k.true)
     (λ c. omega arith)
     (λ c κs.
     let args = c.before.before in
     let one = args.before.before.before in
     let start = begun t one.before in
-    (omega (arith, start.pre.0, one.if1.false), (start.pre.1.0, omega (arith, one.if1.false))))
+    (omega (arith, start.requires.0, one.if-modules-k.false), (start.requires.1.0, omega (arith, one.if-modules-k.false))))
     (λ c κs. reached t c)
     (λ c. search rules)
     (λ c. search rules)
@@ -106,4 +106,4 @@ unfolding reached
     let lists = c.before.before.before.before in
     let more = lists.before.before.before.before in
     let turn = more.before.before in
-    turn.check-at.ensures (reached t turn.before)))
+    turn.check_at.ensures (reached t turn.before)))

@@ -10,52 +10,52 @@ use Rattle.check_files.proofs.files.check_modules.Tie as tie
 
 -- Back to the function's entry from before its first call and from the numbering, and from where the modules in front of the first repeat
 -- end to the calls before; and to there from the check of those modules.
-abbrev begun : tie.After-slice-known7 → tie.Start
+abbrev begun : tie.After-slice_known-7-1 → tie.Start
 begun c = let back = c.before.before.before.before in back.before.before.before.before
 
-abbrev lent : tie.After-outputs → tie.After-slice-known7
+abbrev lent : tie.After-outputs-1 → tie.After-slice_known-7-1
 lent c = let arrays = c.before.before in arrays.before.before.before
 
-abbrev entered : tie.After-number-modules → tie.Start
+abbrev entered : tie.After-number_modules-repeated → tie.Start
 entered n = begun (lent n.before)
 
-abbrev numbered : tie.After-at-repeat → tie.After-number-modules
+abbrev numbered : tie.After-at_repeat-known → tie.After-number_modules-repeated
 numbered a = let arrays = a.before.before.before.before in arrays.before.before.before.before
 
-abbrev known : tie.After-end-before → tie.After-at-repeat
+abbrev known : tie.After-end_before-end → tie.After-at_repeat-known
 known d = d.before.before
 
-number-modules-requires : tie.Need-number-modules-requires
+number-modules-requires : tie.Need-number_modules-repeated-requires
 number-modules-requires c κs =
     countable (begun (lent c)).requires (omega arith) (omega arith)
 
-at-repeat-requires : tie.Need-at-repeat-requires
+at-repeat-requires : tie.Need-at_repeat-known-requires
 at-repeat-requires c κs =
     let arrays = c.before.before.before in
     let n = arrays.before.before.before.before in
     let p = (entered n).requires in
-    repeating p n.number-modules.ensures p.ms p.laidout
+    repeating p n.number_modules-repeated.ensures p.ms p.laidout
 
-slice-relend-prefix-check-from : tie.Need-slice-relend-prefix-check-from
+slice-relend-prefix-check-from : tie.Need-slice_bounds-check_from-end
 slice-relend-prefix-check-from d =
     let a = known d in
     let n = numbered a in
-    let p = (entered n).pre in
-    end-inside p n.number-modules.ensures n.number-modules.kept.1.1.1.0 a.at-repeat.ensures d.end_Before.ensures p.ms p.laidout
+    let p = (entered n).requires in
+    end-inside p n.number_modules-repeated.ensures n.number_modules-repeated.kept.1.1.1.0 a.at_repeat-known.ensures d.end_Before.ensures p.ms p.laidout
 
-slice-aggregate-check-from : tie.Need-slice-aggregate-check-from
+slice-aggregate-check-from : tie.Need-slice_bounds-check_from-end-2
 slice-aggregate-check-from c = sym (length-take-le _ _ (slice-relend-prefix-check-from c.before))
 
-abbrev ended : tie.After-check-from-arg6 → tie.After-end-before
+abbrev ended : tie.After-check-from-arg6 → tie.After-end_before-end
 ended c = let arrays = c.before.before.before.before in arrays.before.before.before.before
 
-check-from-requires : tie.Need-check-from-requires
+check-from-requires : tie.Need-check_from-requires
 check-from-requires c κs =
     let d = ended c in
     let a = known d in
     let n = numbered a in
-    let p = (entered n).pre in
-    (each-ready p n.number-modules.ensures n.number-modules.kept.1.1.1.0 a.at-repeat.ensures d.end_Before.ensures p.ms p.laidout, omega arith)
+    let p = (entered n).requires in
+    (each-ready p n.number_modules-repeated.ensures n.number_modules-repeated.kept.1.1.1.0 a.at_repeat-known.ensures d.end_Before.ensures p.ms p.laidout, omega arith)
 
 returns : tie.Need-returns
 returns c ms l =
@@ -65,11 +65,11 @@ returns c ms l =
     let d = ended e.before in
     let a = known d in
     let n = numbered a in
-    file-found (entered n).pre n.number-modules.ensures n.number-modules.kept.1.1.1.0 a.at-repeat.ensures d.end_Before.ensures ms l
-    e.check-from.auto.0 (walk_ends e.check-from.ensures (omega arith))
+    file-found (entered n).requires n.number_modules-repeated.ensures n.number_modules-repeated.kept.1.1.1.0 a.at_repeat-known.ensures d.end_Before.ensures ms l
+    e.check_from.auto.0 (walk_ends e.check_from.ensures (omega arith))
 
-pub check-modules-spec : {M : Type 1} → statement M
-check-modules-spec =
+pub check_modules_spec : {M : Type 1} → statement M
+check_modules_spec =
     tie.close
     (tie.spec
     (λ c. search rules)

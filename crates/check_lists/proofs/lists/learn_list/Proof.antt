@@ -8,46 +8,46 @@ use Rattle.check_lists.proofs.lists.learn_list.Statement.{statement}
 use Rattle.check_lists.proofs.lists.learn_list.Tie as tie
 
 -- Back to the function's entry, and to where the list's end was read.
-abbrev entered : tie.After-list-end → tie.Start
+abbrev entered : tie.After-list_end-e → tie.Start
 entered c = c.before.before.before.before
 
-abbrev ended : tie.After-has-repeat → tie.After-list-end
+abbrev ended : tie.After-has_repeat → tie.After-list_end-e
 ended c = c.before.before.before
 
 -- What is known once the list's end is read.
 found :
-    (c : tie.After-list-end)
-    → (let s = entered c in ListAt s.args.numbers.now s.args.at c.list-end.result s.pre.0.listed.list)
-found c = let l = (entered c).requires.0.listed in list_at l.list l.stands c.list-end.ensures
+    (c : tie.After-list_end-e)
+    → (let s = entered c in ListAt s.args.numbers-1.now s.args.at c.list_end-e.result s.requires.0.listed.list)
+found c = let l = (entered c).requires.0.listed in list_at l.list l.stands c.list_end-e.ensures
 
-part-has-repeat-start : tie.Need-slice-bounds-has-repeat-start
+part-has-repeat-start : tie.Need-slice_bounds-has_repeat-start
 part-has-repeat-start c = let l = found c.before in omega arith
 
-returns : tie.Need-returns
-returns c = list-repeats (ended c.before).list-end.ensures (sym c.if1.true ∙ c.before.has-repeat.ensures)
+returns : tie.Need-returns-then-has_repeat
+returns c = list-repeats (ended c.before).list_end-e.ensures (sym c.if-has_repeat.true ∙ c.before.has_repeat.ensures)
 
-sub-learn-new : tie.Need-overflow-sub-learn-new
+sub-learn-new : tie.Need-slice_bounds-learn_new-count
 sub-learn-new c = let l = found (ended c.before) in omega arith
 
-part-learn-new-start : tie.Need-slice-bounds-learn-new-start
+part-learn-new-start : tie.Need-slice_bounds-learn_new-start
 part-learn-new-start c = let l = found (ended c.before) in omega arith
 
-learn-new-requires : tie.Need-learn-new-requires
+learn-new-requires : tie.Need-learn_new-requires
 learn-new-requires c κs =
     let once = c.before.before in
     let l = ended once.before in
-    let p = (entered l).pre in
-    learnable p.0 (found l) p.1 (sym once.before.has-repeat.ensures ∙ once.if1.false)
+    let p = (entered l).requires in
+    learnable p.0 (found l) p.1 (sym once.before.has_repeat.ensures ∙ once.if-has_repeat.false)
 
-returns-2 : tie.Need-returns-2
+returns-2 : tie.Need-returns
 returns-2 c =
     let learnt = c.before.before.before.before in
     let once = learnt.before.before.before in
-    let e = learnt.learn-new.ensures in
-    list-learnt (ended once.before).list-end.ensures (sym once.before.has-repeat.ensures ∙ once.if1.false) e.0 e.1
+    let e = learnt.learn_new.ensures in
+    list-learnt (ended once.before).list_end-e.ensures (sym once.before.has_repeat.ensures ∙ once.if-has_repeat.false) e.0 e.1
 
-pub learn-list-spec : {M : Type 1} → statement M
-learn-list-spec =
+pub learn_list_spec : {M : Type 1} → statement M
+learn_list_spec =
     tie.close
     (tie.spec
     (λ c. search rules)

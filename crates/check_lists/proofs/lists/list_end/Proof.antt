@@ -6,18 +6,18 @@ use Rattle.image.specs.Stands.{stands-head}
 use Rattle.check_lists.proofs.lists.list_end.Statement.{statement}
 use Rattle.check_lists.proofs.lists.list_end.Tie as tie
 
-add-result : tie.Need-overflow-add-result
+add-result : tie.Need-overflow_add-result
 add-result c = search rules
 
 entry-requires : tie.Need-entry-requires
 entry-requires c κs = let s = c.before.requires.stands in omega (arith, s.within)
 
-add-result-2 : tie.Need-overflow-add-result-2
+add-result-2 : tie.Need-overflow_add-result-2
 add-result-2 c =
     let s = c.before.before.requires.stands in omega (arith, s.within, c.entry.ensures ∙ stands-head s)
 
 returns : tie.Need-returns
 returns c list s = omega (arith, c.entry.ensures ∙ stands-head s)
 
-pub list-end-spec : {M : Type 1} → statement M
-list-end-spec = tie.close (tie.spec add-result entry-requires add-result-2 returns)
+pub list_end_spec : {M : Type 1} → statement M
+list_end_spec = tie.close (tie.spec add-result entry-requires add-result-2 returns)

@@ -52,81 +52,81 @@ module _ {numbers slots : List ℕ} {base n e : ℕ} where
         low = j.low;
       }
 
-shared-slice-read-if1 : tie.Need-shared-slice-read-if1
+shared-slice-read-if1 : tie.Need-bounds-numbers-0
 shared-slice-read-if1 c = let h = c.before.before.before.requires in (module_at h.m (stands-whole h.own)).inside
 
-returns : tie.Need-returns
+returns : tie.Need-returns-then-numbers-lt16
 returns c =
     let h = c.before.before.before.before.requires in
-    gate (below_more _ (omega arith) h.earlier) c.if1.true
+    gate (below_more _ (omega arith) h.earlier) c.if-numbers-lt16.true
 
 -- Back to the function's entry from where the inputs end, and from where the outputs do.
-abbrev entered : tie.After-list-end → tie.Start
+abbrev entered : tie.After-list_end-n → tie.Start
 entered c = let tested = c.before.before in tested.before.before.before
 
-abbrev listed : tie.After-list-end2 → tie.Start
+abbrev listed : tie.After-list_end-e → tie.Start
 listed c = entered c.before
 
-list-end-requires : tie.Need-list-end-requires
+list-end-requires : tie.Need-list_end-n-requires
 list-end-requires c κs =
     let h = c.before.before.before.before.requires in record { list = h.m.inputs; stands = inputs-stand h.m (stands-whole h.own) }
 
 -- Outputs stand behind the inputs' end.
-add-o : tie.Need-overflow-add-o
+add-o : tie.Need-overflow_add-o
 add-o c =
     let h = (entered c).requires in
     let s = stands-whole h.own in
-    omega (arith, (module_at h.m s).end, c.list-end.ensures h.m.inputs (inputs-stand h.m s))
+    omega (arith, (module_at h.m s).end, c.list_end-n.ensures h.m.inputs (inputs-stand h.m s))
 
-list-end-requires-2 : tie.Need-list-end-requires-2
+list-end-requires-2 : tie.Need-list_end-e-requires
 list-end-requires-2 c κs =
     let h = (entered c).requires in
     let s = stands-whole h.own in
-    record { list = h.m.outputs; stands = outputs-stand h.m s _ (c.list-end.ensures h.m.inputs (inputs-stand h.m s) ∙ omega arith) }
+    record { list = h.m.outputs; stands = outputs-stand h.m s _ (c.list_end-n.ensures h.m.inputs (inputs-stand h.m s) ∙ omega arith) }
 
 -- Where the head's parts stand.
 place :
-    (c : tie.After-list-end2)
+    (c : tie.After-list_end-e)
     → (let s = listed c in
-    Places s.args.numbers.now 0 c.before.list-end.result c.list-end2.result s.pre.m)
+    Places s.args.numbers.now 0 c.before.list_end-n.result c.list_end-e.result s.requires.m)
 place c =
     let h = (listed c).requires in
-    places c.before.list-end.ensures c.list-end2.ensures h.m (stands-whole h.own)
+    places c.before.list_end-n.ensures c.list_end-e.ensures h.m (stands-whole h.own)
 
-sub-judge-ports : tie.Need-overflow-sub-judge-ports
+sub-judge-ports : tie.Need-slice_bounds-judge_ports-count
 sub-judge-ports c = let p = place c in omega arith
 
-part-judge-ports-start : tie.Need-slice-bounds-judge-ports-start
+part-judge-ports-start : tie.Need-slice_bounds-judge_ports-start
 part-judge-ports-start c = let p = place c in omega arith
 
-part-judge-ports-end : tie.Need-slice-bounds-judge-ports-end
+part-judge-ports-end : tie.Need-slice_bounds-judge_ports-end
 part-judge-ports-end c = let p = place c in omega arith
 
-mul-judge-ports : tie.Need-overflow-mul-judge-ports
+mul-judge-ports : tie.Need-offset_bounds-numbers-o
 mul-judge-ports c = let p = place c.before in omega arith
 
-sub-judge-ports-2 : tie.Need-overflow-sub-judge-ports-2
+sub-judge-ports-2 : tie.Need-slice_bounds-judge_ports-count-2
 sub-judge-ports-2 c = let p = place c.before in omega arith
 
-part-judge-ports-start-2 : tie.Need-slice-bounds-judge-ports-start-2
+part-judge-ports-start-2 : tie.Need-slice_bounds-judge_ports-start-2
 part-judge-ports-start-2 c = let p = place c.before in omega arith
 
-part-judge-ports-end-2 : tie.Need-slice-bounds-judge-ports-end-2
+part-judge-ports-end-2 : tie.Need-slice_bounds-judge_ports-end-2
 part-judge-ports-end-2 c = let p = place c.before in omega arith
 
-judge-ports-requires : tie.Need-judge-ports-requires
+judge-ports-requires : tie.Need-judge_ports-requires
 judge-ports-requires c κs =
     let l = c.before.before.before in
     ready (listed l).requires (place l)
 
-returns-2 : tie.Need-returns-2
+returns-2 : tie.Need-returns
 returns-2 c =
     let j = c.before.before in
     let l = j.before.before.before.before in
-    judged l.before.before.if1.false l.before.list-end.ensures l.list-end2.ensures j.judge-ports.ensures
+    judged l.before.before.if-numbers-lt16.false l.before.list_end-n.ensures l.list_end-e.ensures j.judge_ports.ensures
 
-pub judge-head-spec : {M : Type 1} → statement M
-judge-head-spec =
+pub judge_head_spec : {M : Type 1} → statement M
+judge_head_spec =
     tie.close
     (tie.spec
     shared-slice-read-if1

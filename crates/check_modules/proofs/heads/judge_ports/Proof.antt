@@ -51,36 +51,36 @@ module _ {inputs outputs : List ℕ} {base : ℕ} {slots : List ℕ} where
           }
 
 -- Back to the function's entry from behind each search.
-abbrev entered : tie.After-has-repeat → tie.Start
+abbrev entered : tie.After-has_repeat → tie.Start
 entered c = c.before.before.before.before
 
-abbrev first : tie.After-has-repeat2 → tie.After-has-repeat
+abbrev first : tie.After-has_repeat-2 → tie.After-has_repeat
 first c = c.before.before
 
-abbrev second : tie.After-learn → tie.After-has-repeat2
+abbrev second : tie.After-learn → tie.After-has_repeat-2
 second c = c.before.before.before
 
-abbrev learnt : tie.After-any-known → tie.After-learn
+abbrev learnt : tie.After-any_known → tie.After-learn
 learnt c = c.before.before.before.before
 
 -- Neither inputs nor outputs repeat a net.
-inputs-single : (c : tie.Else1) → duplicates (entered c.before).args.inputs.now ≡ false
-inputs-single c = sym c.before.has-repeat.ensures ∙ c.if1.false
+inputs-single : (c : tie.Else-has_repeat) → duplicates (entered c.before).args.inputs.now ≡ false
+inputs-single c = sym c.before.has_repeat.ensures ∙ c.if-has_repeat.false
 
-outputs-single : (c : tie.Else2) → duplicates (entered (first c.before)).args.outputs.now ≡ false
-outputs-single c = sym c.before.has-repeat2.ensures ∙ c.if2.false
+outputs-single : (c : tie.Else-has_repeat-2) → duplicates (entered (first c.before)).args.outputs.now ≡ false
+outputs-single c = sym c.before.has_repeat-2.ensures ∙ c.if-has_repeat-2.false
 
-returns : tie.Need-returns
+returns : tie.Need-returns-then-has_repeat
 returns c =
-    inputs-repeat (below_more _ (omega arith) (entered c.before).requires.earlier) (sym c.before.has-repeat.ensures ∙ c.if1.true)
+    inputs-repeat (below_more _ (omega arith) (entered c.before).requires.earlier) (sym c.before.has_repeat.ensures ∙ c.if-has_repeat.true)
 
-returns-2 : tie.Need-returns-2
+returns-2 : tie.Need-returns-then-has_repeat-2
 returns-2 c =
     let g = c.before in
     outputs-repeat (inputs-single g.before) (below_more _ (omega arith) (entered (first g)).requires.earlier)
-    (sym g.has-repeat2.ensures ∙ c.if2.true)
+    (sym g.has_repeat-2.ensures ∙ c.if-has_repeat-2.true)
 
-any-known-requires : tie.Need-any-known-requires
+any-known-requires : tie.Need-any_known-requires
 any-known-requires c κs =
     let l = c.before.before.before in
     below-sized l.learn.auto.1.0 (entered (first (second l))).requires.outputs_index
@@ -89,22 +89,22 @@ any-known-requires c κs =
 known : (c : tie.After-learn) → (let s = entered (first (second c)) in Knows c.learn.new.1.0 s.args.base s.args.inputs.now)
 known c = c.learn.ensures (knows-none (entered (first (second c))).requires.earlier) (inputs-single (second c).before)
 
-returns-3 : tie.Need-returns-3
+returns-3 : tie.Need-returns-then-any_known
 returns-3 c =
     let l = learnt c.before in
     let g = second l in
     shared (inputs-single g.before) (entered (first g)).requires.few (outputs-single l.before.before) (known l)
-    (λ nets k. sym c.if3.true ∙ c.before.any-known.ensures nets k)
+    (λ nets k. sym c.if-any_known.true ∙ c.before.any_known.ensures nets k)
 
-returns-4 : tie.Need-returns-4
+returns-4 : tie.Need-returns
 returns-4 c =
     let l = learnt c.before in
     let g = second l in
     fine (inputs-single g.before) (entered (first g)).requires.few (outputs-single l.before.before) (known l)
-    (λ nets k. sym c.if3.false ∙ c.before.any-known.ensures nets k)
+    (λ nets k. sym c.if-any_known.false ∙ c.before.any_known.ensures nets k)
 
-pub judge-ports-spec : {M : Type 1} → statement M
-judge-ports-spec =
+pub judge_ports_spec : {M : Type 1} → statement M
+judge_ports_spec =
     tie.close
     (tie.spec
     (λ c κs. search rules)

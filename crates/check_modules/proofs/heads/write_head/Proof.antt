@@ -9,29 +9,29 @@ use Rattle.check_modules.proofs.heads.write_head.Statement.{statement}
 use Rattle.check_modules.proofs.heads.write_head.Tie as tie
 
 -- Back to the function's entry from where the inputs end.
-abbrev entered : tie.After-list-end → tie.Start
+abbrev entered : tie.After-list_end-o → tie.Start
 entered c = c.before.before.before.before
 
-list-end-requires : tie.Need-list-end-requires
+list-end-requires : tie.Need-list_end-o-requires
 list-end-requires c κs = let p = c.before.before.before.requires in record { list = p.m.inputs; stands = inputs_in_head p.m p.stands }
 
-write-list-requires : tie.Need-write-list-requires
+write-list-requires : tie.Need-write_list-requires
 write-list-requires c κs = inputs-ready (entered c.before).requires
 
 -- What slots in the outputs' places ask, once the inputs have theirs.
 outputs :
-    (c : tie.After-write-list)
+    (c : tie.After-write_list)
     → (let l = c.before.before in
     let a = (entered l).args in
-    ListReady c.write-list.new.0 a.slots.now a.base l.list-end.result a.nets)
+    ListReady c.write_list.new.0 a.slots.now a.base l.list_end-o.result a.nets)
 outputs c =
     let l = c.before.before in
-    outputs-ready (entered l).requires l.list-end.ensures c.write-list.auto.0 c.write-list.ensures
+    outputs-ready (entered l).requires l.list_end-o.ensures c.write_list.auto.0 c.write_list.ensures
 
-entry-requires : tie.Need-entry-requires
+entry-requires : tie.Need-entry-outputs-requires
 entry-requires c κs = omega (arith, (outputs c.before.before.before).listed.stands.within)
 
-write-list-requires-2 : tie.Need-write-list-requires-2
+write-list-requires-2 : tie.Need-write_list-requires-2
 write-list-requires-2 c κs = (let counted = c.before in outputs counted.before.before.before.before)
 
 returns : tie.Need-returns
@@ -39,11 +39,11 @@ returns c =
     let w₂ = c.before.before in
     let e = w₂.before.before in
     let w = e.before.before.before.before in
-    head-written w.before.before.list-end.ensures w.write-list.auto.0 w.write-list.ensures e.entry.ensures
-    w₂.write-list2.ensures
+    head-written w.before.before.list_end-o.ensures w.write_list.auto.0 w.write_list.ensures e.entry-outputs.ensures
+    w₂.write_list-2.ensures
 
-pub write-head-spec : {M : Type 1} → statement M
-write-head-spec =
+pub write_head_spec : {M : Type 1} → statement M
+write_head_spec =
     tie.close
     (tie.spec
     list-end-requires

@@ -42,23 +42,23 @@ module _
                 (rw (sym w.0 ∙ answered, le-leb nets 4096 few), λ z. w.1 answered);
           }
 
-returns : tie.Need-returns
+returns : tie.Need-returns-then-not-write_head
 returns c =
     let w = c.before.before.before in
-    unanswered w.write-head.ensures (not-true w.write-head.result c.if1.true)
+    unanswered w.write_head.ensures (not-true w.write_head.result c.if-not-write_head.true)
 
-returns-2 : tie.Need-returns-2
+returns-2 : tie.Need-returns-then-nets-gt4096
 returns-2 c =
     let w = c.before.before.before.before in
-    many w.write-head.ensures (not-false w.write-head.result c.before.if1.false) c.if2.true
+    many w.write_head.ensures (not-false w.write_head.result c.before.if-not-write_head.false) c.if-nets-gt4096.true
 
-returns-3 : tie.Need-returns-3
+returns-3 : tie.Need-returns-else-nets-gt4096
 returns-3 c =
     let w = c.before.before.before.before in
-    fine w.write-head.ensures (not-false w.write-head.result c.before.if1.false) c.if2.false
+    fine w.write_head.ensures (not-false w.write_head.result c.before.if-not-write_head.false) c.if-nets-gt4096.false
 
-pub finish-module-spec : {M : Type 1} → statement M
-finish-module-spec =
+pub finish_module_spec : {M : Type 1} → statement M
+finish_module_spec =
     tie.close
     (tie.spec
     (λ c. search rules)

@@ -6,8 +6,8 @@ use Rattle.check_sizes.proofs.Sums.with_module.Tie as tie
 returns : tie.Need-returns
 returns c = rw c.larger.ensures
 
-pub with-module-spec : {M : Type 1} → statement M
-with-module-spec =
+pub with_module_spec : {M : Type 1} → statement M
+with_module_spec =
     tie.close
     (tie.spec
     (λ c. search rules)

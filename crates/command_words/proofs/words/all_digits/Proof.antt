@@ -6,14 +6,14 @@ use borrow.Author.Rules.{rules}
 use Rattle.command_words.proofs.words.all_digits.Statement.{statement}
 use Rattle.command_words.proofs.words.all_digits.Tie as tie
 
-abbrev invariant-loop : tie.invariant-loop
+abbrev invariant-loop : tie.invariant-loop-i
 invariant-loop word i₀ i-end i = i-end ≡ length word
 
-abbrev decreases-loop : tie.decreases-loop
+abbrev decreases-loop : tie.decreases-loop-i
 decreases-loop word i₀ i-end i = i-end - i
 
-pub all-digits-spec : {M : Type 1} → statement M
-all-digits-spec =
+pub all_digits_spec : {M : Type 1} → statement M
+all_digits_spec =
     tie.close
     (tie.spec
     invariant-loop

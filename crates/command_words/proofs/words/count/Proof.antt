@@ -5,10 +5,10 @@ use borrow.Author.Rules.{rules}
 use Rattle.command_words.proofs.words.count.Statement.{statement}
 use Rattle.command_words.proofs.words.count.Tie as tie
 
-abbrev invariant-loop : tie.invariant-loop
+abbrev invariant-loop : tie.invariant-loop-from
 invariant-loop line words₀ from₀ words from = (words ≤ from) × (from ≤ length line)
 
-abbrev decreases-loop : tie.decreases-loop
+abbrev decreases-loop : tie.decreases-loop-from
 decreases-loop line words₀ from₀ words from = length line - from
 
 pub count_spec : {M : Type 1} → statement M

@@ -6,14 +6,14 @@ use borrow.Author.Rules.{rules}
 use Rattle.command_words.proofs.words.is.Statement.{statement}
 use Rattle.command_words.proofs.words.is.Tie as tie
 
-abbrev invariant-loop : tie.invariant-loop
+abbrev invariant-loop : tie.invariant-loop-i
 invariant-loop word name i₀ i-end i = (i-end ≡ length word) × (length word ≡ length name)
 
-abbrev decreases-loop : tie.decreases-loop
+abbrev decreases-loop : tie.decreases-loop-i
 decreases-loop word name i₀ i-end i = i-end - i
 
-pub is-spec : {M : Type 1} → statement M
-is-spec =
+pub is_spec : {M : Type 1} → statement M
+is_spec =
     tie.close
     (tie.spec
     invariant-loop

@@ -6,14 +6,14 @@ use borrow.Author.Rules.{rules}
 use Rattle.command_words.proofs.words.parse.Statement.{statement}
 use Rattle.command_words.proofs.words.parse.Tie as tie
 
-abbrev invariant-loop : tie.invariant-loop
+abbrev invariant-loop : tie.invariant-loop-i
 invariant-loop word value₀ i₀ i-end value i = (i-end ≡ length word) × (value ≤ 65785)
 
-abbrev decreases-loop : tie.decreases-loop
+abbrev decreases-loop : tie.decreases-loop-i
 decreases-loop word value₀ i₀ i-end value i = i-end - i
 
-pub parse-spec : {M : Type 1} → statement M
-parse-spec =
+pub parse_spec : {M : Type 1} → statement M
+parse_spec =
     tie.close
     (tie.spec
     invariant-loop

@@ -6,14 +6,14 @@ use borrow.Author.Rules.{rules}
 use Rattle.command_words.proofs.words.to_digits.Statement.{statement}
 use Rattle.command_words.proofs.words.to_digits.Tie as tie
 
-abbrev invariant-loop : tie.invariant-loop
+abbrev invariant-loop : tie.invariant-loop-i
 invariant-loop values₀ i₀ i-end values i = (length values ≡ length values₀) × (i-end ≡ length values₀)
 
-abbrev decreases-loop : tie.decreases-loop
+abbrev decreases-loop : tie.decreases-loop-i
 decreases-loop values₀ i₀ i-end values i = i-end - i
 
-pub to-digits-spec : {M : Type 1} → statement M
-to-digits-spec =
+pub to_digits_spec : {M : Type 1} → statement M
+to_digits_spec =
     tie.close
     (tie.spec
     invariant-loop

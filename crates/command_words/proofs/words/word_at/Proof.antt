@@ -5,14 +5,14 @@ use borrow.Author.Rules.{rules}
 use Rattle.command_words.proofs.words.word_at.Statement.{statement}
 use Rattle.command_words.proofs.words.word_at.Tie as tie
 
-abbrev invariant-loop : tie.invariant-loop
+abbrev invariant-loop : tie.invariant-loop-left
 invariant-loop line before from₀ left₀ from left = from ≤ length line
 
-abbrev decreases-loop : tie.decreases-loop
+abbrev decreases-loop : tie.decreases-loop-left
 decreases-loop line before from₀ left₀ from left = left
 
-pub word-at-spec : {M : Type 1} → statement M
-word-at-spec =
+pub word_at_spec : {M : Type 1} → statement M
+word_at_spec =
     tie.close
     (tie.spec
     invariant-loop

@@ -24,38 +24,38 @@ adds-more {counts} {start} {table} {i} {v} a more inside is =
       left = λ k h. get_or-set_other table i k v 0 (λ e. omega arith) ∙ a.left k (omega arith);
     }
 
-abbrev invariant-loop : tie.invariant-loop
+abbrev invariant-loop : tie.invariant-loop-i
 invariant-loop counts table₀ i₀ table i = Adds counts table₀ table i
 
-abbrev decreases-loop : tie.decreases-loop
+abbrev decreases-loop : tie.decreases-loop-i
 decreases-loop counts table₀ i₀ table i = 33 - i
 
-abbrev entry : tie.At-loop invariant-loop decreases-loop → tie.Start invariant-loop decreases-loop
+abbrev entry : tie.At-loop-i invariant-loop decreases-loop → tie.Start invariant-loop decreases-loop
 entry c = c.before.before.before
 
-abbrev turn : tie.After-wrapping-add-u64 invariant-loop decreases-loop → tie.In-loop invariant-loop decreases-loop
+abbrev turn : tie.After-wrapping_add_u64 invariant-loop decreases-loop → tie.In-loop-i invariant-loop decreases-loop
 turn c = c.before.before.before.before
 
 -- The entry of a turn is one of the table's.
-inside : (c : tie.In-loop invariant-loop decreases-loop) → c.before.loop.i < length c.before.loop.table
-inside c = omega (arith, (entry c.before).pre.1, c.before.loop.invariant.same, c.loop-test.true)
+inside : (c : tie.In-loop-i invariant-loop decreases-loop) → c.before.loop-i.i < length c.before.loop-i.table
+inside c = omega (arith, (entry c.before).requires.1, c.before.loop-i.invariant.same, c.loop-i-test.true)
 
-loop-again : tie.Need-loop-preserved invariant-loop decreases-loop
+loop-again : tie.Need-loop-i-preserved invariant-loop decreases-loop
 loop-again c =
     let t = turn c in
-    let l = t.before.loop in
-    adds-more l.inv t.loop-test.taken (inside t)
-    (c.wrapping-add-u64.ensures ∙ ap (λ (x : ℕ). low (get_or l.table l.i 0 + x)) c.before.wide.ensures)
+    let l = t.before.loop-i in
+    adds-more l.inv t.loop-i-test.taken (inside t)
+    (c.wrapping_add_u64.ensures ∙ ap (λ (x : ℕ). low (get_or l.table l.i 0 + x)) c.before.wide.ensures)
 
 returns : tie.Need-returns invariant-loop decreases-loop
 returns c sums is =
-    let l = c.before.loop in
+    let l = c.before.loop-i in
     let s = entry c.before in
-    added s.args.table.now s.args.counts.now l.table sums l.invariant.same (s.pre.1 ∙ sym s.pre.0)
-    (λ k h. l.invariant.passed k (omega (arith, c.loop-test.false, s.pre.1))) is
+    added s.args.table.now s.args.counts.now l.table sums l.invariant.same (s.requires.1 ∙ sym s.requires.0)
+    (λ k h. l.invariant.passed k (omega (arith, c.loop-i-test.false, s.requires.1))) is
 
-pub add-counts-spec : {M : Type 1} → statement M
-add-counts-spec =
+pub add_counts_spec : {M : Type 1} → statement M
+add_counts_spec =
     tie.close
     (tie.spec
     invariant-loop
@@ -64,7 +64,7 @@ add-counts-spec =
     (λ c. omega arith)
     (λ c. omega (arith, inside c.before))
     (λ c. omega arith)
-    (λ c. omega (arith, (entry c.before.before.before).pre.0))
+    (λ c. omega (arith, (entry c.before.before.before).requires.0))
     (λ c κs. search rules)
     (λ c κs. search rules)
     (λ c. omega arith)
@@ -72,5 +72,5 @@ add-counts-spec =
     (λ c. omega arith)
     (λ c. omega arith)
     loop-again
-    (λ c. c.before.loop.invariant.same)
+    (λ c. c.before.loop-i.invariant.same)
     returns)

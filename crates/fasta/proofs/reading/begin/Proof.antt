@@ -11,5 +11,5 @@ returns c = (
       record { line = refl; bases = no_front bases; roomy = roomy; sums = record { told = refl; summed = zeros } },
 )
 
-pub begin-spec : {M : Type 1} → statement M
-begin-spec = tie.close (tie.spec returns)
+pub begin_spec : {M : Type 1} → statement M
+begin_spec = tie.close (tie.spec returns)

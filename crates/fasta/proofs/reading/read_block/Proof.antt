@@ -13,55 +13,55 @@ record Passed (bytes : List ℕ) (n : ℕ) (bases₀ table₀ : List ℕ) (start
   filled : now.filled ≤ length bases₀
   holds : (s : State) → Holds s bases₀ table₀ start → Holds (steps n s (take i bytes)) bases table now
 
-abbrev invariant-loop : tie.invariant-loop
+abbrev invariant-loop : tie.invariant-loop-i
 invariant-loop bytes letters bases₀ table₀ now₀ i₀ i-end bases table now i = Passed bytes letters bases₀ table₀ now₀ bases table now i
 
-abbrev decreases-loop : tie.decreases-loop
+abbrev decreases-loop : tie.decreases-loop-i
 decreases-loop bytes letters bases₀ table₀ now₀ i₀ i-end bases table now i = length bytes - i
 
 -- Where a byte was read, its turn, and the entry.
-abbrev stepping : tie.After-slice-known4 invariant-loop decreases-loop → tie.After-step invariant-loop decreases-loop
+abbrev stepping : tie.After-slice_known-in-loop-i-2-1 invariant-loop decreases-loop → tie.After-step-now invariant-loop decreases-loop
 stepping c = c.before.before.before.before
 
-abbrev turn : tie.After-step invariant-loop decreases-loop → tie.In-loop invariant-loop decreases-loop
+abbrev turn : tie.After-step-now invariant-loop decreases-loop → tie.In-loop-i invariant-loop decreases-loop
 turn c = c.before.before.before.before
 
-abbrev entry : tie.At-loop invariant-loop decreases-loop → tie.Start invariant-loop decreases-loop
+abbrev entry : tie.At-loop-i invariant-loop decreases-loop → tie.Start invariant-loop decreases-loop
 entry c = c.before.before.before.before
 
-loop-holds : tie.Need-loop-init invariant-loop decreases-loop
+loop-holds : tie.Need-loop-i-init invariant-loop decreases-loop
 unfolding steps
 loop-holds c = record { inside = omega arith; same = refl; whole = refl; filled = c.before.before.before.requires.0; holds = λ s h. h }
 
-loop-again : tie.Need-loop-preserved invariant-loop decreases-loop
+loop-again : tie.Need-loop-i-preserved invariant-loop decreases-loop
 loop-again c =
     let k = stepping c in
     let t = turn k in
-    let l = t.before.loop in
+    let l = t.before.loop-i in
     let a = (entry t.before).args in
     record {
-      inside = omega (arith, t.loop-test.taken);
-      same = k.step.kept.1.1.0 ∙ l.inv.same;
-      whole = k.step.kept.1.1.1.0 ∙ l.inv.whole;
-      filled = omega (arith, k.step.ensures.0, l.inv.same);
+      inside = omega (arith, t.loop-i-test.taken);
+      same = k.step-now.kept.1.1.0 ∙ l.inv.same;
+      whole = k.step-now.kept.1.1.1.0 ∙ l.inv.whole;
+      filled = omega (arith, k.step-now.ensures.0, l.inv.same);
       holds =
           λ s h.
-          rw (← one_more a.letters s a.bytes.now l.i t.loop-test.taken)
-          (k.step.ensures.1 (steps a.letters s (take l.i a.bytes.now)) (l.inv.holds s h));
+          rw (← one_more a.letters s a.bytes.now l.i t.loop-i-test.taken)
+          (k.step-now.ensures.1 (steps a.letters s (take l.i a.bytes.now)) (l.inv.holds s h));
     }
 
 returns : tie.Need-returns invariant-loop decreases-loop
 returns c =
-    let l = c.before.loop in
+    let l = c.before.loop-i in
     let a = (entry c.before).args in (
       l.invariant.filled,
       λ s h.
-          subst (λ (bytes : List ℕ). Holds (steps a.letters s bytes) l.bases l.table l.now)
-          (take_all l.i a.bytes.now (omega (arith, c.loop-test.false))) (l.invariant.holds s h),
+          subst (λ (bytes : List ℕ). Holds (steps a.letters s bytes) l.bases-1 l.table-1 l.now)
+          (take_all l.i a.bytes.now (omega (arith, c.loop-i-test.false))) (l.invariant.holds s h),
     )
 
-pub read-block-spec : {M : Type 1} → statement M
-read-block-spec =
+pub read_block_spec : {M : Type 1} → statement M
+read_block_spec =
     tie.close
     (tie.spec
     invariant-loop
@@ -69,11 +69,11 @@ read-block-spec =
     loop-holds
     (λ c. omega arith)
     (λ c κs.
-    let l = c.before.before.before.before.loop in
-    (omega (arith, l.invariant.same, l.invariant.filled), l.invariant.whole ∙ (entry c.before.before.before.before).pre.1))
+    let l = c.before.before.before.before.loop-i in
+    (omega (arith, l.invariant.same, l.invariant.filled), l.invariant.whole ∙ (entry c.before.before.before.before).requires.1))
     (λ c. omega arith)
     (λ c. omega arith)
     loop-again
-    (λ c. c.before.loop.invariant.same)
-    (λ c. c.before.loop.invariant.whole)
+    (λ c. c.before.loop-i.invariant.same)
+    (λ c. c.before.loop-i.invariant.whole)
     returns)

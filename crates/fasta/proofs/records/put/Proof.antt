@@ -4,12 +4,12 @@ use Rattle.fasta.proofs.Filling.{front-full, front-more}
 use Rattle.fasta.proofs.records.put.Statement.{statement}
 use Rattle.fasta.proofs.records.put.Tie as tie
 
-returns : tie.Need-returns
+returns : tie.Need-returns-then-filled-bases
 returns c =
     let a = c.before.args in
-    (omega arith, λ gene f. front-full gene a.bases.now a.byte a.filled f c.if1.true)
+    (omega arith, λ gene f. front-full gene a.bases.now a.byte a.filled f c.if-filled-bases.true)
 
-returns-2 : tie.Need-returns-2
+returns-2 : tie.Need-returns
 returns-2 c =
     let a = c.before.args in
     (omega arith, λ gene f. front-more gene a.bases.now a.byte a.filled f (omega arith))

@@ -9,48 +9,48 @@ use Rattle.fault_parts.proofs.Marking.{known_on, known-stops, known-last}
 use Rattle.fault_parts.proofs.marks.count_known.Statement.{statement}
 use Rattle.fault_parts.proofs.marks.count_known.Tie as tie
 
-abbrev invariant-loop : tie.invariant-loop
+abbrev invariant-loop : tie.invariant-loop-i
 invariant-loop list marks i₀ i = (known : List ℕ) → Marked marks known → known_front list known ≡ i + known_front (drop i list) known
 
-abbrev decreases-loop : tie.decreases-loop
+abbrev decreases-loop : tie.decreases-loop-i
 decreases-loop list marks i₀ i = length list - i
 
-loop-holds : tie.Need-loop-init invariant-loop decreases-loop
+loop-holds : tie.Need-loop-i-init invariant-loop decreases-loop
 loop-holds c known m = omega arith
 
-mul-if1 : tie.Need-overflow-mul-if1 invariant-loop decreases-loop
+mul-if1 : tie.Need-offset_bounds-list-i invariant-loop decreases-loop
 mul-if1 c = omega arith
 
-shared-slice-read-if1 : tie.Need-shared-slice-read-if1 invariant-loop decreases-loop
+shared-slice-read-if1 : tie.Need-bounds-list-i invariant-loop decreases-loop
 shared-slice-read-if1 c = omega arith
 
-cast-if1 : tie.Need-overflow-cast-if1 invariant-loop decreases-loop
-cast-if1 c = omega (arith, c.shared-slice-known.given c.before.before.loop.i)
+cast-if1 : tie.Need-overflow_cast-list invariant-loop decreases-loop
+cast-if1 c = omega (arith, c.shared_slice_known-1.given c.before.before.loop-i.i)
 
-shared-slice-read-if1-2 : tie.Need-shared-slice-read-if1-2 invariant-loop decreases-loop
-shared-slice-read-if1-2 c = let seen = c.before in omega (arith, seen.shared-slice-known.given seen.before.before.loop.i)
+shared-slice-read-if1-2 : tie.Need-bounds-marks-list invariant-loop decreases-loop
+shared-slice-read-if1-2 c = let seen = c.before in omega (arith, seen.shared_slice_known-1.given seen.before.before.loop-i.i)
 
-returns : tie.Need-returns invariant-loop decreases-loop
+returns : tie.Need-returns-then-marks-list-ne1 invariant-loop decreases-loop
 returns c known m =
     let turn = c.before.before.before in
-    known-stops _ known _ m turn.before.loop.i (turn.before.loop.invariant known m) turn.loop-test.true c.if1.true
+    known-stops _ known _ m turn.before.loop-i.i (turn.before.loop-i.invariant known m) turn.loop-i-test.true c.if-marks-list-ne1.true
 
-add-i : tie.Need-overflow-add-i invariant-loop decreases-loop
+add-i : tie.Need-overflow_add-i invariant-loop decreases-loop
 add-i c = omega arith
 
-loop-less : tie.Need-loop-smaller invariant-loop decreases-loop
+loop-less : tie.Need-loop-i-smaller invariant-loop decreases-loop
 loop-less c = omega arith
 
-loop-again : tie.Need-loop-preserved invariant-loop decreases-loop
+loop-again : tie.Need-loop-i-preserved invariant-loop decreases-loop
 loop-again c known m =
     let turn = c.before.before.before in
-    known_on _ known _ m turn.before.loop.i (turn.before.loop.invariant known m) turn.loop-test.true c.if1.false
+    known_on _ known _ m turn.before.loop-i.i (turn.before.loop-i.invariant known m) turn.loop-i-test.true c.if-marks-list-ne1.false
 
-returns-2 : tie.Need-returns-2 invariant-loop decreases-loop
-returns-2 c known m = known-last _ known _ m c.before.loop.i (c.before.loop.invariant known m) c.loop-test.false
+returns-2 : tie.Need-returns invariant-loop decreases-loop
+returns-2 c known m = known-last _ known _ m c.before.loop-i.i (c.before.loop-i.invariant known m) c.loop-i-test.false
 
-pub count-known-spec : {M : Type 1} → statement M
-count-known-spec =
+pub count_known_spec : {M : Type 1} → statement M
+count_known_spec =
     tie.close
     (tie.spec
     invariant-loop

@@ -8,64 +8,64 @@ use Rattle.fault_parts.proofs.Marking.{Learning, learning-first, learning-on, le
 use Rattle.fault_parts.proofs.marks.learn.Statement.{statement}
 use Rattle.fault_parts.proofs.marks.learn.Tie as tie
 
-abbrev invariant-loop : tie.invariant-loop
+abbrev invariant-loop : tie.invariant-loop-i
 invariant-loop list marks₀ i₀ marks i = (length marks ≡ length marks₀) × ((known : List ℕ) → Marked marks₀ known → Learning list known marks i)
 
-abbrev decreases-loop : tie.decreases-loop
+abbrev decreases-loop : tie.decreases-loop-i
 decreases-loop list marks₀ i₀ marks i = length list - i
 
-loop-holds : tie.Need-loop-init invariant-loop decreases-loop
+loop-holds : tie.Need-loop-i-init invariant-loop decreases-loop
 loop-holds c = (refl, λ known m. learning-first _ known _ m)
 
-mul-net : tie.Need-overflow-mul-net invariant-loop decreases-loop
+mul-net : tie.Need-offset_bounds-list-i invariant-loop decreases-loop
 mul-net c = omega arith
 
-shared-slice-read-net : tie.Need-shared-slice-read-net invariant-loop decreases-loop
+shared-slice-read-net : tie.Need-bounds-list-i invariant-loop decreases-loop
 shared-slice-read-net c = omega arith
 
-cast-net : tie.Need-overflow-cast-net invariant-loop decreases-loop
-cast-net c = omega (arith, c.shared-slice-known.given c.before.before.loop.i)
+cast-net : tie.Need-overflow_cast-net invariant-loop decreases-loop
+cast-net c = omega (arith, c.shared_slice_known-1.given c.before.before.loop-i.i)
 
-slice-read-if1 : tie.Need-slice-read-if1 invariant-loop decreases-loop
-slice-read-if1 c = let seen = c.before in omega (arith, seen.shared-slice-known.given seen.before.before.loop.i, seen.before.before.loop.invariant.0)
+slice-read-if1 : tie.Need-bounds-marks-net invariant-loop decreases-loop
+slice-read-if1 c = let seen = c.before in omega (arith, seen.shared_slice_known-1.given seen.before.before.loop-i.i, seen.before.before.loop-i.invariant.0)
 
-same_length : tie.Need-same-length invariant-loop decreases-loop
-same_length c = c.before.before.before.before.loop.invariant.0
+same_length : tie.Need-shape_of-marks-then-marks-net-eq1 invariant-loop decreases-loop
+same_length c = c.before.before.before.before.loop-i.invariant.0
 
-returns : tie.Need-returns invariant-loop decreases-loop
+returns : tie.Need-returns-then-marks-net-eq1 invariant-loop decreases-loop
 returns c known m =
     let turn = c.before.before.before in
-    (learning-stops _ known _ turn.before.loop.i turn.loop-test.true (turn.before.loop.invariant.1 known m) c.if1.true, λ e. absurd (omega (arith, turn.loop-test.true, e)))
+    (learning-stops _ known _ turn.before.loop-i.i turn.loop-i-test.true (turn.before.loop-i.invariant.1 known m) c.if-marks-net-eq1.true, λ e. absurd (omega (arith, turn.loop-i-test.true, e)))
 
-slice-write-marks : tie.Need-slice-write-marks invariant-loop decreases-loop
-slice-write-marks c = let seen = c.before.before in omega (arith, seen.shared-slice-known.given seen.before.before.loop.i, seen.before.before.loop.invariant.0)
+slice-write-marks : tie.Need-bounds-marks-net-in-loop-i invariant-loop decreases-loop
+slice-write-marks c = let seen = c.before.before in omega (arith, seen.shared_slice_known-1.given seen.before.before.loop-i.i, seen.before.before.loop-i.invariant.0)
 
-add-i : tie.Need-overflow-add-i invariant-loop decreases-loop
+add-i : tie.Need-overflow_add-i invariant-loop decreases-loop
 add-i c = omega arith
 
-loop-less : tie.Need-loop-smaller invariant-loop decreases-loop
+loop-less : tie.Need-loop-i-smaller invariant-loop decreases-loop
 loop-less c = omega arith
 
-loop-again : tie.Need-loop-preserved invariant-loop decreases-loop
+loop-again : tie.Need-loop-i-preserved invariant-loop decreases-loop
 loop-again c =
     let seen = c.before.before in
     let turn = seen.before in (
-      length-set turn.before.loop.marks _ 1 ∙ turn.before.loop.invariant.0,
+      length-set turn.before.loop-i.marks _ 1 ∙ turn.before.loop-i.invariant.0,
       λ known m.
-          learning-on _ known _ turn.before.loop.i turn.loop-test.true (turn.before.loop.invariant.1 known m)
-          (omega (arith, seen.shared-slice-known.given turn.before.loop.i, turn.before.loop.invariant.0)) c.if1.false,
+          learning-on _ known _ turn.before.loop-i.i turn.loop-i-test.true (turn.before.loop-i.invariant.1 known m)
+          (omega (arith, seen.shared_slice_known-1.given turn.before.loop-i.i, turn.before.loop-i.invariant.0)) c.if-marks-net-eq1.false,
     )
 
-same-length-2 : tie.Need-same-length-2 invariant-loop decreases-loop
-same-length-2 c = c.before.loop.invariant.0
+same-length-2 : tie.Need-shape_of-marks invariant-loop decreases-loop
+same-length-2 c = c.before.loop-i.invariant.0
 
-returns-2 : tie.Need-returns-2 invariant-loop decreases-loop
+returns-2 : tie.Need-returns invariant-loop decreases-loop
 returns-2 c known m =
-    let g = c.before.loop.invariant.1 known m in
-    (learning-last _ known _ _ c.loop-test.false g, λ e. going-last _ known _ _ c.loop-test.false g.going)
+    let g = c.before.loop-i.invariant.1 known m in
+    (learning-last _ known _ _ c.loop-i-test.false g, λ e. going-last _ known _ _ c.loop-i-test.false g.going)
 
-pub learn-spec : {M : Type 1} → statement M
-learn-spec =
+pub learn_spec : {M : Type 1} → statement M
+learn_spec =
     tie.close
     (tie.spec
     invariant-loop

@@ -8,50 +8,50 @@ use Rattle.fault_parts.proofs.Marking.{Going, going-first, going_on, going-last}
 use Rattle.fault_parts.proofs.marks.mark_all.Statement.{statement}
 use Rattle.fault_parts.proofs.marks.mark_all.Tie as tie
 
-abbrev invariant-loop : tie.invariant-loop
+abbrev invariant-loop : tie.invariant-loop-i
 invariant-loop list marks₀ i₀ marks i = (length marks ≡ length marks₀) × ((known : List ℕ) → Marked marks₀ known → Going list known marks i)
 
-abbrev decreases-loop : tie.decreases-loop
+abbrev decreases-loop : tie.decreases-loop-i
 decreases-loop list marks₀ i₀ marks i = length list - i
 
-loop-holds : tie.Need-loop-init invariant-loop decreases-loop
+loop-holds : tie.Need-loop-i-init invariant-loop decreases-loop
 loop-holds c = (refl, λ known m. going-first _ known _ m)
 
-mul-marks : tie.Need-overflow-mul-marks invariant-loop decreases-loop
+mul-marks : tie.Need-offset_bounds-list-i invariant-loop decreases-loop
 mul-marks c = omega arith
 
-shared-slice-read-marks : tie.Need-shared-slice-read-marks invariant-loop decreases-loop
+shared-slice-read-marks : tie.Need-bounds-list-i invariant-loop decreases-loop
 shared-slice-read-marks c = omega arith
 
-cast-marks : tie.Need-overflow-cast-marks invariant-loop decreases-loop
-cast-marks c = omega (arith, c.shared-slice-known.given c.before.before.loop.i)
+cast-marks : tie.Need-overflow_cast-marks invariant-loop decreases-loop
+cast-marks c = omega (arith, c.shared_slice_known-1.given c.before.before.loop-i.i)
 
-slice-write-marks : tie.Need-slice-write-marks invariant-loop decreases-loop
-slice-write-marks c = omega (arith, c.shared-slice-known.given c.before.before.loop.i, c.before.before.loop.invariant.0)
+slice-write-marks : tie.Need-bounds-marks-list invariant-loop decreases-loop
+slice-write-marks c = omega (arith, c.shared_slice_known-1.given c.before.before.loop-i.i, c.before.before.loop-i.invariant.0)
 
-add-i : tie.Need-overflow-add-i invariant-loop decreases-loop
+add-i : tie.Need-overflow_add-i invariant-loop decreases-loop
 add-i c = omega arith
 
-loop-less : tie.Need-loop-smaller invariant-loop decreases-loop
+loop-less : tie.Need-loop-i-smaller invariant-loop decreases-loop
 loop-less c = omega arith
 
-loop-again : tie.Need-loop-preserved invariant-loop decreases-loop
+loop-again : tie.Need-loop-i-preserved invariant-loop decreases-loop
 loop-again c =
     let turn = c.before in (
-      length-set turn.before.loop.marks _ 1 ∙ turn.before.loop.invariant.0,
+      length-set turn.before.loop-i.marks _ 1 ∙ turn.before.loop-i.invariant.0,
       λ known m.
-          going_on _ known _ turn.before.loop.i turn.loop-test.true
-          (omega (arith, c.shared-slice-known.given turn.before.loop.i, turn.before.loop.invariant.0)) (turn.before.loop.invariant.1 known m),
+          going_on _ known _ turn.before.loop-i.i turn.loop-i-test.true
+          (omega (arith, c.shared_slice_known-1.given turn.before.loop-i.i, turn.before.loop-i.invariant.0)) (turn.before.loop-i.invariant.1 known m),
     )
 
-same_length : tie.Need-same-length invariant-loop decreases-loop
-same_length c = c.before.loop.invariant.0
+same_length : tie.Need-shape_of-marks invariant-loop decreases-loop
+same_length c = c.before.loop-i.invariant.0
 
 returns : tie.Need-returns invariant-loop decreases-loop
-returns c known m = going-last _ known _ _ c.loop-test.false (c.before.loop.invariant.1 known m)
+returns c known m = going-last _ known _ _ c.loop-i-test.false (c.before.loop-i.invariant.1 known m)
 
-pub mark-all-spec : {M : Type 1} → statement M
-mark-all-spec =
+pub mark_all_spec : {M : Type 1} → statement M
+mark_all_spec =
     tie.close
     (tie.spec
     invariant-loop

@@ -5,48 +5,48 @@ use borrow.Author.Rules.{rules}
 use Rattle.fault_parts.proofs.modules.fits.Statement.{statement}
 use Rattle.fault_parts.proofs.modules.fits.Tie as tie
 
-kind-of-requires : tie.Need-kind-of-requires
+kind-of-requires : tie.Need-kind_of-requires
 kind-of-requires c κs = search rules
 
-enum-known-arity : tie.Need-enum-known-arity
+enum-known-arity : tie.Need-enum_known-arity
 enum-known-arity c = search rules
 
 -- The start.
-abbrev start : tie.After-kind-of → tie.Start
+abbrev start : tie.After-kind_of → tie.Start
 start c = c.before.before.before
 
-returns : tie.Need-returns
+returns : tie.Need-returns-then-arity-taken
 returns c p takes drives t d =
     let arity = c.before.before in
     let kind = arity.before.before in
     let number = (start kind).args.number in
-    let known = sym kind.kind-of.ensures ∙ arity.arity.given.1 in
-    gate-unfit number takes drives _ (gate-told number known) (λ e. c.if1.true ((gate-of-kind number known).arity-is ∙ e ∙ sym t))
+    let known = sym kind.kind_of.ensures ∙ arity.arity-1.given.1 in
+    gate-unfit number takes drives _ (gate-told number known) (λ e. c.if-arity-taken.true ((gate-of-kind number known).arity-is ∙ e ∙ sym t))
 
-enum_told : tie.Need-enum-told
+enum_told : tie.Need-enum_told-1
 enum_told c = search rules
 
-fits-module-requires : tie.Need-fits-module-requires
+fits-module-requires : tie.Need-fits_module-requires
 fits-module-requires c κs = search rules
 
-returns-2 : tie.Need-returns-2
+returns-2 : tie.Need-returns-else-arity-taken
 returns-2 c p takes drives t d =
     let arity = c.before.before in
     let kind = arity.before.before in
     let number = (start kind).args.number in
-    let known = sym kind.kind-of.ensures ∙ arity.arity.given.1 in
-    gate-fit number takes drives _ (gate-told number known) (sym (gate-of-kind number known).arity-is ∙ c.if1.false ∙ t) _ d
+    let known = sym kind.kind_of.ensures ∙ arity.arity-1.given.1 in
+    gate-fit number takes drives _ (gate-told number known) (sym (gate-of-kind number known).arity-is ∙ c.if-arity-taken.false ∙ t) _ d
 
-returns-3 : tie.Need-returns-3
+returns-3 : tie.Need-returns-in-Module
 returns-3 c p takes drives t d =
     let told = c.before in
     let kind = told.before.before in
-    c.fits-module.ensures p takes drives t d
+    c.fits_module.ensures p takes drives t d
     ∙ module_fit (start kind).args.number takes drives _
-    (module_told (start kind).args.number (sym kind.kind-of.ensures ∙ told.enum_told.given.1))
+    (module_told (start kind).args.number (sym kind.kind_of.ensures ∙ told.enum_told-1.given.1))
 
-pub fits-spec : {M : Type 1} → statement M
-fits-spec =
+pub fits_spec : {M : Type 1} → statement M
+fits_spec =
     tie.close
     (tie.spec
     kind-of-requires

@@ -8,56 +8,56 @@ use borrow.Author.Rules.{rules}
 use Rattle.fault_parts.proofs.modules.fits_module.Statement.{statement}
 use Rattle.fault_parts.proofs.modules.fits_module.Tie as tie
 
-find-requires : tie.Need-find-requires
+find-requires : tie.Need-find-j-requires
 find-requires c κs = search rules
 
 -- The start, and the module that was met.
-abbrev start : tie.Else1 → tie.Start
+abbrev start : tie.Else-j-modules → tie.Start
 start c = c.before.before.before.before
 
 met :
-    (c : tie.Else1) (p : Placed (start c).args.numbers.now (start c).args.starts.now (start c).args.modules)
-    → Hit p.ms (assoc (start c).args.number (drop (start c).args.from p.ms)) c.before.find.result
-met c p = hit (c.before.find.ensures p) (λ e. c.if1.false (e ∙ sym p.counted))
+    (c : tie.Else-j-modules) (p : Placed (start c).args.numbers.now (start c).args.starts.now (start c).args.modules)
+    → Hit p.ms (assoc (start c).args.number (drop (start c).args.from p.ms)) c.before.find-j.result
+met c p = hit (c.before.find-j.ensures p) (λ e. c.if-j-modules.false (e ∙ sym p.counted))
 
-returns : tie.Need-returns
+returns : tie.Need-returns-then-j-modules
 returns c p takes drives t d =
-    let e = missed (c.before.find.ensures p) (c.if1.true ∙ p.counted) in
+    let e = missed (c.before.find-j.ensures p) (c.if-j-modules.true ∙ p.counted) in
     ap (λ f. submodule_okp f takes drives) (sym e)
 
-mul-module-at : tie.Need-overflow-mul-module-at
+mul-module-at : tie.Need-offset_bounds-starts-j
 mul-module-at c = let h = hit_in (start c).requires.0 (met c (start c).requires.0) in omega arith
 
-shared-slice-read-module-at : tie.Need-shared-slice-read-module-at
+shared-slice-read-module-at : tie.Need-bounds-starts-j
 shared-slice-read-module-at c = let e = c.before in hit_in (start e).requires.0 (met e (start e).requires.0)
 
-module-at-requires : tie.Need-module-at-requires
+module-at-requires : tie.Need-module_at-header-requires
 module-at-requires c κs = let e = c.before in hit-there (start e).requires.0 (met e (start e).requires.0)
 
-returns-2 : tie.Need-returns-2
+returns-2 : tie.Need-returns-then-taken-header
 returns-2 c p takes drives t d =
     let read = c.before.before in
     let h = met read.before.before p in
-    let header = read.module-at.ensures h.m (hit-stands p h) in
-    unfit h.m takes drives _ _ t d _ header.inputs c.if2.true ∙ ap (λ f. submodule_okp f takes drives) (sym h.is)
+    let header = read.module_at-header.ensures h.m (hit-stands p h) in
+    unfit h.m takes drives _ _ t d _ header.inputs c.if-taken-header.true ∙ ap (λ f. submodule_okp f takes drives) (sym h.is)
 
-sub-result : tie.Need-overflow-sub-result
+sub-result : tie.Need-overflow_sub-result
 sub-result c =
     let read = c.before.before.before in
     let p = (start read.before.before).requires.0 in
     let h = met read.before.before p in
-    omega (arith, (read.module-at.ensures h.m (hit-stands p h)).to)
+    omega (arith, (read.module_at-header.ensures h.m (hit-stands p h)).to)
 
-returns-3 : tie.Need-returns-3
+returns-3 : tie.Need-returns
 returns-3 c p takes drives t d =
     let read = c.before.before.before in
     let h = met read.before.before p in
-    let header = read.module-at.ensures h.m (hit-stands p h) in
-    fit h.m takes drives _ _ t d _ _ header.inputs (omega (arith, header.to)) c.before.if2.false
+    let header = read.module_at-header.ensures h.m (hit-stands p h) in
+    fit h.m takes drives _ _ t d _ _ header.inputs (omega (arith, header.to)) c.before.if-taken-header.false
     ∙ ap (λ f. submodule_okp f takes drives) (sym h.is)
 
-pub fits-module-spec : {M : Type 1} → statement M
-fits-module-spec =
+pub fits_module_spec : {M : Type 1} → statement M
+fits_module_spec =
     tie.close
     (tie.spec
     find-requires

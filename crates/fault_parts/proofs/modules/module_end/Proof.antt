@@ -8,45 +8,45 @@ use Rattle.fault_parts.proofs.Placing.{Ahead, ahead-first, ahead_none, turn, the
 use Rattle.fault_parts.proofs.modules.module_end.Statement.{statement}
 use Rattle.fault_parts.proofs.modules.module_end.Tie as tie
 
-abbrev invariant-loop : tie.invariant-loop
+abbrev invariant-loop : tie.invariant-loop-left
 invariant-loop numbers from at₀ left₀ at left = (m : Module) → Stands numbers from (module_numbers m) → Ahead numbers at left (from + length (module_numbers m))
 
-abbrev decreases-loop : tie.decreases-loop
+abbrev decreases-loop : tie.decreases-loop-left
 decreases-loop numbers from at₀ left₀ at left = left
 
-module-at-requires : tie.Need-module-at-requires invariant-loop decreases-loop
+module-at-requires : tie.Need-module_at-header-requires invariant-loop decreases-loop
 module-at-requires c κs = c.before.requires
 
-add_at : tie.Need-overflow-add-at invariant-loop decreases-loop
+add_at : tie.Need-overflow_add-at invariant-loop decreases-loop
 add_at c =
     let start = c.before.before.before in
-    let h = c.before.module-at.ensures start.requires.m start.requires.stands in
+    let h = c.before.module_at-header.ensures start.requires.m start.requires.stands in
     omega (arith, h.body.within, start.well-formed)
 
-loop-holds : tie.Need-loop-init invariant-loop decreases-loop
-loop-holds c m s = ahead-first m (c.before.module-at.ensures m s)
+loop-holds : tie.Need-loop-left-init invariant-loop decreases-loop
+loop-holds c m s = ahead-first m (c.before.module_at-header.ensures m s)
 
-occurrence-at-requires : tie.Need-occurrence-at-requires invariant-loop decreases-loop
+occurrence-at-requires : tie.Need-occurrence_at-o-requires invariant-loop decreases-loop
 occurrence-at-requires c κs =
     let start = c.before.before.before.before.before in
-    there (turn c.loop-test.true (c.before.loop.invariant start.requires.m start.requires.stands))
+    there (turn c.loop-left-test.true (c.before.loop-left.invariant start.requires.m start.requires.stands))
 
-sub-left : tie.Need-overflow-sub-left invariant-loop decreases-loop
+sub-left : tie.Need-overflow_sub-left invariant-loop decreases-loop
 sub-left c = omega arith
 
-loop-less : tie.Need-loop-smaller invariant-loop decreases-loop
+loop-less : tie.Need-loop-left-smaller invariant-loop decreases-loop
 loop-less c = omega arith
 
-loop-again : tie.Need-loop-preserved invariant-loop decreases-loop
+loop-again : tie.Need-loop-left-preserved invariant-loop decreases-loop
 loop-again c m s =
-    let t = turn c.before.loop-test.true (c.before.before.loop.invariant m s) in
-    behind-it t (c.occurrence-at.ensures t.o t.there)
+    let t = turn c.before.loop-left-test.true (c.before.before.loop-left.invariant m s) in
+    behind-it t (c.occurrence_at-o.ensures t.o t.there)
 
 returns : tie.Need-returns invariant-loop decreases-loop
-returns c m s = ahead_none c.loop-test.false (c.before.loop.invariant m s)
+returns c m s = ahead_none c.loop-left-test.false (c.before.loop-left.invariant m s)
 
-pub module-end-spec : {M : Type 1} → statement M
-module-end-spec =
+pub module_end_spec : {M : Type 1} → statement M
+module_end_spec =
     tie.close
     (tie.spec
     invariant-loop

@@ -4,27 +4,27 @@ use Rattle.meaning.specs.Filing.{base}
 use Rattle.filing.proofs.bases.base_of.Statement.{statement}
 use Rattle.filing.proofs.bases.base_of.Tie as tie
 
-returns : tie.Need-returns
+returns : tie.Need-returns-in-65
 unfolding base
-returns c = rw c.match.keys1
+returns c = rw c.in-65.keys1
 
-returns-2 : tie.Need-returns-2
+returns-2 : tie.Need-returns-in-67
 unfolding base
-returns-2 c = rw c.match.keys2
+returns-2 c = rw c.in-67.keys2
 
-returns-3 : tie.Need-returns-3
+returns-3 : tie.Need-returns-in-71
 unfolding base
-returns-3 c = rw c.match.keys3
+returns-3 c = rw c.in-71.keys3
 
-returns-4 : tie.Need-returns-4
+returns-4 : tie.Need-returns-in-84
 unfolding base
-returns-4 c = rw c.match.keys4
+returns-4 c = rw c.in-84.keys4
 
-returns-5 : tie.Need-returns-5
+returns-5 : tie.Need-returns-in_default
 unfolding base
 returns-5 c =
     let byte = c.before.args.byte in
-    let others = c.match.rest in
+    let others = c.in_default.rest in
     rw (
       ne_eqb byte 65 others.0.0.0.1,
       ne_eqb byte 67 others.0.0.1,
@@ -32,5 +32,5 @@ returns-5 c =
       ne_eqb byte 84 others.1,
     )
 
-pub base-of-spec : {M : Type 1} → statement M
-base-of-spec = tie.close (tie.spec returns returns-2 returns-3 returns-4 returns-5)
+pub base_of_spec : {M : Type 1} → statement M
+base_of_spec = tie.close (tie.spec returns returns-2 returns-3 returns-4 returns-5)

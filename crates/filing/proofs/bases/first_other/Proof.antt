@@ -12,10 +12,10 @@ use Rattle.meaning.specs.Filing.{base, first_other}
 use Rattle.filing.proofs.bases.first_other.Statement.{statement}
 use Rattle.filing.proofs.bases.first_other.Tie as tie
 
-abbrev invariant-loop : tie.invariant-loop
+abbrev invariant-loop : tie.invariant-loop-i
 invariant-loop bytes i₀ i = (i ≤ length bytes) × (first_other bytes ≡ i + first_other (drop i bytes))
 
-abbrev decreases-loop : tie.decreases-loop
+abbrev decreases-loop : tie.decreases-loop-i
 decreases-loop bytes i₀ i = length bytes - i
 
 module _ (bytes : List ℕ) (i : ℕ) (inside : i < length bytes) where
@@ -31,45 +31,45 @@ none : (bytes : List ℕ) (i : ℕ) → length bytes ≤ i → first_other (drop
 unfolding first_other
 none bytes i h = ap first_other (drop_of_length-le bytes h)
 
-loop-holds : tie.Need-loop-init invariant-loop decreases-loop
+loop-holds : tie.Need-loop-i-init invariant-loop decreases-loop
 loop-holds c = (omega arith, sym (omega arith))
 
-shared-slice-read-base-of : tie.Need-shared-slice-read-base-of invariant-loop decreases-loop
+shared-slice-read-base-of : tie.Need-bounds-bytes-i invariant-loop decreases-loop
 shared-slice-read-base-of c = omega arith
 
-base-of-requires : tie.Need-base-of-requires invariant-loop decreases-loop
+base-of-requires : tie.Need-base_of-requires invariant-loop decreases-loop
 base-of-requires c κs = search rules
 
-returns : tie.Need-returns invariant-loop decreases-loop
+returns : tie.Need-returns-then-base_of-gt3 invariant-loop decreases-loop
 returns c =
     let t = c.before.before.before in
-    let l = t.before.loop in
+    let l = t.before.loop-i in
     let v = t.before.before.before.args.bytes.now in
-    omega (arith, other v l.i t.loop-test.true (omega (arith, c.if1.true, c.before.base-of.ensures)))
+    omega (arith, other v l.i t.loop-i-test.true (omega (arith, c.if-base_of-gt3.true, c.before.base_of.ensures)))
 
-add-i : tie.Need-overflow-add-i invariant-loop decreases-loop
+add-i : tie.Need-overflow_add-i invariant-loop decreases-loop
 add-i c = omega arith
 
-loop-less : tie.Need-loop-smaller invariant-loop decreases-loop
+loop-less : tie.Need-loop-i-smaller invariant-loop decreases-loop
 loop-less c = omega arith
 
-loop-again : tie.Need-loop-preserved invariant-loop decreases-loop
+loop-again : tie.Need-loop-i-preserved invariant-loop decreases-loop
 loop-again c =
     let t = c.before.before.before in
-    let l = t.before.loop in
+    let l = t.before.loop-i in
     let v = t.before.before.before.args.bytes.now in (
       omega arith,
-      omega (arith, passed v l.i t.loop-test.true (omega (arith, c.if1.false, c.before.base-of.ensures))),
+      omega (arith, passed v l.i t.loop-i-test.true (omega (arith, c.if-base_of-gt3.false, c.before.base_of.ensures))),
     )
 
-returns-2 : tie.Need-returns-2 invariant-loop decreases-loop
+returns-2 : tie.Need-returns invariant-loop decreases-loop
 returns-2 c =
-    let l = c.before.loop in
+    let l = c.before.loop-i in
     let v = c.before.before.before.args.bytes.now in
-    omega (arith, none v l.i c.loop-test.false)
+    omega (arith, none v l.i c.loop-i-test.false)
 
-pub first-other-spec : {M : Type 1} → statement M
-first-other-spec =
+pub first_other_spec : {M : Type 1} → statement M
+first_other_spec =
     tie.close
     (tie.spec
     invariant-loop

@@ -5,21 +5,21 @@ use Rattle.filing.proofs.Calling.{rows_run}
 use Rattle.filing.proofs.counter.run_rows.Statement.{statement}
 use Rattle.filing.proofs.counter.run_rows.Tie as tie
 
-slice-aggregate-evaluate-rows : tie.Need-slice-aggregate-evaluate-rows
+slice-aggregate-evaluate-rows : tie.Need-slice_bounds-evaluate_rows-end
 slice-aggregate-evaluate-rows c = search rules
 
-evaluate-rows-requires : tie.Need-evaluate-rows-requires
+evaluate-rows-requires : tie.Need-evaluate_rows-requires
 evaluate-rows-requires c κs = search rules
 
-same_length : tie.Need-same-length
+same_length : tie.Need-shape_of-outputs
 same_length c = search rules
 
 returns : tie.Need-returns
 returns c r =
     let ran = c.before.before.before in
     let a = ran.before.before.before.before.before.before.args in
-    rows_run a.file.now a.values.now a.outputs.now _ a.rows 158 r (omega arith) ran.evaluate-rows.ensures.settled.answered.out
+    rows_run a.file.now a.values.now a.outputs-1.now _ a.rows 158 r (omega arith) ran.evaluate_rows.ensures.settled.answered.out
 
-pub run-rows-spec : {M : Type 1} → statement M
-run-rows-spec =
+pub run_rows_spec : {M : Type 1} → statement M
+run_rows_spec =
     tie.close (tie.spec slice-aggregate-evaluate-rows evaluate-rows-requires same_length returns)

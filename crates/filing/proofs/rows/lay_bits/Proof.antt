@@ -11,12 +11,12 @@ use Rattle.filing.proofs.Bits.{bits-of-none, bits-of-more}
 use Rattle.filing.proofs.rows.lay_bits.Statement.{statement}
 use Rattle.filing.proofs.rows.lay_bits.Tie as tie
 
-abbrev invariant-loop : tie.invariant-loop
+abbrev invariant-loop : tie.invariant-loop-left
 invariant-loop bases bits₀ left₀ at₀ bits left at =
     (left ≤ length bases) × (at + 2 * left ≡ 2 * length bases) × (length bits ≡ length bits₀)
     × (bits ≡ map bit (word_bits (drop left bases)) ++ drop at bits₀)
 
-abbrev decreases-loop : tie.decreases-loop
+abbrev decreases-loop : tie.decreases-loop-left
 decreases-loop bases bits₀ left₀ at₀ bits left at = left
 
 again :
@@ -41,55 +41,55 @@ finished :
     → bits ≡ map bit (word_bits bases) ++ drop (2 * length bases) bits₀
 finished bases bits₀ bits left at none all is = is ∙ rw (none, all)
 
-loop-holds : tie.Need-loop-init invariant-loop decreases-loop
+loop-holds : tie.Need-loop-left-init invariant-loop decreases-loop
 loop-holds c = (omega arith, omega arith, refl, bits-of-none c.before.before.args.bases.now c.before.before.args.bits.now)
 
-sub-left : tie.Need-overflow-sub-left invariant-loop decreases-loop
+sub-left : tie.Need-overflow_sub-left invariant-loop decreases-loop
 sub-left c = omega arith
 
-shared-slice-read-base-of : tie.Need-shared-slice-read-base-of invariant-loop decreases-loop
+shared-slice-read-base-of : tie.Need-bounds-bases-left invariant-loop decreases-loop
 shared-slice-read-base-of c = omega arith
 
-base-of-requires : tie.Need-base-of-requires invariant-loop decreases-loop
+base-of-requires : tie.Need-base_of-base-requires invariant-loop decreases-loop
 base-of-requires c κs = search rules
 
-slice-write-bits : tie.Need-slice-write-bits invariant-loop decreases-loop
+slice-write-bits : tie.Need-bounds-bits-at invariant-loop decreases-loop
 slice-write-bits c = omega arith
 
-add-bits : tie.Need-overflow-add-bits invariant-loop decreases-loop
+add-bits : tie.Need-overflow_add-bits invariant-loop decreases-loop
 add-bits c = omega arith
 
-slice-write-bits-2 : tie.Need-slice-write-bits-2 invariant-loop decreases-loop
+slice-write-bits-2 : tie.Need-bounds-bits-at-in-loop-left invariant-loop decreases-loop
 slice-write-bits-2 c = simp length-set (omega arith)
 
-add_at : tie.Need-overflow-add-at invariant-loop decreases-loop
+add_at : tie.Need-overflow_add-at invariant-loop decreases-loop
 add_at c = omega arith
 
-loop-less : tie.Need-loop-smaller invariant-loop decreases-loop
+loop-less : tie.Need-loop-left-smaller invariant-loop decreases-loop
 loop-less c = omega arith
 
-loop-again : tie.Need-loop-preserved invariant-loop decreases-loop
+loop-again : tie.Need-loop-left-preserved invariant-loop decreases-loop
 loop-again c =
-    let l = c.before.before.before.loop in
+    let l = c.before.before.before.loop-left in
     let a = c.before.before.before.before.before.before.args in (
       omega arith,
       omega arith,
       simp length-set (omega arith),
-      again a.bases.now a.bits.now l.bits l.left l.at c.base-of.result (omega arith) (omega arith) (omega arith)
-          (omega arith) l.invariant.3 c.base-of.ensures,
+      again a.bases.now a.bits.now l.bits l.left l.at c.base_of-base.result (omega arith) (omega arith) (omega arith)
+          (omega arith) l.invariant.3 c.base_of-base.ensures,
     )
 
-same_length : tie.Need-same-length invariant-loop decreases-loop
+same_length : tie.Need-shape_of-bits invariant-loop decreases-loop
 same_length c = omega arith
 
 returns : tie.Need-returns invariant-loop decreases-loop
 returns c =
-    let l = c.before.loop in
+    let l = c.before.loop-left in
     let a = c.before.before.before.before.args in
     finished a.bases.now a.bits.now l.bits l.left l.at (omega arith) (omega arith) l.invariant.3
 
-pub lay-bits-spec : {M : Type 1} → statement M
-lay-bits-spec =
+pub lay_bits_spec : {M : Type 1} → statement M
+lay_bits_spec =
     tie.close
     (tie.spec
     invariant-loop

@@ -10,11 +10,11 @@ use lib.Seq.{get_or-set_same, get_or-set_other}
 use Rattle.filing.proofs.rows.lay_row.Statement.{statement}
 use Rattle.filing.proofs.rows.lay_row.Tie as tie
 
-abbrev invariant-loop : tie.invariant-loop
+abbrev invariant-loop : tie.invariant-loop-j
 invariant-loop bits from mask row₀ laid j₀ row j =
     (j ≤ 32) × (length row ≡ length row₀) × ((k : ℕ) → k < j → get_or row k 0 ≡ get_or laid k 0)
 
-abbrev decreases-loop : tie.decreases-loop
+abbrev decreases-loop : tie.decreases-loop-j
 decreases-loop bits from mask row₀ laid j₀ row j = 32 - j
 
 again :
@@ -26,32 +26,32 @@ again laid row j inside all =
     (get_or-set_same row j (get_or laid j 0) 0 inside)
 
 -- Where the row was made, and the entry.
-abbrev made : tie.At-loop invariant-loop decreases-loop → tie.After-masked invariant-loop decreases-loop
+abbrev made : tie.At-loop-j invariant-loop decreases-loop → tie.After-masked-laid invariant-loop decreases-loop
 made c = c.before
 
-abbrev entry : tie.After-masked invariant-loop decreases-loop → tie.Start invariant-loop decreases-loop
+abbrev entry : tie.After-masked-laid invariant-loop decreases-loop → tie.Start invariant-loop decreases-loop
 entry c = c.before.before.before
 
-loop-again : tie.Need-loop-preserved invariant-loop decreases-loop
+loop-again : tie.Need-loop-j-preserved invariant-loop decreases-loop
 loop-again c =
-    let l = c.before.loop in
+    let l = c.before.loop-j in
     let s = entry (made c.before) in (
       omega arith,
       simp length-set (omega arith),
-      again (made c.before).masked.result l.row l.j (omega (arith, s.pre.whole)) l.invariant.2,
+      again (made c.before).masked-laid.result l.row l.j (omega (arith, s.requires.whole)) l.invariant.2,
     )
 
 returns : tie.Need-returns invariant-loop decreases-loop
 returns c =
-    let l = c.before.loop in
+    let l = c.before.loop-j in
     let m = made c.before in
     record {
-      whole = omega (arith, (entry m).pre.whole);
-      at = λ k h. l.invariant.2 k (omega arith) ∙ m.masked.ensures.at k h;
+      whole = omega (arith, (entry m).requires.whole);
+      at = λ k h. l.invariant.2 k (omega arith) ∙ m.masked-laid.ensures.at k h;
     }
 
-pub lay-row-spec : {M : Type 1} → statement M
-lay-row-spec =
+pub lay_row_spec : {M : Type 1} → statement M
+lay_row_spec =
     tie.close
     (tie.spec
     invariant-loop
@@ -59,7 +59,7 @@ lay-row-spec =
     (λ c κs. search rules)
     (λ c. (omega arith, refl, below_none _))
     (λ c. omega arith)
-    (λ c. omega (arith, (entry (made c.before)).pre.whole))
+    (λ c. omega (arith, (entry (made c.before)).requires.whole))
     (λ c. omega arith)
     (λ c. omega arith)
     loop-again

@@ -10,80 +10,80 @@ use Rattle.filing.proofs.Parts.{rowed_more}
 use Rattle.filing.proofs.rows.lay_rows.Statement.{statement}
 use Rattle.filing.proofs.rows.lay_rows.Tie as tie
 
-abbrev invariant-loop : tie.invariant-loop
+abbrev invariant-loop : tie.invariant-loop-i
 invariant-loop count bits mask values₀ from₀ i₀ values from i =
     (i ≤ count) × (from + 2 * i ≡ 2 * count) × Rowed count bits mask i values
 
-abbrev decreases-loop : tie.decreases-loop
+abbrev decreases-loop : tie.decreases-loop-i
 decreases-loop count bits mask values₀ from₀ i₀ values from i = count - i
 
 -- Where the function began, from a turn of its loop.
-abbrev start : tie.At-loop invariant-loop decreases-loop → tie.Start invariant-loop decreases-loop
+abbrev start : tie.At-loop-i invariant-loop decreases-loop → tie.Start invariant-loop decreases-loop
 start c = c.before.before.before
 
-mul-from : tie.Need-overflow-mul-from invariant-loop decreases-loop
+mul-from : tie.Need-overflow_mul-from invariant-loop decreases-loop
 mul-from c = omega (arith, c.before.before.requires.most)
 
-loop-holds : tie.Need-loop-init invariant-loop decreases-loop
+loop-holds : tie.Need-loop-i-init invariant-loop decreases-loop
 loop-holds c =
     (omega arith, omega arith, record { whole = c.before.before.requires.whole; row = below_none _ })
 
-sub-from : tie.Need-overflow-sub-from invariant-loop decreases-loop
-sub-from c = omega (arith, c.before.loop.invariant.1, c.loop-test.true)
+sub-from : tie.Need-overflow_sub-from invariant-loop decreases-loop
+sub-from c = omega (arith, c.before.loop-i.invariant.1, c.loop-i-test.true)
 
-mul_at : tie.Need-overflow-mul-at invariant-loop decreases-loop
-mul_at c = omega (arith, (start c.before).pre.most, c.loop-test.true)
+mul_at : tie.Need-overflow_mul-at invariant-loop decreases-loop
+mul_at c = omega (arith, (start c.before).requires.most, c.loop-i-test.true)
 
-add-end : tie.Need-overflow-add-end invariant-loop decreases-loop
-add-end c = omega (arith, (start c.before).pre.most, c.loop-test.true)
+add-end : tie.Need-overflow_add-end invariant-loop decreases-loop
+add-end c = omega (arith, (start c.before).requires.most, c.loop-i-test.true)
 
-sub-lay-row : tie.Need-overflow-sub-lay-row invariant-loop decreases-loop
+sub-lay-row : tie.Need-slice_bounds-lay_row-count invariant-loop decreases-loop
 sub-lay-row c = omega arith
 
-part-lay-row-start : tie.Need-slice-bounds-lay-row-start invariant-loop decreases-loop
+part-lay-row-start : tie.Need-slice_bounds-lay_row-start invariant-loop decreases-loop
 part-lay-row-start c = omega arith
 
-part-lay-row-end : tie.Need-slice-bounds-lay-row-end invariant-loop decreases-loop
-part-lay-row-end c = omega (arith, c.before.loop.invariant.2.whole, c.loop-test.true)
+part-lay-row-end : tie.Need-slice_bounds-lay_row-end invariant-loop decreases-loop
+part-lay-row-end c = omega (arith, c.before.loop-i.invariant.2.whole, c.loop-i-test.true)
 
-lay-row-requires : tie.Need-lay-row-requires invariant-loop decreases-loop
+lay-row-requires : tie.Need-lay_row-requires invariant-loop decreases-loop
 lay-row-requires c κs =
-    let l = c.before.before.loop in
-    let p = (start c.before.before).pre in
-    let within : l.i * 32 + 32 ≤ length l.values = omega (arith, l.invariant.2.whole, c.before.loop-test.true) in
+    let l = c.before.before.loop-i in
+    let p = (start c.before.before).requires in
+    let within : l.i * 32 + 32 ≤ length l.values-1 = omega (arith, l.invariant.2.whole, c.before.loop-i-test.true) in
     record {
       long = omega (arith, l.invariant.1, p.long);
-      whole = mid_len (l.i * 32) (l.i * 32 + 32) l.values within ∙ omega arith;
+      whole = mid_len (l.i * 32) (l.i * 32 + 32) l.values-1 within ∙ omega arith;
     }
 
-add-i : tie.Need-overflow-add-i invariant-loop decreases-loop
+add-i : tie.Need-overflow_step-i invariant-loop decreases-loop
 add-i c = omega arith
 
-loop-less : tie.Need-loop-smaller invariant-loop decreases-loop
+loop-less : tie.Need-loop-i-smaller invariant-loop decreases-loop
 loop-less c = omega arith
 
-loop-again : tie.Need-loop-preserved invariant-loop decreases-loop
+loop-again : tie.Need-loop-i-preserved invariant-loop decreases-loop
 loop-again c =
     let laid = c.before.before in
     let turn = laid.before.before in
-    let l = turn.before.loop in (
+    let l = turn.before.loop-i in (
       omega arith,
-      omega (arith, l.invariant.1, turn.loop-test.true),
-      rowed_more l.invariant.2 turn.loop-test.true _ (l.from - 2) (omega (arith, l.invariant.1)) laid.lay-row.ensures,
+      omega (arith, l.invariant.1, turn.loop-i-test.true),
+      rowed_more l.invariant.2 turn.loop-i-test.true _ (l.from - 2) (omega (arith, l.invariant.1)) laid.lay_row.ensures,
     )
 
-same_length : tie.Need-same-length invariant-loop decreases-loop
-same_length c = omega (arith, c.before.loop.invariant.2.whole, (start c.before).pre.whole)
+same_length : tie.Need-shape_of-values invariant-loop decreases-loop
+same_length c = omega (arith, c.before.loop-i.invariant.2.whole, (start c.before).requires.whole)
 
 returns : tie.Need-returns invariant-loop decreases-loop
 returns c =
-    let l = c.before.loop in
+    let l = c.before.loop-i in
     let a = (start c.before).args in
     let all : l.i ≡ a.count = omega arith in
-    subst (λ n. Rowed a.count a.bits.now a.mask.now n l.values) all l.invariant.2
+    subst (λ n. Rowed a.count a.bits.now a.mask.now n l.values-1) all l.invariant.2
 
-pub lay-rows-spec : {M : Type 1} → statement M
-lay-rows-spec =
+pub lay_rows_spec : {M : Type 1} → statement M
+lay_rows_spec =
     tie.close
     (tie.spec
     invariant-loop

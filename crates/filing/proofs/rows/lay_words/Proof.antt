@@ -4,28 +4,28 @@ use Rattle.filing.proofs.Masking.{words-laid}
 use Rattle.filing.proofs.rows.lay_words.Statement.{statement}
 use Rattle.filing.proofs.rows.lay_words.Tie as tie
 
-lay-bits-requires : tie.Need-lay-bits-requires
+lay-bits-requires : tie.Need-lay_bits-requires
 lay-bits-requires c κs = search rules
 
-mul-mask-of : tie.Need-overflow-mul-mask-of
+mul-mask-of : tie.Need-overflow_mul-letters
 mul-mask-of c = search rules
 
-mask-of-requires : tie.Need-mask-of-requires
+mask-of-requires : tie.Need-mask_of-mask-requires
 mask-of-requires c κs = search rules
 
-add-lay-rows : tie.Need-overflow-add-lay-rows
+add-lay-rows : tie.Need-overflow_add-bases
 add-lay-rows c = search rules
 
-sub-lay-rows : tie.Need-overflow-sub-lay-rows
+sub-lay-rows : tie.Need-overflow_sub-bases
 sub-lay-rows c = search rules
 
-lay-rows-requires : tie.Need-lay-rows-requires
+lay-rows-requires : tie.Need-lay_rows-requires
 lay-rows-requires c κs = search rules
 
-same_length : tie.Need-same-length
+same_length : tie.Need-shape_of-bits
 same_length c = search rules
 
-same-length-2 : tie.Need-same-length-2
+same-length-2 : tie.Need-shape_of-values
 same-length-2 c = search rules
 
 returns : tie.Need-returns
@@ -34,10 +34,10 @@ returns c =
     let masked = laid.before.before.before.before in
     let listed = masked.before.before.before in
     let s = listed.before.before.before.before.before in
-    words-laid s.args.bases.now s.args.letters _ _ _ _ s.requires listed.lay-bits.ensures masked.mask-of.ensures laid.lay-rows.ensures
+    words-laid s.args.bases.now s.args.letters _ _ _ _ s.requires listed.lay_bits.ensures masked.mask_of-mask.ensures laid.lay_rows.ensures
 
-pub lay-words-spec : {M : Type 1} → statement M
-lay-words-spec =
+pub lay_words_spec : {M : Type 1} → statement M
+lay_words_spec =
     tie.close
     (tie.spec
     lay-bits-requires

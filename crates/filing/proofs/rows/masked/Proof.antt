@@ -13,11 +13,11 @@ use Rattle.filing.proofs.rows.masked.Tie as tie
 abbrev masked_at : (bits : List ℕ) (from : ℕ) (mask row : List ℕ) → ℕ → Type 0
 masked_at bits from mask row k = get_or row k 0 ≡ bit_and (get_or bits (from + k) 0) (get_or mask k 0)
 
-abbrev invariant-loop : tie.invariant-loop
+abbrev invariant-loop : tie.invariant-loop-j
 invariant-loop bits from mask row₀ j₀ row j =
     (j ≤ 32) × (length row ≡ 32) × ((k : ℕ) → k < j → masked_at bits from mask row k)
 
-abbrev decreases-loop : tie.decreases-loop
+abbrev decreases-loop : tie.decreases-loop-j
 decreases-loop bits from mask row₀ j₀ row j = 32 - j
 
 again :
@@ -31,22 +31,22 @@ again bits from mask row j inside all =
     (λ k l. get_or-set_other row j k here 0 (λ e. omega arith) ∙ all k l)
     (get_or-set_same row j here 0 inside)
 
-loop-again : tie.Need-loop-preserved invariant-loop decreases-loop
+loop-again : tie.Need-loop-j-preserved invariant-loop decreases-loop
 loop-again c =
-    let l = c.before.before.before.loop in
+    let l = c.before.before.before.loop-j in
     let a = c.before.before.before.before.args in (
       omega arith,
       simp length-set (omega arith),
-      again a.bits.now a.from a.mask.now l.row l.j (omega arith) l.invariant.2,
+      again a.bits.now a.from a.mask.now l.row-1 l.j (omega arith) l.invariant.2,
     )
 
 returns : tie.Need-returns invariant-loop decreases-loop
 returns c =
-    let l = c.before.loop in
+    let l = c.before.loop-j in
     record { whole = l.invariant.1; at = λ k h. l.invariant.2 k (omega arith) }
 
-pub masked-spec : {M : Type 1} → statement M
-masked-spec =
+pub masked_spec : {M : Type 1} → statement M
+masked_spec =
     tie.close
     (tie.spec
     invariant-loop

@@ -4,31 +4,31 @@ use borrow.Author.Rules.{rules}
 use Rattle.filing.proofs.sequences.fill.Statement.{statement}
 use Rattle.filing.proofs.sequences.fill.Tie as tie
 
-counter-file-requires : tie.Need-counter-file-requires
+counter-file-requires : tie.Need-counter_file-file-requires
 counter-file-requires c κs = search rules
 
 clear-requires : tie.Need-clear-requires
 clear-requires c κs = search rules
 
-slice-aggregate-add-blocks : tie.Need-slice-aggregate-add-blocks
+slice-aggregate-add-blocks : tie.Need-slice_bounds-add_blocks-end
 slice-aggregate-add-blocks c = search rules
 
-slice-aggregate-add-blocks-2 : tie.Need-slice-aggregate-add-blocks-2
+slice-aggregate-add-blocks-2 : tie.Need-slice_bounds-add_blocks-end-2
 slice-aggregate-add-blocks-2 c = search rules
 
-slice-aggregate-add-blocks-3 : tie.Need-slice-aggregate-add-blocks-3
+slice-aggregate-add-blocks-3 : tie.Need-slice_bounds-add_blocks-end-3
 slice-aggregate-add-blocks-3 c = search rules
 
-slice-aggregate-add-blocks-4 : tie.Need-slice-aggregate-add-blocks-4
+slice-aggregate-add-blocks-4 : tie.Need-slice_bounds-add_blocks-end-4
 slice-aggregate-add-blocks-4 c = search rules
 
-add-blocks-requires : tie.Need-add-blocks-requires
+add-blocks-requires : tie.Need-add_blocks-requires
 add-blocks-requires c κs =
     let cleared = c.before.before.before.before.before.before.before in
     let wrote = cleared.before.before in
     let s = wrote.before.before.before in
     record {
-      written = wrote.counter-file.ensures;
+      written = wrote.counter_file-file.ensures;
       word = s.requires.word;
       short = s.requires.short;
       bits-long = refl;
@@ -37,7 +37,7 @@ add-blocks-requires c κs =
       empty = cleared.clear.ensures;
     }
 
-same_length : tie.Need-same-length
+same_length : tie.Need-shape_of-table
 same_length c = search rules
 
 returns : tie.Need-returns

@@ -8,86 +8,86 @@ use Rattle.filing.proofs.Adding.{index-inside, count_fits, one-shelf-more, table
 use Rattle.filing.proofs.shelves.add_shelves.Statement.{statement}
 use Rattle.filing.proofs.shelves.add_shelves.Tie as tie
 
-abbrev invariant-loop : tie.invariant-loop
+abbrev invariant-loop : tie.invariant-loop-i
 invariant-loop rows outputs table₀ i₀ table i = (i ≤ rows) × (table ≡ add_each (shelves_in i outputs) table₀)
 
-abbrev decreases-loop : tie.decreases-loop
+abbrev decreases-loop : tie.decreases-loop-i
 decreases-loop rows outputs table₀ i₀ table i = rows - i
 
-loop-holds : tie.Need-loop-init invariant-loop decreases-loop
+loop-holds : tie.Need-loop-i-init invariant-loop decreases-loop
 unfolding add_each shelves_in
 loop-holds c = (omega arith, refl)
 
-mul-shelf-at : tie.Need-overflow-mul-shelf-at invariant-loop decreases-loop
+mul-shelf-at : tie.Need-overflow_mul-i invariant-loop decreases-loop
 mul-shelf-at c = omega (arith, c.before.before.before.before.requires.long)
 
-shelf-at-requires : tie.Need-shelf-at-requires invariant-loop decreases-loop
+shelf-at-requires : tie.Need-shelf_at-shelf-requires invariant-loop decreases-loop
 shelf-at-requires c κs = omega (arith, c.before.before.before.before.requires.long)
 
-mul-table : tie.Need-overflow-mul-table invariant-loop decreases-loop
+mul-table : tie.Need-offset_bounds-table-shelf invariant-loop decreases-loop
 mul-table c =
-    let l = c.before.before.loop in
+    let l = c.before.before.loop-i in
     let s = c.before.before.before.before.before in
-    omega (arith, s.requires.whole, table_kept s.args.outputs.now s.args.table.now l.table l.i l.invariant.1, index-inside s.requires l.table l.i _ c.before.loop-test.true l.invariant.1 c.shelf-at.ensures)
+    omega (arith, s.requires.whole, table_kept s.args.outputs.now s.args.table.now l.table l.i l.invariant.1, index-inside s.requires l.table l.i _ c.before.loop-i-test.true l.invariant.1 c.shelf_at-shelf.ensures)
 
-slice-read-table : tie.Need-slice-read-table invariant-loop decreases-loop
+slice-read-table : tie.Need-bounds-table-shelf invariant-loop decreases-loop
 slice-read-table c =
     let t = c.before in
-    let l = t.before.before.loop in
+    let l = t.before.before.loop-i in
     let s = t.before.before.before.before.before in
-    index-inside s.requires l.table l.i _ t.before.loop-test.true l.invariant.1 t.shelf-at.ensures
+    index-inside s.requires l.table l.i _ t.before.loop-i-test.true l.invariant.1 t.shelf_at-shelf.ensures
 
-add-table : tie.Need-overflow-add-table invariant-loop decreases-loop
+add-table : tie.Need-overflow_add-table invariant-loop decreases-loop
 add-table c =
     let t = c.before in
-    let l = t.before.before.loop in
+    let l = t.before.before.loop-i in
     let s = t.before.before.before.before.before in
-    omega (arith, count_fits s.requires l.table l.i _ t.before.loop-test.true l.invariant.1 t.shelf-at.ensures)
+    omega (arith, count_fits s.requires l.table l.i _ t.before.loop-i-test.true l.invariant.1 t.shelf_at-shelf.ensures)
 
-mul-table-2 : tie.Need-overflow-mul-table-2 invariant-loop decreases-loop
+mul-table-2 : tie.Need-offset_bounds-table-shelf-in-loop-i invariant-loop decreases-loop
 mul-table-2 c =
     let t = c.before in
-    let l = t.before.before.loop in
+    let l = t.before.before.loop-i in
     let s = t.before.before.before.before.before in
-    omega (arith, s.requires.whole, table_kept s.args.outputs.now s.args.table.now l.table l.i l.invariant.1, index-inside s.requires l.table l.i _ t.before.loop-test.true l.invariant.1 t.shelf-at.ensures)
+    omega (arith, s.requires.whole, table_kept s.args.outputs.now s.args.table.now l.table l.i l.invariant.1, index-inside s.requires l.table l.i _ t.before.loop-i-test.true l.invariant.1 t.shelf_at-shelf.ensures)
 
-slice-write-table : tie.Need-slice-write-table invariant-loop decreases-loop
+slice-write-table : tie.Need-bounds-table-shelf-in-loop-i invariant-loop decreases-loop
 slice-write-table c =
     let t = c.before in
-    let l = t.before.before.loop in
+    let l = t.before.before.loop-i in
     let s = t.before.before.before.before.before in
-    index-inside s.requires l.table l.i _ t.before.loop-test.true l.invariant.1 t.shelf-at.ensures
+    index-inside s.requires l.table l.i _ t.before.loop-i-test.true l.invariant.1 t.shelf_at-shelf.ensures
 
-add-i : tie.Need-overflow-add-i invariant-loop decreases-loop
+add-i : tie.Need-overflow_step-i invariant-loop decreases-loop
 add-i c = omega arith
 
-loop-less : tie.Need-loop-smaller invariant-loop decreases-loop
+loop-less : tie.Need-loop-i-smaller invariant-loop decreases-loop
 loop-less c = omega arith
 
-loop-again : tie.Need-loop-preserved invariant-loop decreases-loop
+loop-again : tie.Need-loop-i-preserved invariant-loop decreases-loop
 loop-again c =
     let t = c.before in
-    let l = t.before.before.loop in
+    let l = t.before.before.loop-i in
     let s = t.before.before.before.before.before in (
       omega arith,
-      one-shelf-more s.requires l.table l.i _ t.before.loop-test.true l.invariant.1 t.shelf-at.ensures,
+      one-shelf-more s.requires l.table l.i _ t.before.loop-i-test.true l.invariant.1 t.shelf_at-shelf.ensures,
     )
 
-same_length : tie.Need-same-length invariant-loop decreases-loop
+same_length : tie.Need-shape_of-table invariant-loop decreases-loop
 same_length c =
-    let l = c.before.loop in
+    let l = c.before.loop-i in
     let s = c.before.before.before.before in
     table_kept s.args.outputs.now s.args.table.now l.table l.i l.invariant.1
 
 returns : tie.Need-returns invariant-loop decreases-loop
 returns c =
-    let l = c.before.loop in
+    let l = c.before.loop-i in
     let s = c.before.before.before.before in
     let all : l.i ≡ s.args.rows = omega arith in
     l.invariant.1 ∙ ap (λ n. add_each (shelves_in n s.args.outputs.now) s.args.table.now) all
 
-pub add-shelves-spec : {M : Type 1} → statement M
-add-shelves-spec =
+pub add_shelves_spec : {M : Type 1} → statement M
+add_shelves_spec =
     tie.close
     (tie.spec
     invariant-loop

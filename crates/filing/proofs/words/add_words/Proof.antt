@@ -7,33 +7,33 @@ use Rattle.filing.proofs.Tallying.{shelves_of-words, addable-words}
 use Rattle.filing.proofs.words.add_words.Statement.{statement}
 use Rattle.filing.proofs.words.add_words.Tie as tie
 
-run-words-requires : tie.Need-run-words-requires
+run-words-requires : tie.Need-run_words-requires
 run-words-requires c κs = search rules
 
-add-add-shelves : tie.Need-overflow-add-add-shelves
+add-add-shelves : tie.Need-overflow_add-bases
 add-add-shelves c = search rules
 
-sub-add-shelves : tie.Need-overflow-sub-add-shelves
+sub-add-shelves : tie.Need-overflow_sub-bases
 sub-add-shelves c = search rules
 
-add-shelves-requires : tie.Need-add-shelves-requires
+add-shelves-requires : tie.Need-add_shelves-requires
 add-shelves-requires c κs =
     let ran = c.before.before.before.before.before.before.before.before in
     let s = ran.before.before.before.before.before.before.before.before.before.before in
     let layable = s.requires.0.layable in
-    addable-words s.args.bases.now _ s.args.letters layable.few ran.run-words.ensures s.requires.1
+    addable-words s.args.bases.now _ s.args.letters layable.few ran.run_words.ensures s.requires.1
     (omega (arith, layable.words, layable.most))
 
-same_length : tie.Need-same-length
+same_length : tie.Need-shape_of-bits
 same_length c = search rules
 
-same-length-2 : tie.Need-same-length-2
+same-length-2 : tie.Need-shape_of-values
 same-length-2 c = search rules
 
-same-length-3 : tie.Need-same-length-3
+same-length-3 : tie.Need-shape_of-outputs
 same-length-3 c = search rules
 
-same-length-4 : tie.Need-same-length-4
+same-length-4 : tie.Need-shape_of-table
 same-length-4 c = search rules
 
 returns : tie.Need-returns
@@ -41,12 +41,12 @@ returns c =
     let added = c.before.before in
     let ran = added.before.before.before.before.before.before.before.before.before in
     let s = ran.before.before.before.before.before.before.before.before.before.before in
-    added.add-shelves.ensures
-    ∙ ap (λ l. add_each l s.args.table.now)
-    (shelves_of-words s.args.bases.now _ s.args.letters s.requires.0.layable.few ran.run-words.ensures)
+    added.add_shelves.ensures
+    ∙ ap (λ l. add_each l s.args.table-1.now)
+    (shelves_of-words s.args.bases.now _ s.args.letters s.requires.0.layable.few ran.run_words.ensures)
 
-pub add-words-spec : {M : Type 1} → statement M
-add-words-spec =
+pub add_words_spec : {M : Type 1} → statement M
+add_words_spec =
     tie.close
     (tie.spec
     run-words-requires

@@ -49,23 +49,23 @@ module _ {kind net : ℕ} {image : List ℕ} {from to : ℕ} {scratch bytes : Li
       takes-left = laying-more (number_bytes kind) takes kind-left
 
 -- Where the first piece is put, to the start; from each piece to the one before it are four places.
-abbrev start : tie.After-put → tie.Start
+abbrev start : tie.After-put-drives → tie.Start
 start c = let lists = c.before.before in lists.before.before.before
 
-put-requires-2 : tie.Need-put-requires-2
+put-requires-2 : tie.Need-put-refers-requires
 put-requires-2 c κs =
     let one = c.before.before.before in
     let able = (start one).requires in
-    (small-net able, laying-piece (number_bytes _) _ (net-left able one.put.ensures))
+    (small-net able, laying-piece (number_bytes _) _ (net-left able one.put-drives.ensures))
 
-put-requires-3 : tie.Need-put-requires-3
+put-requires-3 : tie.Need-put-takes-requires
 put-requires-3 c κs =
     let two = c.before.before.before in
     let one = two.before.before.before.before in
     let able = (start one).requires in
-    (able.within.refers, laying-piece (number_bytes _) _ (kind-left able one.put.ensures two.put2.ensures))
+    (able.within.refers, laying-piece (number_bytes _) _ (kind-left able one.put-drives.ensures two.put-refers.ensures))
 
-put-requires-4 : tie.Need-put-requires-4
+put-requires-4 : tie.Need-put-requires
 put-requires-4 c κs =
     let three = c.before.before.before in
     let two = three.before.before.before.before in
@@ -74,7 +74,7 @@ put-requires-4 c κs =
     record {
       readable = able.readable;
       within = able.within.takes;
-      room = laying-room (takes-left able one.put.ensures two.put2.ensures three.put3.ensures);
+      room = laying-room (takes-left able one.put-drives.ensures two.put-refers.ensures three.put-takes.ensures);
     }
 
 returns : tie.Need-returns
@@ -83,10 +83,10 @@ returns c =
     let three = four.before.before.before.before in
     let two = three.before.before.before.before in
     let one = two.before.before.before.before in
-    laying-last (takes-left (start one).requires one.put.ensures two.put2.ensures three.put3.ensures) four.put4.ensures
+    laying-last (takes-left (start one).requires one.put-drives.ensures two.put-refers.ensures three.put-takes.ensures) four.put.ensures
 
-pub set-gate-spec : {M : Type 1} → statement M
-set-gate-spec =
+pub set_gate_spec : {M : Type 1} → statement M
+set_gate_spec =
     tie.close
     (tie.spec
     (λ c κs. (omega arith, laying-piece (number_bytes 1) _ (all_left c.before.before.before.before.requires)))

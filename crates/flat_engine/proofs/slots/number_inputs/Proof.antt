@@ -10,38 +10,38 @@ use Rattle.flat_engine.proofs.Filling.{Filling, filling-none, filling-length, fi
 use Rattle.flat_engine.proofs.slots.number_inputs.Statement.{statement}
 use Rattle.flat_engine.proofs.slots.number_inputs.Tie as tie
 
-abbrev invariant-loop : tie.invariant-loop
+abbrev invariant-loop : tie.invariant-loop-i
 invariant-loop count scratch₀ net₀ i₀ scratch net i = Filling scratch₀ 0 (up_from 0 count) i scratch × (net ≡ i)
 
-abbrev decreases-loop : tie.decreases-loop
+abbrev decreases-loop : tie.decreases-loop-i
 decreases-loop count scratch₀ net₀ i₀ scratch net i = count - i
 
-loop-holds : tie.Need-loop-init invariant-loop decreases-loop
+loop-holds : tie.Need-loop-i-init invariant-loop decreases-loop
 loop-holds c =
     let count = c.args.count in
     (filling-none c.args.scratch.now 0 (up_from 0 count) (omega (arith, length-up_from 0 count)), refl)
 
-slice-write-scratch : tie.Need-slice-write-scratch invariant-loop decreases-loop
-slice-write-scratch c = omega (arith, filling-length c.before.loop.invariant.0)
+slice-write-scratch : tie.Need-bounds-scratch-i invariant-loop decreases-loop
+slice-write-scratch c = omega (arith, filling-length c.before.loop-i.invariant.0)
 
-loop-again : tie.Need-loop-preserved invariant-loop decreases-loop
+loop-again : tie.Need-loop-i-preserved invariant-loop decreases-loop
 loop-again c =
     let count = c.before.before.args.count in
-    let i = c.before.loop.i in
-    let inv = c.before.loop.invariant in (
+    let i = c.before.loop-i.i in
+    let inv = c.before.loop-i.invariant in (
       filling-more inv.0 (omega (arith, length-up_from 0 count)) (omega arith)
-          (inv.1 ∙ sym (run_at 0 count i c.loop-test.true ∙ omega arith)),
+          (inv.1 ∙ sym (run_at 0 count i c.loop-i-test.true ∙ omega arith)),
       omega arith,
     )
 
-same_length : tie.Need-same-length invariant-loop decreases-loop
-same_length c = filling-length c.before.loop.invariant.0
+same_length : tie.Need-shape_of-scratch invariant-loop decreases-loop
+same_length c = filling-length c.before.loop-i.invariant.0
 
 returns : tie.Need-returns invariant-loop decreases-loop
-returns c = filling-all c.before.loop.invariant.0 (omega (arith, length-up_from 0 c.before.before.args.count))
+returns c = filling-all c.before.loop-i.invariant.0 (omega (arith, length-up_from 0 c.before.before.args.count))
 
-pub number-inputs-spec : {M : Type 1} → statement M
-number-inputs-spec =
+pub number_inputs_spec : {M : Type 1} → statement M
+number_inputs_spec =
     tie.close
     (tie.spec
     invariant-loop

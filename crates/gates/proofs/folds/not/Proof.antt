@@ -13,5 +13,5 @@ one-and : (v : Val) → step Odd (known true) v ≡ negation v
 unfolding step negation by_fillings
 one-and = each (λ v. step Odd (known true) v ≡ negation v) (refl, refl, refl)
 
-pub not-spec : {M : Type 1} → statement M
-not-spec = tie.close (tie.spec (λ c κs. search rules) (λ c. c.step.ensures ∙ ap code (one-and (value c.before.args.a))))
+pub not_spec : {M : Type 1} → statement M
+not_spec = tie.close (tie.spec (λ c κs. search rules) (λ c. c.step.ensures ∙ ap code (one-and (value c.before.args.a))))

@@ -12,28 +12,28 @@ use Rattle.image.specs.Pieces.{occurrence-at}
 use Rattle.image.proofs.places.by_counts.Statement.{statement}
 use Rattle.image.proofs.places.by_counts.Tie as tie
 
-entry-requires : tie.Need-entry-requires
+entry-requires : tie.Need-entry-drives-requires
 entry-requires c κs = let p = c.before.requires in omega (arith, (occurrence-at p.o p.stands).end)
 
 -- The first count is read.
 at_first :
-    (c : tie.After-entry)
-    → c.before.before.args.at + 3 + c.entry.result + length c.before.before.requires.o.takes ≤ length c.before.before.args.image.now
+    (c : tie.After-entry-drives)
+    → c.before.before.args.at + 3 + c.entry-drives.result + length c.before.before.requires.o.takes ≤ length c.before.before.args.image.now
 at_first c =
     let p = c.before.before.requires in
     let there = occurrence-at p.o p.stands in
-    omega (arith, there.end, c.entry.ensures, there.driven_count)
+    omega (arith, there.end, c.entry-drives.ensures, there.driven_count)
 
-add-r-2 : tie.Need-overflow-add-r-2
+add-r-2 : tie.Need-overflow_add-r-2
 add-r-2 c = let h = at_first c in omega arith
 
-add-from : tie.Need-overflow-add-from
+add-from : tie.Need-overflow_add-from
 add-from c = let h = at_first c in omega arith
 
-add-entry : tie.Need-overflow-add-entry
+add-entry : tie.Need-overflow_add-r-3
 add-entry c = let h = at_first c in omega arith
 
-entry-requires-2 : tie.Need-entry-requires-2
+entry-requires-2 : tie.Need-entry-requires
 entry-requires-2 c κs = let h = at_first c in omega arith
 
 -- The second count is that of the arguments.
@@ -44,24 +44,24 @@ second {at = at} o {drives} s d e =
     let there = occurrence-at o s in
     e ∙ there.taken_count (at + 1 + drives + 1) (omega (arith, there.driven_count))
 
-add-to : tie.Need-overflow-add-to
+add-to : tie.Need-overflow_add-to
 add-to c =
     let p = c.before.before.before.requires in
     let h = at_first c.before in
-    omega (arith, second p.o p.stands c.before.entry.ensures c.entry2.ensures)
+    omega (arith, second p.o p.stands c.before.entry-drives.ensures c.entry.ensures)
 
-mul-t7 : tie.Need-overflow-mul-t7
+mul-t7 : tie.Need-offset_bounds-image-r
 mul-t7 c = let h = at_first c.before in omega arith
 
-shared-slice-read-t10 : tie.Need-shared-slice-read-t10
+shared-slice-read-t10 : tie.Need-bounds-image-r
 shared-slice-read-t10 c = let h = at_first c.before.before in omega arith
 
 returns : tie.Need-returns
 returns c o s =
     let there = occurrence-at o s in
-    let refers = c.before.before.before.before.args.at + 1 + c.before.before.entry.result in
-    let driven = c.before.before.entry.ensures ∙ there.driven_count in
-    let taken = second o s c.before.before.entry.ensures c.before.entry2.ensures in
+    let refers = c.before.before.before.before.args.at + 1 + c.before.before.entry-drives.result in
+    let driven = c.before.before.entry-drives.ensures ∙ there.driven_count in
+    let taken = second o s c.before.before.entry-drives.ensures c.before.entry.ensures in
     record {
       drives = driven;
       driven = there.drives (c.before.before.before.before.args.at + 1) refl;
@@ -72,8 +72,8 @@ returns c o s =
       next = omega (arith, there.long);
     }
 
-pub by-counts-spec : {M : Type 1} → statement M
-by-counts-spec =
+pub by_counts_spec : {M : Type 1} → statement M
+by_counts_spec =
     tie.close
     (tie.spec
     entry-requires

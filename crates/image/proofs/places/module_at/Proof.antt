@@ -12,7 +12,7 @@ use Rattle.image.specs.Pieces.{module_at}
 use Rattle.image.proofs.places.module_at.Statement.{statement}
 use Rattle.image.proofs.places.module_at.Tie as tie
 
-entry-requires : tie.Need-entry-requires
+entry-requires : tie.Need-entry-inputs-requires
 entry-requires c κs = let p = c.before.requires in omega (arith, (module_at p.m p.stands).end)
 
 -- The first count is read.
@@ -26,13 +26,13 @@ opened {at = at} m s e =
     let same = e ∙ there.input_count (at + 1) refl in
     record { inputs_are = same; inside = omega (arith, there.end) }
 
-at_first : (c : tie.After-entry) → Opened c.before.before.args.image.now c.before.before.args.at c.before.before.requires.m c.entry.result
-at_first c = let p = c.before.before.requires in opened p.m p.stands c.entry.ensures
+at_first : (c : tie.After-entry-inputs) → Opened c.before.before.args.image.now c.before.before.args.at c.before.before.requires.m c.entry-inputs.result
+at_first c = let p = c.before.before.requires in opened p.m p.stands c.entry-inputs.ensures
 
-add-from-2 : tie.Need-overflow-add-from-2
+add-from-2 : tie.Need-overflow_add-from-2
 add-from-2 c = let h = at_first c in omega arith
 
-entry-requires-2 : tie.Need-entry-requires-2
+entry-requires-2 : tie.Need-entry-requires
 entry-requires-2 c κs = let h = at_first c in omega arith
 
 -- The second count is the outputs'.
@@ -43,38 +43,38 @@ second {at = at} m {inputs} s i e = e ∙ (module_at m s).output_count (at + 3 +
 
 -- What the places come to once both counts are read.
 at_second :
-    (c : tie.After-entry2)
-    → c.before.before.before.args.at + 3 + c.before.entry.result + c.entry2.result < length c.before.before.before.args.image.now
+    (c : tie.After-entry)
+    → c.before.before.before.args.at + 3 + c.before.entry-inputs.result + c.entry.result < length c.before.before.before.args.image.now
 at_second c =
     let p = c.before.before.before.requires in
     let h = at_first c.before in
-    omega (arith, second p.m p.stands h.inputs_are c.entry2.ensures)
+    omega (arith, second p.m p.stands h.inputs_are c.entry.ensures)
 
-add-to : tie.Need-overflow-add-to
+add-to : tie.Need-overflow_add-to
 add-to c = let h = at_second c in omega arith
 
-entry-requires-3 : tie.Need-entry-requires-3
+entry-requires-3 : tie.Need-entry-count-requires
 entry-requires-3 c κs = at_second c
 
 returns : tie.Need-returns
 returns c m s =
     let at = c.before.before.before.before.args.at in
     let there = module_at m s in
-    let inputs = (opened m s c.before.before.entry.ensures).inputs_are in
-    let outputs = second m s inputs c.before.entry2.ensures in
-    let from = at + 3 + c.before.before.entry.result in
-    let to = from + c.before.entry2.result in
+    let inputs = (opened m s c.before.before.entry-inputs.ensures).inputs_are in
+    let outputs = second m s inputs c.before.entry.ensures in
+    let from = at + 3 + c.before.before.entry-inputs.result in
+    let to = from + c.before.entry.result in
     record {
       inputs = inputs;
       from = omega arith;
       to = omega arith;
-      count = c.entry3.ensures ∙ there.occurrence_count to (omega arith);
+      count = c.entry-count.ensures ∙ there.occurrence_count to (omega arith);
       outputs = there.outputs from (omega arith);
       body = there.body (to + 1) (omega arith);
     }
 
-pub module-at-spec : {M : Type 1} → statement M
-module-at-spec =
+pub module_at_spec : {M : Type 1} → statement M
+module_at_spec =
     tie.close
     (tie.spec
     (λ c. search rules)

@@ -5,9 +5,9 @@ use Rattle.lanes.specs.Entries.{and_of}
 use Rattle.lanes.proofs.entry.and.Statement.{statement}
 use Rattle.lanes.proofs.entry.and.Tie as tie
 
-pub and-spec : {M : Type 1} → statement M
+pub and_spec : {M : Type 1} → statement M
 unfolding and_of
-and-spec =
+and_spec =
     tie.close
     (tie.spec
     (λ c. search rules)

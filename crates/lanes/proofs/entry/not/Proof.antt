@@ -5,9 +5,9 @@ use Rattle.lanes.specs.Entries.{not_of}
 use Rattle.lanes.proofs.entry.not.Statement.{statement}
 use Rattle.lanes.proofs.entry.not.Tie as tie
 
-pub not-spec : {M : Type 1} → statement M
+pub not_spec : {M : Type 1} → statement M
 unfolding not_of
-not-spec =
+not_spec =
     tie.close
     (tie.spec
     (λ c. search rules)

@@ -5,9 +5,9 @@ use Rattle.lanes.specs.Entries.{or_of}
 use Rattle.lanes.proofs.entry.or.Statement.{statement}
 use Rattle.lanes.proofs.entry.or.Tie as tie
 
-pub or-spec : {M : Type 1} → statement M
+pub or_spec : {M : Type 1} → statement M
 unfolding or_of
-or-spec =
+or_spec =
     tie.close
     (tie.spec
     (λ c. search rules)

@@ -15,10 +15,10 @@ returns c =
     let start = left.before.before in
     c.or.ensures
     ∙ ap₂ or_of (left.and.ensures ∙ ap (and_of start.args.a) left.before.not.ensures)
-    (right.and2.ensures ∙ ap (λ (x : List ℕ). and_of x start.args.b) right.before.not2.ensures)
+    (right.and-2.ensures ∙ ap (λ (x : List ℕ). and_of x start.args.b) right.before.not-2.ensures)
 
-pub xor-spec : {M : Type 1} → statement M
-xor-spec =
+pub xor_spec : {M : Type 1} → statement M
+xor_spec =
     tie.close
     (tie.spec
     (λ c κs. search rules)

@@ -9,11 +9,11 @@ use Rattle.lanes.specs.Giving.{Given, Digits, digits, Giving, giving-none, givin
 use Rattle.lanes.proofs.outputs.give_row.Statement.{statement}
 use Rattle.lanes.proofs.outputs.give_row.Tie as tie
 
-abbrev invariant-loop : tie.invariant-loop
+abbrev invariant-loop : tie.invariant-loop-j
 invariant-loop row low high out₀ j₀ j-end out j =
     (j ≤ length out₀) × ((g : Given row low high (length out₀)) → Giving g.values out₀ out j)
 
-abbrev decreases-loop : tie.decreases-loop
+abbrev decreases-loop : tie.decreases-loop-j
 decreases-loop row low high out₀ j₀ j-end out j = length out₀ - j
 
 -- What is known in a turn: the word's two digits make up the value.
@@ -24,31 +24,31 @@ record Here (j low-size high-size out-size low high : ℕ) : Type 0 where
   below : low ≤ high * 2
 
 here :
-    (c : tie.In-loop invariant-loop decreases-loop)
+    (c : tie.In-loop-j invariant-loop decreases-loop)
     → let a = c.before.before.args in
-    let j = c.before.loop.j in
-    Here j (length a.low.now) (length a.high.now) (length c.before.loop.out) (get_or a.low.now j 0 / 2 ^ a.row % 2)
+    let j = c.before.loop-j.j in
+    Here j (length a.low.now) (length a.high.now) (length c.before.loop-j.out) (get_or a.low.now j 0 / 2 ^ a.row % 2)
     (get_or a.high.now j 0 / 2 ^ a.row % 2)
 here c =
     let g = c.before.before.requires.1 in
-    let inv = c.before.loop.invariant.1 g in
+    let inv = c.before.loop-j.invariant.1 g in
     record {
-      low-in = omega (arith, c.loop-test.true, g.low-long);
-      high-in = omega (arith, c.loop-test.true, g.high-long);
-      out-in = omega (arith, c.loop-test.true, inv.size);
-      below = (digits (g.lanes c.before.loop.j c.loop-test.true)).below;
+      low-in = omega (arith, c.loop-j-test.true, g.low-long);
+      high-in = omega (arith, c.loop-j-test.true, g.high-long);
+      out-in = omega (arith, c.loop-j-test.true, inv.size);
+      below = (digits (g.lanes c.before.loop-j.j c.loop-j-test.true)).below;
     }
 
-loop-again : tie.Need-loop-preserved invariant-loop decreases-loop
+loop-again : tie.Need-loop-j-preserved invariant-loop decreases-loop
 loop-again c =
     let turn = c.before.before in
-    let loop = turn.before.loop in (
-      omega (arith, turn.loop-test.true),
-      λ g. giving-more (loop.invariant.1 g) (here turn).out-in _ (digits (g.lanes loop.j turn.loop-test.true)).is,
+    let loop = turn.before.loop-j in (
+      omega (arith, turn.loop-j-test.true),
+      λ g. giving-more (loop.invariant.1 g) (here turn).out-in _ (digits (g.lanes loop.j turn.loop-j-test.true)).is,
     )
 
-pub give-row-spec : {M : Type 1} → statement M
-give-row-spec =
+pub give_row_spec : {M : Type 1} → statement M
+give_row_spec =
     tie.close
     (tie.spec
     invariant-loop
@@ -64,7 +64,7 @@ give-row-spec =
     (λ c. omega arith)
     (λ c. omega arith)
     loop-again
-    (λ c. (c.before.loop.invariant.1 c.before.before.requires.1).size)
+    (λ c. (c.before.loop-j.invariant.1 c.before.before.requires.1).size)
     (λ c g.
-    let done : c.before.loop.j ≡ length c.before.before.args.out.now = omega (arith, c.before.loop.invariant.0) in
-    giving-all g.count (subst (Giving _ _ _) done (c.before.loop.invariant.1 g))))
+    let done : c.before.loop-j.j ≡ length c.before.before.args.out.now = omega (arith, c.before.loop-j.invariant.0) in
+    giving-all g.count (subst (Giving _ _ _) done (c.before.loop-j.invariant.1 g))))

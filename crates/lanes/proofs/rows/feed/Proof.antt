@@ -8,10 +8,10 @@ use Rattle.lanes.specs.Feeding.{Hungry, Fed, fed-none, fed-more}
 use Rattle.lanes.proofs.rows.feed.Statement.{statement}
 use Rattle.lanes.proofs.rows.feed.Tie as tie
 
-abbrev invariant-loop : tie.invariant-loop
+abbrev invariant-loop : tie.invariant-loop-i
 invariant-loop n bytes words₀ i₀ words i = (i ≤ n) × Fed bytes words₀ words i
 
-abbrev decreases-loop : tie.decreases-loop
+abbrev decreases-loop : tie.decreases-loop-i
 decreases-loop n bytes words₀ i₀ words i = n - i
 
 record Here (i bytes-size size word : ℕ) : Type 0 where
@@ -20,20 +20,20 @@ record Here (i bytes-size size word : ℕ) : Type 0 where
   light : word < 72057594037927936
 
 here :
-    (c : tie.In-loop invariant-loop decreases-loop)
-    → let l = c.before.loop in
+    (c : tie.In-loop-i invariant-loop decreases-loop)
+    → let l = c.before.loop-i in
     Here l.i (length c.before.before.before.before.args.bytes.now) (length l.words) (get_or l.words l.i 0)
 here c =
     let p = c.before.before.before.before.requires in
-    let l = c.before.loop in
+    let l = c.before.loop-i in
     record {
-      byte-in = omega (arith, c.loop-test.true, p.bytes-long);
-      inside = omega (arith, c.loop-test.true, p.long, l.invariant.1.size);
-      light = omega (arith, p.light l.i c.loop-test.true, l.invariant.1.left l.i (omega arith));
+      byte-in = omega (arith, c.loop-i-test.true, p.bytes-long);
+      inside = omega (arith, c.loop-i-test.true, p.long, l.invariant.1.size);
+      light = omega (arith, p.light l.i c.loop-i-test.true, l.invariant.1.left l.i (omega arith));
     }
 
-pub feed-spec : {M : Type 1} → statement M
-feed-spec =
+pub feed_spec : {M : Type 1} → statement M
+feed_spec =
     tie.close
     (tie.spec
     invariant-loop
@@ -51,8 +51,8 @@ feed-spec =
     (λ c. omega arith)
     (λ c.
     let turn = c.before.before.before in
-    (omega (arith, turn.loop-test.true), fed-more turn.before.loop.invariant.1 (here turn).inside _ c.wide.ensures.0))
-    (λ c. c.before.loop.invariant.1.size)
+    (omega (arith, turn.loop-i-test.true), fed-more turn.before.loop-i.invariant.1 (here turn).inside _ c.wide.ensures.0))
+    (λ c. c.before.loop-i.invariant.1.size)
     (λ c.
-    let done : c.before.loop.i ≡ c.before.before.before.before.args.n = omega (arith, c.before.loop.invariant.0) in
-    subst (Fed _ _ _) done c.before.loop.invariant.1))
+    let done : c.before.loop-i.i ≡ c.before.before.before.before.args.n = omega (arith, c.before.loop-i.invariant.0) in
+    subst (Fed _ _ _) done c.before.loop-i.invariant.1))

@@ -14,7 +14,7 @@ other : (b : Bool) → 1 ≡ digit (maybe (cond b (known true) un))
 other true = refl
 other false = refl
 
-pub may-spec : {M : Type 1} → statement M
-may-spec =
+pub may_spec : {M : Type 1} → statement M
+may_spec =
     tie.close
-    (tie.spec (λ c. rw c.if1.true) (λ c. simp (ne_eqb _ 0 c.if1.false) (other (eqb c.before.args.v 1))))
+    (tie.spec (λ c. rw c.if-v-eq0.true) (λ c. simp (ne_eqb _ 0 c.if-v-eq0.false) (other (eqb c.before.args.v 1))))

@@ -7,10 +7,10 @@ use Rattle.lanes.specs.Storing.{Lists, entry_of, Stored, stored-none, stored_mor
 use Rattle.lanes.proofs.rows.store.Statement.{statement}
 use Rattle.lanes.proofs.rows.store.Tie as tie
 
-abbrev invariant-loop : tie.invariant-loop
+abbrev invariant-loop : tie.invariant-loop-j
 invariant-loop n a b c d s t u v entries₀ j₀ entries j = (j ≤ n) × Stored (entry_of a b c d s t u v) entries₀ entries j
 
-abbrev decreases-loop : tie.decreases-loop
+abbrev decreases-loop : tie.decreases-loop-j
 decreases-loop n a b c d s t u v entries₀ j₀ entries j = n - j
 
 -- The net of a turn is one of each list.
@@ -26,21 +26,21 @@ record Here (j size a-size b-size c-size d-size s-size t-size u-size v-size : �
   v-in : j < v-size
 
 here :
-    (c : tie.In-loop invariant-loop decreases-loop)
+    (c : tie.In-loop-j invariant-loop decreases-loop)
     → let g = c.before.before.args in
-    Here c.before.loop.j (length c.before.loop.entries) (length g.a.now) (length g.b.now) (length g.c.now) (length g.d.now) (length g.s.now) (length g.t.now) (length g.u.now) (length g.v.now)
+    Here c.before.loop-j.j (length c.before.loop-j.entries) (length g.a.now) (length g.b.now) (length g.c.now) (length g.d.now) (length g.s.now) (length g.t.now) (length g.u.now) (length g.v.now)
 here c =
     let p = c.before.before.requires in
     record {
-      inside = omega (arith, c.loop-test.true, p.2, c.before.loop.invariant.1.size);
-      a_in = omega (arith, c.loop-test.true, p.0.a-long);
-      b-in = omega (arith, c.loop-test.true, p.0.b-long);
-      c-in = omega (arith, c.loop-test.true, p.0.c-long);
-      d-in = omega (arith, c.loop-test.true, p.0.d-long);
-      s-in = omega (arith, c.loop-test.true, p.1.a-long);
-      t-in = omega (arith, c.loop-test.true, p.1.b-long);
-      u-in = omega (arith, c.loop-test.true, p.1.c-long);
-      v-in = omega (arith, c.loop-test.true, p.1.d-long);
+      inside = omega (arith, c.loop-j-test.true, p.2, c.before.loop-j.invariant.1.size);
+      a_in = omega (arith, c.loop-j-test.true, p.0.a-long);
+      b-in = omega (arith, c.loop-j-test.true, p.0.b-long);
+      c-in = omega (arith, c.loop-j-test.true, p.0.c-long);
+      d-in = omega (arith, c.loop-j-test.true, p.0.d-long);
+      s-in = omega (arith, c.loop-j-test.true, p.1.a-long);
+      t-in = omega (arith, c.loop-j-test.true, p.1.b-long);
+      u-in = omega (arith, c.loop-j-test.true, p.1.c-long);
+      v-in = omega (arith, c.loop-j-test.true, p.1.d-long);
     }
 
 pub store_spec : {M : Type 1} → statement M
@@ -70,8 +70,8 @@ store_spec =
     (λ c. (here c.before.before.before.before.before.before.before.before).inside)
     (λ c. omega arith)
     (λ c. omega arith)
-    (λ c. let turn = c.before.before.before.before.before.before.before.before in (omega (arith, turn.loop-test.true), stored_more turn.before.loop.invariant.1 (here turn).inside))
-    (λ c. c.before.loop.invariant.1.size)
+    (λ c. let turn = c.before.before.before.before.before.before.before.before in (omega (arith, turn.loop-j-test.true), stored_more turn.before.loop-j.invariant.1 (here turn).inside))
+    (λ c. c.before.loop-j.invariant.1.size)
     (λ c.
-    let done : c.before.loop.j ≡ c.before.before.args.n = omega (arith, c.before.loop.invariant.0) in
-    subst (Stored _ _ _) done c.before.loop.invariant.1))
+    let done : c.before.loop-j.j ≡ c.before.before.args.n = omega (arith, c.before.loop-j.invariant.0) in
+    subst (Stored _ _ _) done c.before.loop-j.invariant.1))

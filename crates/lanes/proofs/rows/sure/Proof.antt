@@ -14,7 +14,7 @@ other : (b : Bool) → 0 ≡ digit (surely (cond b (known false) un))
 other true = refl
 other false = refl
 
-pub sure-spec : {M : Type 1} → statement M
-sure-spec =
+pub sure_spec : {M : Type 1} → statement M
+sure_spec =
     tie.close
-    (tie.spec (λ c. rw c.if1.true) (λ c. simp (ne_eqb _ 1 c.if1.false) (other (eqb c.before.args.v 0))))
+    (tie.spec (λ c. rw c.if-v-eq1.true) (λ c. simp (ne_eqb _ 1 c.if-v-eq1.false) (other (eqb c.before.args.v 0))))

@@ -6,37 +6,37 @@ use Rattle.lanes.proofs.rows.take_part.Statement.{statement}
 use Rattle.lanes.proofs.rows.take_part.Tie as tie
 
 -- Where the function began, from where both ends of the word's rows are known, and these from where the rows are packed.
-abbrev start : tie.After-least2 → tie.Start
+abbrev start : tie.After-least-end → tie.Start
 start c = let known = c.before.before in known.before.before.before
 
-abbrev known : tie.After-take-word → tie.After-least2
+abbrev known : tie.After-take_word → tie.After-least-end
 known c = c.before.before.before
 
-mul-take-word : tie.Need-overflow-mul-take-word
-mul-take-word c = omega (arith, start-there (start c).requires.0 c.before.least.ensures c.least2.ensures)
+mul-take-word : tie.Need-overflow_mul-start
+mul-take-word c = omega (arith, start-there (start c).requires.0 c.before.least-start.ensures c.least-end.ensures)
 
-add-take-word : tie.Need-overflow-add-take-word
-add-take-word c = omega (arith, start-there (start c).requires.0 c.before.least.ensures c.least2.ensures)
+add-take-word : tie.Need-overflow_add-from
+add-take-word c = omega (arith, start-there (start c).requires.0 c.before.least-start.ensures c.least-end.ensures)
 
-take-word-requires : tie.Need-take-word-requires
+take-word-requires : tie.Need-take_word-requires
 take-word-requires c κs =
     let ends = c.before.before in
     let given = (start ends).requires in (
-      part-whole given.0 ends.before.least.ensures ends.least2.ensures,
-      part-whole given.1 ends.before.least.ensures ends.least2.ensures,
+      part-whole given.0 ends.before.least-start.ensures ends.least-end.ensures,
+      part-whole given.1 ends.before.least-start.ensures ends.least-end.ensures,
     )
 
 returns : tie.Need-returns
 returns c =
     let packed = c.before.before.before.before in
     let ends = known packed in
-    let given = (start ends).pre in (
-      part-packed given.0 ends.before.least.ensures ends.least2.ensures packed.take-word.ensures.0,
-      part-packed given.1 ends.before.least.ensures ends.least2.ensures packed.take-word.ensures.1,
+    let given = (start ends).requires in (
+      part-packed given.0 ends.before.least-start.ensures ends.least-end.ensures packed.take_word.ensures.0,
+      part-packed given.1 ends.before.least-start.ensures ends.least-end.ensures packed.take_word.ensures.1,
     )
 
-pub take-part-spec : {M : Type 1} → statement M
-take-part-spec =
+pub take_part_spec : {M : Type 1} → statement M
+take_part_spec =
     tie.close
     (tie.spec
     (λ c. search rules)

@@ -11,10 +11,10 @@ use Rattle.lanes.specs.Rows.{Light, Added, added_none, added_more}
 use Rattle.lanes.proofs.rows.take_row.Statement.{statement}
 use Rattle.lanes.proofs.rows.take_row.Tie as tie
 
-abbrev invariant-loop : tie.invariant-loop
+abbrev invariant-loop : tie.invariant-loop-i
 invariant-loop row low₀ high₀ i₀ i-end low high i = (i ≤ length row) × Added surely row low₀ low i × Added maybe row high₀ high i
 
-abbrev decreases-loop : tie.decreases-loop
+abbrev decreases-loop : tie.decreases-loop-i
 decreases-loop row low₀ high₀ i₀ i-end low high i = length row - i
 
 -- What is known of the words in a turn.
@@ -29,23 +29,23 @@ here {i = i} l a h =
       light = omega (arith, l.light i h, a.left i (omega arith));
     }
 
-low-here : (c : tie.In-loop invariant-loop decreases-loop) → Here c.before.loop.i (length c.before.loop.low) (get_or c.before.loop.low c.before.loop.i 0)
-low-here c = here c.before.before.before.before.before.requires.0 c.before.loop.invariant.1 c.loop-test.true
+low-here : (c : tie.In-loop-i invariant-loop decreases-loop) → Here c.before.loop-i.i (length c.before.loop-i.low) (get_or c.before.loop-i.low c.before.loop-i.i 0)
+low-here c = here c.before.before.before.before.before.requires.0 c.before.loop-i.invariant.1 c.loop-i-test.true
 
-high-here : (c : tie.In-loop invariant-loop decreases-loop) → Here c.before.loop.i (length c.before.loop.high) (get_or c.before.loop.high c.before.loop.i 0)
-high-here c = here c.before.before.before.before.before.requires.1 c.before.loop.invariant.2 c.loop-test.true
+high-here : (c : tie.In-loop-i invariant-loop decreases-loop) → Here c.before.loop-i.i (length c.before.loop-i.high) (get_or c.before.loop-i.high c.before.loop-i.i 0)
+high-here c = here c.before.before.before.before.before.requires.1 c.before.loop-i.invariant.2 c.loop-i-test.true
 
-loop-again : tie.Need-loop-preserved invariant-loop decreases-loop
+loop-again : tie.Need-loop-i-preserved invariant-loop decreases-loop
 loop-again c =
     let turn = c.before.before.before.before.before in
-    let loop = turn.before.loop in (
-      omega (arith, turn.loop-test.true),
+    let loop = turn.before.loop-i in (
+      omega (arith, turn.loop-i-test.true),
       added_more loop.invariant.1 (low-here turn).inside _ c.before.before.sure.ensures,
       added_more loop.invariant.2 (high-here turn).inside _ c.may.ensures,
     )
 
-pub take-row-spec : {M : Type 1} → statement M
-take-row-spec =
+pub take_row_spec : {M : Type 1} → statement M
+take_row_spec =
     tie.close
     (tie.spec
     invariant-loop
@@ -55,17 +55,17 @@ take-row-spec =
     (λ c. let h = low-here c.before.before in omega arith)
     (λ c. let h = low-here c.before.before in omega arith)
     (λ c κs. search rules)
-    (λ c. let h = low-here c.before.before.before in omega (arith, c.sure.ensures, digit-small (surely (value (get_or c.before.before.before.before.before.before.before.before.args.row.now c.before.before.before.before.loop.i 0)))))
+    (λ c. let h = low-here c.before.before.before in omega (arith, c.sure.ensures, digit-small (surely (value (get_or c.before.before.before.before.before.before.before.before.args.row.now c.before.before.before.before.loop-i.i 0)))))
     (λ c. let h = low-here c.before.before.before in omega arith)
     (λ c. let h = high-here c.before.before.before.before in omega arith)
     (λ c. let h = high-here c.before.before.before.before in omega arith)
     (λ c κs. search rules)
-    (λ c. let h = high-here c.before.before.before.before.before in omega (arith, c.may.ensures, digit-small (maybe (value (get_or c.before.before.before.before.before.before.before.before.before.before.args.row.now c.before.before.before.before.before.before.loop.i 0)))))
+    (λ c. let h = high-here c.before.before.before.before.before in omega (arith, c.may.ensures, digit-small (maybe (value (get_or c.before.before.before.before.before.before.before.before.before.before.args.row.now c.before.before.before.before.before.before.loop-i.i 0)))))
     (λ c. let h = high-here c.before.before.before.before.before in omega arith)
     (λ c. omega arith)
     (λ c. omega arith)
     loop-again
-    (λ c. c.before.loop.invariant.1.size)
-    (λ c. c.before.loop.invariant.2.size)
-    (λ c. let done : c.before.loop.i ≡ length c.before.before.before.before.before.args.row.now = omega arith in
-    (subst (Added surely _ _ _) done c.before.loop.invariant.1, subst (Added maybe _ _ _) done c.before.loop.invariant.2)))
+    (λ c. c.before.loop-i.invariant.1.size)
+    (λ c. c.before.loop-i.invariant.2.size)
+    (λ c. let done : c.before.loop-i.i ≡ length c.before.before.before.before.before.args.row.now = omega arith in
+    (subst (Added surely _ _ _) done c.before.loop-i.invariant.1, subst (Added maybe _ _ _) done c.before.loop-i.invariant.2)))

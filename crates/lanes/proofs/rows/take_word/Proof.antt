@@ -12,25 +12,25 @@ use Rattle.lanes.specs.Wording.{Whole, Wording, wording_start, some_left, group-
 use Rattle.lanes.proofs.rows.take_word.Statement.{statement}
 use Rattle.lanes.proofs.rows.take_word.Tie as tie
 
-abbrev invariant-loop : tie.invariant-loop
+abbrev invariant-loop : tie.invariant-loop-left
 invariant-loop values inputs from count low₀ high₀ left₀ low high left =
     Wording surely values inputs from count left low₀ low × Wording maybe values inputs from count left high₀ high
 
-abbrev decreases-loop : tie.decreases-loop
+abbrev decreases-loop : tie.decreases-loop-left
 decreases-loop values inputs from count low₀ high₀ left₀ low high left = left
 
 there :
-    (c : tie.In-loop invariant-loop decreases-loop)
+    (c : tie.In-loop-left invariant-loop decreases-loop)
     → let a = c.before.before.before.before.before.args in
-    let left = c.before.loop.left in
+    let left = c.before.loop-left.left in
     a.from + (left - ((left - 1) % 8 + 1)) * a.inputs + ((left - 1) % 8 + 1) * a.inputs ≤ length a.values.now
 there c =
     let start = c.before.before.before.before.before in
-    group-there start.requires.0 c.before.loop.invariant.0 (omega (arith, c.loop-test.true)) refl
+    group-there start.requires.0 c.before.loop-left.invariant.0 (omega (arith, c.loop-left-test.true)) refl
 
-group : (c : tie.In-loop invariant-loop decreases-loop)
+group : (c : tie.In-loop-left invariant-loop decreases-loop)
     → let a = c.before.before.before.before.before.args in
-    let left = c.before.loop.left in
+    let left = c.before.loop-left.left in
     Group a.values.now a.inputs (a.from + (left - ((left - 1) % 8 + 1)) * a.inputs) ((left - 1) % 8 + 1) (replicate 192 0)
 group c =
     record {
@@ -40,35 +40,35 @@ group c =
       empty = λ i h. zeros-at 192 i;
     }
 
-take-rows-requires : tie.Need-take-rows-requires invariant-loop decreases-loop
+take-rows-requires : tie.Need-take_rows-requires invariant-loop decreases-loop
 take-rows-requires c κs = (group c.before.before, group c.before.before)
 
 feed-requires : tie.Need-feed-requires invariant-loop decreases-loop
 feed-requires c κs =
     let turn = c.before.before.before.before.before.before.before in
     let start = turn.before.before.before.before.before in
-    hungry start.requires.0 turn.before.loop.invariant.0 (omega (arith, turn.loop-test.true)) refl
-    (omega (arith, c.before.before.before.before.take-rows.auto.1.1.1.1.0, start.requires.0.narrow))
+    hungry start.requires.0 turn.before.loop-left.invariant.0 (omega (arith, turn.loop-left-test.true)) refl
+    (omega (arith, c.before.before.before.before.take_rows.auto.1.1.1.1.0, start.requires.0.narrow))
 
-feed-requires-2 : tie.Need-feed-requires-2 invariant-loop decreases-loop
+feed-requires-2 : tie.Need-feed-requires-in-loop-left invariant-loop decreases-loop
 feed-requires-2 c κs =
     let turn = c.before.before.before.before.before.before.before.before.before.before.before.before in
     let start = turn.before.before.before.before.before in
-    hungry start.requires.1 turn.before.loop.invariant.1 (omega (arith, turn.loop-test.true)) refl
-    (omega (arith, c.before.before.before.before.before.before.before.before.before.take-rows.auto.1.1.1.1.1.0, start.requires.1.narrow))
+    hungry start.requires.1 turn.before.loop-left.invariant.1 (omega (arith, turn.loop-left-test.true)) refl
+    (omega (arith, c.before.before.before.before.before.before.before.before.before.take_rows.auto.1.1.1.1.1.0, start.requires.1.narrow))
 
-loop-again : tie.Need-loop-preserved invariant-loop decreases-loop
+loop-again : tie.Need-loop-left-preserved invariant-loop decreases-loop
 loop-again c =
     let turn = c.before.before.before.before.before.before.before.before.before.before.before.before.before.before.before in
     let start = turn.before.before.before.before.before in
-    let taken = c.before.before.before.before.before.before.before.before.before.before.before.before.take-rows.ensures in
-    let more = turn.loop-test.true in (
-      wording_more start.requires.0 turn.before.loop.invariant.0 more refl taken.0 c.before.before.before.before.before.before.before.feed.ensures,
-      wording_more start.requires.1 turn.before.loop.invariant.1 more refl taken.1 c.before.before.feed2.ensures,
+    let taken = c.before.before.before.before.before.before.before.before.before.before.before.before.take_rows.ensures in
+    let more = turn.loop-left-test.true in (
+      wording_more start.requires.0 turn.before.loop-left.invariant.0 more refl taken.0 c.before.before.before.before.before.before.before.feed.ensures,
+      wording_more start.requires.1 turn.before.loop-left.invariant.1 more refl taken.1 c.before.before.feed-in-loop-left.ensures,
     )
 
-pub take-word-spec : {M : Type 1} → statement M
-take-word-spec =
+pub take_word_spec : {M : Type 1} → statement M
+take_word_spec =
     tie.close
     (tie.spec
     invariant-loop
@@ -82,13 +82,13 @@ take-word-spec =
     (λ c. search rules)
     (λ c. search rules)
     take-rows-requires
-    (λ c. sym c.before.before.before.take-rows.auto.1.1.1.1.0)
+    (λ c. sym c.before.before.before.take_rows.auto.1.1.1.1.0)
     feed-requires
-    (λ c. sym c.before.before.before.before.before.before.before.before.take-rows.auto.1.1.1.1.1.0)
+    (λ c. sym c.before.before.before.before.before.before.before.before.take_rows.auto.1.1.1.1.1.0)
     feed-requires-2
     (λ c. omega arith)
     loop-again
-    (λ c. c.before.loop.invariant.0.size)
-    (λ c. c.before.loop.invariant.1.size)
+    (λ c. c.before.loop-left.invariant.0.size)
+    (λ c. c.before.loop-left.invariant.1.size)
     (λ c. let start = c.before.before.before.before.before in
-    (wording_all start.requires.0 c.before.loop.invariant.0 c.loop-test.false, wording_all start.requires.1 c.before.loop.invariant.1 c.loop-test.false)))
+    (wording_all start.requires.0 c.before.loop-left.invariant.0 c.loop-left-test.false, wording_all start.requires.1 c.before.loop-left.invariant.1 c.loop-left-test.false)))

@@ -7,16 +7,16 @@ use borrow.Author.Rules.{rules}
 use Rattle.list_file.proofs.printing.print.Statement.{statement}
 use Rattle.list_file.proofs.printing.print.Tie as tie
 
-array-share-prefix-text : tie.Need-array-share-prefix-text
-array-share-prefix-text c = omega (arith, c.list.ensures.inside, put-length c.list.ensures)
+array-share-prefix-text : tie.Need-slice_bounds-text-end
+array-share-prefix-text c = omega (arith, c.list-used.ensures.inside, put-length c.list-used.ensures)
 
-slice-aggregate-write-all : tie.Need-slice-aggregate-write-all
+slice-aggregate-write-all : tie.Need-slice_bounds-write_all-end
 slice-aggregate-write-all c =
-    let listed = c.before.list.ensures in
+    let listed = c.before.list-used.ensures in
     sym (length-take-le _ _ (omega (arith, listed.inside, put-length listed)))
 
-pub print-spec : {M : Type 1} → statement M
-print-spec =
+pub print_spec : {M : Type 1} → statement M
+print_spec =
     tie.close
     (tie.spec
     (λ c κs. search rules)

@@ -14,42 +14,42 @@ use Rattle.ndl_pieces.proofs.Lists.{more-next, more-none}
 use Rattle.ndl_pieces.proofs.nets.put_more.Statement.{statement}
 use Rattle.ndl_pieces.proofs.nets.put_more.Tie as tie
 
-abbrev invariant-loop : tie.invariant-loop
+abbrev invariant-loop : tie.invariant-loop-i
 invariant-loop sign nets out₀ at at₀ i₀ i-end out at' i = Laying (each (signed sign) nets) (each (signed sign) (drop i nets)) out₀ at out at'
 
-abbrev decreases-loop : tie.decreases-loop
+abbrev decreases-loop : tie.decreases-loop-i
 decreases-loop sign nets out₀ at at₀ i₀ i-end out at' i = i-end - i
 
-abbrev start : tie.In-loop invariant-loop decreases-loop → tie.Start invariant-loop decreases-loop
+abbrev start : tie.In-loop-i invariant-loop decreases-loop → tie.Start invariant-loop decreases-loop
 start c = c.before.before.before.before
 
 -- In a turn the text of a net comes first of those left.
-next : (c : tie.In-loop invariant-loop decreases-loop)
-    → each (signed (start c).args.sign) (drop c.before.loop.i (start c).args.nets.now)
-    ≡ signed (start c).args.sign (get_or (start c).args.nets.now c.before.loop.i 0)
-    ++ each (signed (start c).args.sign) (drop (c.before.loop.i + 1) (start c).args.nets.now)
-next c = more-next (start c).args.sign (rest-of-list (start c).args.nets.now c.before.loop.i c.loop-test.true)
+next : (c : tie.In-loop-i invariant-loop decreases-loop)
+    → each (signed (start c).args.sign) (drop c.before.loop-i.i (start c).args.nets.now)
+    ≡ signed (start c).args.sign (get_or (start c).args.nets.now c.before.loop-i.i 0)
+    ++ each (signed (start c).args.sign) (drop (c.before.loop-i.i + 1) (start c).args.nets.now)
+next c = more-next (start c).args.sign (rest-of-list (start c).args.nets.now c.before.loop-i.i c.loop-i-test.true)
 
-put-requires : tie.Need-put-signed-requires invariant-loop decreases-loop
+put-requires : tie.Need-put_signed-at-requires invariant-loop decreases-loop
 put-requires c κs =
     let turn = c.before.before in
-    let loop = turn.before.loop in (
-      all-at (start turn).requires.0 loop.i 0 turn.loop-test.true,
+    let loop = turn.before.loop-i in (
+      all-at (start turn).requires.0 loop.i 0 turn.loop-i-test.true,
       omega (arith, laying-room loop.invariant (signed _ _) _ (next turn)),
     )
 
-loop-again : tie.Need-loop-preserved invariant-loop decreases-loop
+loop-again : tie.Need-loop-i-preserved invariant-loop decreases-loop
 loop-again c =
     let turn = c.before.before.before.before.before in
-    laying-more turn.before.loop.invariant (signed _ _) _ (next turn) c.before.before.put-signed.ensures
+    laying-more turn.before.loop-i.invariant (signed _ _) _ (next turn) c.before.before.put_signed-at.ensures
 
 returns : tie.Need-returns invariant-loop decreases-loop
 returns c =
     let args = c.before.before.before.before.args in
-    laying-all c.before.loop.invariant (more-none args.sign (drop_of_length-le args.nets.now c.loop-test.false))
+    laying-all c.before.loop-i.invariant (more-none args.sign (drop_of_length-le args.nets.now c.loop-i-test.false))
 
-pub put-more-spec : {M : Type 1} → statement M
-put-more-spec =
+pub put_more_spec : {M : Type 1} → statement M
+put_more_spec =
     tie.close
     (tie.spec
     invariant-loop
@@ -61,5 +61,5 @@ put-more-spec =
     (λ c. omega arith)
     (λ c. omega arith)
     loop-again
-    (λ c. laying-length c.before.loop.invariant)
+    (λ c. laying-length c.before.loop-i.invariant)
     returns)

@@ -17,12 +17,12 @@ returns c =
     let s = p.before.before.before in
     laying-last p.put.ensures (laying_store (laying-start s.requires.1) refl)
 
-pub put-named-spec : {M : Type 1} → statement M
-put-named-spec =
+pub put_named_spec : {M : Type 1} → statement M
+put_named_spec =
     tie.close
     (tie.spec
     (λ c. omega (arith, c.before.requires.1.fits))
     (λ c. omega (arith, c.before.before.requires.1.fits))
     put-requires
-    (λ c. c.before.before.put.auto.1.0 ∙ length-set c.before.before.before.before.before.args.out.now _ _)
+    (λ c. c.before.before.put.auto.1.0 ∙ length-set c.before.before.before.before.before.args.out-1.now _ _)
     returns)

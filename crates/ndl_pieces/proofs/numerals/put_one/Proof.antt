@@ -8,7 +8,7 @@ use Rattle.ndl_pieces.specs.Digits.{last_digits}
 use Rattle.ndl_pieces.proofs.numerals.put_one.Statement.{statement}
 use Rattle.ndl_pieces.proofs.numerals.put_one.Tie as tie
 
-slice-write-out : tie.Need-slice-write-out
+slice-write-out : tie.Need-bounds-out-at
 unfolding last_digits
 slice-write-out c = omega (arith, c.before.before.requires.fits)
 
@@ -18,5 +18,5 @@ returns c =
     let s = c.before.before in
     rw c.digit.ensures (put_stores ((48 + s.args.n % 10) ∷ []) s.args.out.now s.args.at s.requires.fits)
 
-pub put-one-spec : {M : Type 1} → statement M
-put-one-spec = tie.close (tie.spec (λ c κs. search rules) slice-write-out (λ c. search rules) (λ c. search rules) returns)
+pub put_one_spec : {M : Type 1} → statement M
+put_one_spec = tie.close (tie.spec (λ c κs. search rules) slice-write-out (λ c. search rules) (λ c. search rules) returns)

@@ -20,41 +20,41 @@ by-module : (names : List ℕ) (n : ℕ) → 16 ≤ n → 77 ∷ decimal n ≡ r
 unfolding reference_text
 by-module names n h = rw (le-ltb n 16 h)
 
-put-letters-requires : tie.Need-put-letters-requires
+put-letters-requires : tie.Need-put_letters-requires
 put-letters-requires c κs =
     let gate = c.before.before in
     let s = gate.before.before.before in
-    rw (by-gate s.args.names.now s.args.number gate.if1.true) s.requires.2
+    rw (by-gate s.args.names.now s.args.number gate.if-number-lt16.true) s.requires.2
 
-returns : tie.Need-returns
+returns : tie.Need-returns-then-number-lt16
 returns c =
     let p = c.before.before in
     let gate = p.before.before.before in
     let s = gate.before.before.before in
-    rw (by-gate s.args.names.now s.args.number gate.if1.true) at p.put-letters.ensures
+    rw (by-gate s.args.names.now s.args.number gate.if-number-lt16.true) at p.put_letters.ensures
 
-put-named-requires : tie.Need-put-named-requires
+put-named-requires : tie.Need-put_named-requires
 put-named-requires c κs =
     let other = c.before in
     let s = other.before.before.before in
-    (s.requires.1, rw (by-module s.args.names.now s.args.number other.if1.false) s.requires.2)
+    (s.requires.1, rw (by-module s.args.names.now s.args.number other.if-number-lt16.false) s.requires.2)
 
-returns-2 : tie.Need-returns-2
+returns-2 : tie.Need-returns
 returns-2 c =
     let p = c.before.before in
     let other = p.before.before in
     let s = other.before.before.before in
-    rw (by-module s.args.names.now s.args.number other.if1.false) at p.put-named.ensures
+    rw (by-module s.args.names.now s.args.number other.if-number-lt16.false) at p.put_named.ensures
 
 pub put_spec : {M : Type 1} → statement M
 put_spec =
     tie.close
     (tie.spec
-    (λ c. omega (arith, c.if1.true))
-    (λ c. omega (arith, c.if1.true))
-    (λ c. omega (arith, c.if1.true))
-    (λ c. omega (arith, c.if1.true))
-    (λ c. omega (arith, c.if1.true, c.before.before.before.requires.0))
+    (λ c. omega (arith, c.if-number-lt16.true))
+    (λ c. omega (arith, c.if-number-lt16.true))
+    (λ c. omega (arith, c.if-number-lt16.true))
+    (λ c. omega (arith, c.if-number-lt16.true))
+    (λ c. omega (arith, c.if-number-lt16.true, c.before.before.before.requires.0))
     put-letters-requires
     (λ c. search rules)
     returns

@@ -18,22 +18,22 @@ decreases-loop names numbers from count out₀ at pen₀ counter₀ out pen coun
 abbrev start : tie.At-loop invariant-loop decreases-loop → tie.Start invariant-loop decreases-loop
 start c = c.before.before.before.before
 
-put-requires : tie.Need-put-requires invariant-loop decreases-loop
+put-requires : tie.Need-put-pen-requires invariant-loop decreases-loop
 put-requires c κs =
     let turn = c.before in
-    let t = (start turn.before).pre in
+    let t = (start turn.before).requires in
     next-told t (turn.before.loop.invariant t) turn.loop-test.true
 
 loop-again : tie.Need-loop-preserved invariant-loop decreases-loop
 loop-again c t =
     let turn = c.before.before.before.before in
-    blocks_more t (turn.before.loop.invariant t) turn.loop-test.true c.before.before.put.ensures
+    blocks_more t (turn.before.loop.invariant t) turn.loop-test.true c.before.before.put-pen.ensures
 
 returns : tie.Need-returns invariant-loop decreases-loop
 returns c t = blocks-all t (c.before.loop.invariant t) c.loop-test.false
 
-pub put-blocks-spec : {M : Type 1} → statement M
-put-blocks-spec =
+pub put_blocks_spec : {M : Type 1} → statement M
+put_blocks_spec =
     tie.close
     (tie.spec
     invariant-loop
@@ -43,5 +43,5 @@ put-blocks-spec =
     (λ c. omega (arith, c.before.before.before.before.loop-test.true))
     (λ c. omega (arith, c.before.before.before.before.loop-test.true))
     loop-again
-    (λ c. let t = (start c.before).pre in laying-length (c.before.loop.invariant t).laid)
+    (λ c. let t = (start c.before).requires in laying-length (c.before.loop.invariant t).laid)
     returns)

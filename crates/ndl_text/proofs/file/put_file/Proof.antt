@@ -6,51 +6,51 @@ use Rattle.ndl_text.proofs.file.put_file.Statement.{statement}
 use Rattle.ndl_text.proofs.file.put_file.Tie as tie
 
 -- The places behind the first lines and behind the blocks.
-abbrev start : tie.After-copy → tie.Start
+abbrev start : tie.After-copy-first → tie.Start
 start c =
     let half = c.before.before.before.before in
     let here = half.before.before in
     here
 
-abbrev fronted : tie.After-put-blocks → tie.After-copy
+abbrev fronted : tie.After-put_blocks-last → tie.After-copy-first
 fronted c =
     let half = c.before.before.before.before in
     let here = half.before in
     here
 
-copy-requires : tie.Need-copy-requires
+copy-requires : tie.Need-copy-first-requires
 copy-requires c κs =
     let half = c.before.before.before.before in
     let start = half.before in
     omega (arith, front-room start.requires)
 
-put-blocks-requires : tie.Need-put-blocks-requires
+put-blocks-requires : tie.Need-put_blocks-last-requires
 put-blocks-requires c κs =
     let p = c.before.before.before.before in
-    blocks-told (start p).requires p.copy.ensures
+    blocks-told (start p).requires p.copy-first.ensures
 
-copy-requires-2 : tie.Need-copy-requires-2
+copy-requires-2 : tie.Need-copy-requires
 copy-requires-2 c κs =
     let b = c.before.before.before.before in
     let p = fronted b in
-    let t = (start p).pre in
-    omega (arith, last-room t p.copy.ensures (b.put-blocks.ensures (blocks-told t p.copy.ensures)))
+    let t = (start p).requires in
+    omega (arith, last-room t p.copy-first.ensures (b.put_blocks-last.ensures (blocks-told t p.copy-first.ensures)))
 
 returns : tie.Need-returns
 returns c t =
     let last = c.before.before in
     let b = last.before.before.before.before.before in
     let p = fronted b in
-    all_told t p.copy.ensures (b.put-blocks.ensures (blocks-told t p.copy.ensures)) last.copy2.ensures
+    all_told t p.copy-first.ensures (b.put_blocks-last.ensures (blocks-told t p.copy-first.ensures)) last.copy.ensures
 
-pub put-file-spec : {M : Type 1} → statement M
-put-file-spec =
+pub put_file_spec : {M : Type 1} → statement M
+put_file_spec =
     tie.close
     (tie.spec
     (λ c. search rules)
     copy-requires
     (λ c. omega (arith, some_number (start c.before.before.before).requires))
-    (λ c. omega (arith, c.shared-slice-known3.given 0))
+    (λ c. omega (arith, c.shared_slice_known-3-1.given 0))
     put-blocks-requires
     (λ c. search rules)
     copy-requires-2

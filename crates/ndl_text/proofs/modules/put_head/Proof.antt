@@ -18,60 +18,60 @@ abbrev from_inputs : (inputs outputs : List ℕ) → List ℕ
 from_inputs inputs outputs = keyword_line inputs_word inputs ++ from_outputs outputs
 
 -- The places behind the title, the inputs and the outputs.
-abbrev start : tie.After-put-title → tie.Start
+abbrev start : tie.After-put_title-first → tie.Start
 start c =
     let half = c.before.before.before.before in
     let here = half.before in
     here
 
-abbrev behind-title : tie.After-put-line → tie.After-put-title
+abbrev behind-title : tie.After-put_line-second → tie.After-put_title-first
 behind-title c =
     let half = c.before.before.before.before in
     let here = half.before in
     here
 
-abbrev behind-inputs : tie.After-put-line2 → tie.After-put-line
+abbrev behind-inputs : tie.After-put_line-third → tie.After-put_line-second
 behind-inputs c =
     let half = c.before.before.before.before in
     let here = half.before in
     here
 
-titled : (c : tie.After-put-title)
+titled : (c : tie.After-put_title-first)
     → let a = (start c).args in
-    Laying (head_text a.number a.inputs.now a.outputs.now) (from_inputs a.inputs.now a.outputs.now) a.out.now a.at
-    c.put-title.new.1.0 c.put-title.result
+    Laying (head_text a.number a.inputs.now a.outputs.now) (from_inputs a.inputs.now a.outputs.now) a.out-1.now a.at
+    c.put_title-first.new.1.0 c.put_title-first.result
 titled c =
     let a = (start c).args in
-    laying-put {rest = from_inputs a.inputs.now a.outputs.now} c.put-title.ensures (laying-start (start c).requires.3)
+    laying-put {rest = from_inputs a.inputs.now a.outputs.now} c.put_title-first.ensures (laying-start (start c).requires.3)
 
-taking : (c : tie.After-put-line)
+taking : (c : tie.After-put_line-second)
     → let a = (start (behind-title c)).args in
-    Laying (head_text a.number a.inputs.now a.outputs.now) (from_outputs a.outputs.now) a.out.now a.at
-    c.put-line.new.1.1.0 c.put-line.result
-taking c = laying-put {rest = from_outputs (start (behind-title c)).args.outputs.now} c.put-line.ensures (titled (behind-title c))
+    Laying (head_text a.number a.inputs.now a.outputs.now) (from_outputs a.outputs.now) a.out-1.now a.at
+    c.put_line-second.new.1.1.0 c.put_line-second.result
+taking c = laying-put {rest = from_outputs (start (behind-title c)).args.outputs.now} c.put_line-second.ensures (titled (behind-title c))
 
-giving : (c : tie.After-put-line2)
+giving : (c : tie.After-put_line-third)
     → let a = (start (behind-title (behind-inputs c))).args in
-    Laying (head_text a.number a.inputs.now a.outputs.now) define_lines a.out.now a.at
-    c.put-line2.new.1.1.0 c.put-line2.result
-giving c = laying-put {rest = define_lines} c.put-line2.ensures (taking (behind-inputs c))
+    Laying (head_text a.number a.inputs.now a.outputs.now) define_lines a.out-1.now a.at
+    c.put_line-third.new.1.1.0 c.put_line-third.result
+giving c = laying-put {rest = define_lines} c.put_line-third.ensures (taking (behind-inputs c))
 
-put-title-requires : tie.Need-put-title-requires
+put-title-requires : tie.Need-put_title-first-requires
 put-title-requires c κs =
     let s = c.before.before.before.before in
     (s.requires.0, room-first {xs = title_text s.args.number} (from_inputs s.args.inputs.now s.args.outputs.now) s.requires.3)
 
-put-line-requires : tie.Need-put-line-requires
+put-line-requires : tie.Need-put_line-second-requires
 put-line-requires c κs =
     let first = c.before.before.before.before in
     let s = start first in
-    (s.pre.1, room-first {xs = keyword_line inputs_word s.args.inputs.now} (from_outputs s.args.outputs.now) (laying-left (titled first)))
+    (s.requires.1, room-first {xs = keyword_line inputs_word s.args.inputs.now} (from_outputs s.args.outputs.now) (laying-left (titled first)))
 
-put-line-requires-2 : tie.Need-put-line-requires-2
+put-line-requires-2 : tie.Need-put_line-third-requires
 put-line-requires-2 c κs =
     let second = c.before.before.before.before in
     let s = start (behind-title second) in
-    (s.pre.2, room-first {xs = keyword_line outputs_word s.args.outputs.now} define_lines (laying-left (taking second)))
+    (s.requires.2, room-first {xs = keyword_line outputs_word s.args.outputs.now} define_lines (laying-left (taking second)))
 
 copy-requires : tie.Need-copy-requires
 copy-requires c κs = omega (arith, (laying-left (giving c.before.before.before.before)).fits)
@@ -81,8 +81,8 @@ returns c =
     let p = c.before.before in
     laying-last p.copy.ensures (giving p.before.before.before.before.before)
 
-pub put-head-spec : {M : Type 1} → statement M
-put-head-spec =
+pub put_head_spec : {M : Type 1} → statement M
+put_head_spec =
     tie.close
     (tie.spec
     put-title-requires

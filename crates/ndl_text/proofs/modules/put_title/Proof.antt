@@ -16,43 +16,43 @@ abbrev name : ℕ → List ℕ
 name number = (77 ∷ decimal number) ++ line_end
 
 -- The places behind the word and behind the name.
-abbrev start : tie.After-copy → tie.Start
+abbrev start : tie.After-copy-name → tie.Start
 start c = c.before.before.before.before
 
-abbrev behind-word : tie.After-put-named → tie.After-copy
+abbrev behind-word : tie.After-put_named-end → tie.After-copy-name
 behind-word c = c.before.before.before.before
 
-worded : (c : tie.After-copy)
+worded : (c : tie.After-copy-name)
     → let a = (start c).args in
-    Laying (title_text a.number) (name a.number) a.out.now a.at c.copy.new.1.0 c.copy.result
-worded c = laying-put {rest = name (start c).args.number} c.copy.ensures (laying-start (start c).requires.1)
+    Laying (title_text a.number) (name a.number) a.out-1.now a.at c.copy-name.new.1.0 c.copy-name.result
+worded c = laying-put {rest = name (start c).args.number} c.copy-name.ensures (laying-start (start c).requires.1)
 
-named : (c : tie.After-put-named)
+named : (c : tie.After-put_named-end)
     → let a = (start (behind-word c)).args in
-    Laying (title_text a.number) line_end a.out.now a.at c.put-named.new.1.1.0 c.put-named.result
-named c = laying-put {rest = line_end} c.put-named.ensures (worded (behind-word c))
+    Laying (title_text a.number) line_end a.out-1.now a.at c.put_named-end.new.1.1.0 c.put_named-end.result
+named c = laying-put {rest = line_end} c.put_named-end.ensures (worded (behind-word c))
 
-copy-requires : tie.Need-copy-requires
+copy-requires : tie.Need-copy-name-requires
 copy-requires c κs =
     let s = c.before.before.before in
     omega (arith, (room-first {xs = module_word} (name s.args.number) s.requires.1).fits)
 
-put-named-requires : tie.Need-put-named-requires
+put-named-requires : tie.Need-put_named-end-requires
 put-named-requires c κs =
     let first = c.before.before.before in
     let s = start first in
-    (s.pre.0, room-first {xs = 77 ∷ decimal s.args.number} line_end (laying-left (worded first)))
+    (s.requires.0, room-first {xs = 77 ∷ decimal s.args.number} line_end (laying-left (worded first)))
 
-copy-requires-2 : tie.Need-copy-requires-2
+copy-requires-2 : tie.Need-copy-requires
 copy-requires-2 c κs = omega (arith, (laying-left (named c.before.before.before.before)).fits)
 
 returns : tie.Need-returns
 returns c =
     let p = c.before.before in
-    laying-last p.copy2.ensures (named p.before.before.before.before.before)
+    laying-last p.copy.ensures (named p.before.before.before.before.before)
 
-pub put-title-spec : {M : Type 1} → statement M
-put-title-spec =
+pub put_title_spec : {M : Type 1} → statement M
+put_title_spec =
     tie.close
     (tie.spec
     (λ c. search rules)

@@ -19,43 +19,43 @@ use Rattle.ndl_text.proofs.occurrences.put.Statement.{statement}
 use Rattle.ndl_text.proofs.occurrences.put.Tie as tie
 
 -- The places where the parts are known, and behind the first part of the line.
-abbrev start : tie.After-occurrence-at → tie.Start
+abbrev start : tie.After-occurrence_at-place → tie.Start
 start c = c.before.before.before.before
 
-abbrev parts : tie.After-put-driven → tie.After-occurrence-at
+abbrev parts : tie.After-put_driven-refers → tie.After-occurrence_at-place
 parts c = c.before.before.before.before
 
-abbrev Told : tie.After-occurrence-at → Type 0
+abbrev Told : tie.After-occurrence_at-place → Type 0
 Told c =
     let a = (start c).args in
-    OccurrenceTold a.names.now a.numbers.now a.from a.position a.out.now a.at
+    OccurrenceTold a.names.now a.numbers.now a.from a.position a.out-1.now a.at
 
-module _ (c : tie.After-occurrence-at) (t : Told c) where
-  placed : PlaceOf (start c).args.numbers.now (start c).args.from t.o c.occurrence-at.result
-  placed = c.occurrence-at.ensures t.o t.stands
+module _ (c : tie.After-occurrence_at-place) (t : Told c) where
+  placed : PlaceOf (start c).args.numbers.now (start c).args.from t.o c.occurrence_at-place.result
+  placed = c.occurrence_at-place.ensures t.o t.stands
 
   drives : Stands (start c).args.numbers.now ((start c).args.from + 1) t.o.drives
   drives = drives-stand t.o t.stands
 
   driven-part :
-      take ((start c).args.from + 1 + c.occurrence-at.result.drives - ((start c).args.from + 1)) (drop ((start c).args.from + 1) (start c).args.numbers.now)
+      take ((start c).args.from + 1 + c.occurrence_at-place.result.drives - ((start c).args.from + 1)) (drop ((start c).args.from + 1) (start c).args.numbers.now)
       ≡ t.o.drives
   driven-part =
-      part-between ((start c).args.from + 1) ((start c).args.from + 1 + c.occurrence-at.result.drives) drives
+      part-between ((start c).args.from + 1) ((start c).args.from + 1 + c.occurrence_at-place.result.drives) drives
       (ap (λ (n : ℕ). (start c).args.from + 1 + n) placed.drives)
 
   taken-part :
-      take (c.occurrence-at.result.to - c.occurrence-at.result.from) (drop c.occurrence-at.result.from (start c).args.numbers.now)
+      take (c.occurrence_at-place.result.to - c.occurrence_at-place.result.from) (drop c.occurrence_at-place.result.from (start c).args.numbers.now)
       ≡ t.o.takes
-  taken-part = part-between c.occurrence-at.result.from c.occurrence-at.result.to placed.takes placed.to
+  taken-part = part-between c.occurrence_at-place.result.from c.occurrence_at-place.result.to placed.takes placed.to
 
-begun : (c : tie.After-put-driven) (t : Told (parts c))
+begun : (c : tie.After-put_driven-refers) (t : Told (parts c))
     → let a = (start (parts c)).args in
     Laying (driven_text a.position t.o.drives ++ taken_text a.names.now t.o.refers t.o.takes) (taken_text a.names.now t.o.refers t.o.takes)
-    a.out.now a.at c.put-driven.new.1.1.0 c.put-driven.result
-begun c t = laying-put (rw (driven-part (parts c) t) at c.put-driven.ensures) (laying-start (room-of-parts t))
+    a.out-1.now a.at c.put_driven-refers.new.1.1.0 c.put_driven-refers.result
+begun c t = laying-put (rw (driven-part (parts c) t) at c.put_driven-refers.ensures) (laying-start (room-of-parts t))
 
-put-driven-requires : tie.Need-put-driven-requires
+put-driven-requires : tie.Need-put_driven-refers-requires
 put-driven-requires c κs =
     let p = c.before.before.before in
     let t = (start p).requires in
@@ -68,7 +68,7 @@ takeable : (names out : List ℕ) (at : ℕ) {n m : ℕ} {xs ys : List ℕ} → 
     → (length names ≡ 128) × Small n × All Small xs × Room (taken_text names n xs) out at
 takeable names out at e f h = rw (e, f) h
 
-put-taken-requires : tie.Need-put-taken-requires
+put-taken-requires : tie.Need-put_taken-end-requires
 put-taken-requires c κs =
     let d = c.before.before.before.before in
     let t = (start (parts d)).requires in
@@ -83,7 +83,7 @@ returns c t =
     record {
       put =
           rw (occurrence-of-parts a.names.now a.position t.o)
-          (laying-last (rw (taken-part (parts d) t, (placed (parts d) t).refers) at p.put-taken.ensures) (begun d t));
+          (laying-last (rw (taken-part (parts d) t, (placed (parts d) t).refers) at p.put_taken-end.ensures) (begun d t));
       next = (placed (parts d) t).next;
     }
 
@@ -99,10 +99,10 @@ put_spec =
     (λ c. omega (arith, (drives c.before (start c.before).requires).within))
     (λ c. omega (arith, (drives c.before (start c.before).requires).within, (placed c.before (start c.before).requires).drives))
     put-driven-requires
-    (λ c. let p = parts c.before.before in omega (arith, (placed p (start p).pre).takes.within))
-    (λ c. let p = parts c.before.before in omega (arith, (placed p (start p).pre).takes.within, (placed p (start p).pre).to))
-    (λ c. let p = parts c.before.before in omega (arith, (placed p (start p).pre).takes.within, (placed p (start p).pre).to))
-    (λ c. let p = parts c.before.before in omega (arith, (placed p (start p).pre).takes.within, (placed p (start p).pre).to))
+    (λ c. let p = parts c.before.before in omega (arith, (placed p (start p).requires).takes.within))
+    (λ c. let p = parts c.before.before in omega (arith, (placed p (start p).requires).takes.within, (placed p (start p).requires).to))
+    (λ c. let p = parts c.before.before in omega (arith, (placed p (start p).requires).takes.within, (placed p (start p).requires).to))
+    (λ c. let p = parts c.before.before in omega (arith, (placed p (start p).requires).takes.within, (placed p (start p).requires).to))
     put-taken-requires
     (λ c. search rules)
     returns)

@@ -43,24 +43,24 @@ higher {list} {i} c here above =
     below x true e m = omega (arith, c.top x e)
     below x false e m = omega (arith, eqb-true x y (sym (or-false (eqb x y)) ∙ m))
 
-abbrev invariant-loop : tie.invariant-loop
+abbrev invariant-loop : tie.invariant-loop-i
 invariant-loop list i₀ i = Climbed list i
 
-abbrev decreases-loop : tie.decreases-loop
+abbrev decreases-loop : tie.decreases-loop-i
 decreases-loop list i₀ i = length list - i
 
-loop-again : tie.Need-loop-preserved invariant-loop decreases-loop
+loop-again : tie.Need-loop-i-preserved invariant-loop decreases-loop
 loop-again c =
     let turn = c.before.before.before in
-    higher turn.before.loop.invariant turn.loop-test.true c.if1.false
+    higher turn.before.loop-i.invariant turn.loop-i-test.true c.if-list-i.false
 
-returns-2 : tie.Need-returns-2 invariant-loop decreases-loop
+returns-2 : tie.Need-returns invariant-loop decreases-loop
 returns-2 c e =
     let at = c.before in
-    ap duplicates (sym (take_all at.loop.i at.before.args.list.now c.loop-test.false)) ∙ at.loop.invariant.single
+    ap duplicates (sym (take_all at.loop-i.i at.before.args.list.now c.loop-i-test.false)) ∙ at.loop-i.invariant.single
 
-pub ascends-spec : {M : Type 1} → statement M
-ascends-spec =
+pub ascends_spec : {M : Type 1} → statement M
+ascends_spec =
     tie.close
     (tie.spec
     invariant-loop

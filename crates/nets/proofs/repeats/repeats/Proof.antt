@@ -38,10 +38,10 @@ record Compared (list : List ℕ) (i : ℕ) (met : Bool) (j : ℕ) : Type 0 wher
   unmet : met ≡ false
   left : member (get_or list i 0) (drop (i + 1) list) ≡ member (get_or list i 0) (drop j list)
 
-abbrev invariant-loop : tie.invariant-loop
+abbrev invariant-loop : tie.invariant-loop-j
 invariant-loop list met₀ i j₀ met j = Compared list i met j
 
-abbrev decreases-loop : tie.decreases-loop
+abbrev decreases-loop : tie.decreases-loop-j
 decreases-loop list met₀ i j₀ met j = length list - j
 
 abbrev invariant-search : tie.invariant-search
@@ -53,54 +53,54 @@ decreases-search list met₀ i₀ met i = length list - i
 search-holds : tie.Need-search-init invariant-loop decreases-loop invariant-search decreases-search
 search-holds c = record { unmet = refl; left = refl }
 
-loop-holds : tie.Need-loop-init invariant-loop decreases-loop invariant-search decreases-search
+loop-holds : tie.Need-loop-j-init invariant-loop decreases-loop invariant-search decreases-search
 loop-holds c = record { unmet = c.before.search.invariant.unmet; left = refl }
 
-loop-again : tie.Need-loop-preserved invariant-loop decreases-loop invariant-search decreases-search
+loop-again : tie.Need-loop-j-preserved invariant-loop decreases-loop invariant-search decreases-search
 loop-again c =
     let turn = c.before.before.before in
     record {
-      unmet = turn.before.loop.invariant.unmet;
+      unmet = turn.before.loop-j.invariant.unmet;
       left =
-          turn.before.loop.invariant.left
+          turn.before.loop-j.invariant.left
           ∙ pair-passed turn.before.before.before.before.args.list.now turn.before.before.before.search.i
-          turn.before.loop.j
-          turn.loop-test.true
-          c.if1.false;
+          turn.before.loop-j.j
+          turn.loop-j-test.true
+          c.if-list-i.false;
     }
 
 search-again : tie.Need-search-preserved invariant-loop decreases-loop invariant-search decreases-search
 search-again c =
     record {
-      unmet = c.before.loop.invariant.unmet;
+      unmet = c.before.loop-j.invariant.unmet;
       left =
           c.before.before.before.search.invariant.left
-          ∙ net-passed c.before.before.before.before.args.list.now c.before.before.before.search.i c.before.loop.j
+          ∙ net-passed c.before.before.before.before.args.list.now c.before.before.before.search.i c.before.loop-j.j
           c.before.before.search-test.true
-          c.loop-test.false
-          c.before.loop.invariant.left;
+          c.loop-j-test.false
+          c.before.loop-j.invariant.left;
     }
 
-returns : tie.Need-returns invariant-loop decreases-loop invariant-search decreases-search
+returns : tie.Need-returns-after-search invariant-loop decreases-loop invariant-search decreases-search
 returns c =
     c.before.search.invariant.unmet
     ∙ sym (c.before.search.invariant.left ∙ duplicates-end c.before.before.args.list.now c.before.search.i c.search-test.false)
 
-returns-2 : tie.Need-returns-2 invariant-loop decreases-loop invariant-search decreases-search
+returns-2 : tie.Need-returns-then-list-i invariant-loop decreases-loop invariant-search decreases-search
 returns-2 c =
     let turn = c.before.before.before in
     let l = turn.before.before.before.before.args.list.now in
     let i = turn.before.before.before.search.i in
     sym
     (turn.before.before.before.search.invariant.left
-    ∙ pair-met l i turn.before.loop.j
+    ∙ pair-met l i turn.before.loop-j.j
     turn.before.before.search-test.true
-    turn.loop-test.true
-    turn.before.loop.invariant.left
-    c.if1.true)
+    turn.loop-j-test.true
+    turn.before.loop-j.invariant.left
+    c.if-list-i.true)
 
-pub repeats-spec : {M : Type 1} → statement M
-repeats-spec =
+pub repeats_spec : {M : Type 1} → statement M
+repeats_spec =
     tie.close
     (tie.spec
     invariant-loop

@@ -17,46 +17,46 @@ tested :
 tested {table} {base} {nets} list i known here k test =
     rw (disjoint-here list i here nets, known_member table base nets k (get_or list i 0), test)
 
-abbrev invariant-loop : tie.invariant-loop
+abbrev invariant-loop : tie.invariant-loop-i
 invariant-loop list table base i₀ i = (nets : List ℕ) → Knows table base nets → disjoint list nets ≡ disjoint (drop i list) nets
 
-abbrev decreases-loop : tie.decreases-loop
+abbrev decreases-loop : tie.decreases-loop-i
 decreases-loop list table base i₀ i = length list - i
 
-loop-holds : tie.Need-loop-init invariant-loop decreases-loop
+loop-holds : tie.Need-loop-i-init invariant-loop decreases-loop
 loop-holds c nets k = refl
 
-cast-if1 : tie.Need-overflow-cast-if1 invariant-loop decreases-loop
-cast-if1 c = omega (arith, c.shared-slice-known.given c.before.before.loop.i)
+cast-if1 : tie.Need-overflow_cast-list invariant-loop decreases-loop
+cast-if1 c = omega (arith, c.shared_slice_known-1.given c.before.before.loop-i.i)
 
-mul-if1-2 : tie.Need-overflow-mul-if1-2 invariant-loop decreases-loop
-mul-if1-2 c = omega (arith, c.shared-slice-known.given c.before.before.loop.i)
+mul-if1-2 : tie.Need-offset_bounds-table-list invariant-loop decreases-loop
+mul-if1-2 c = omega (arith, c.shared_slice_known-1.given c.before.before.loop-i.i)
 
-shared-slice-read-if1-2 : tie.Need-shared-slice-read-if1-2 invariant-loop decreases-loop
-shared-slice-read-if1-2 c = c.before.before.before.before.requires.below c.before.before.before.loop.i
+shared-slice-read-if1-2 : tie.Need-bounds-table-list invariant-loop decreases-loop
+shared-slice-read-if1-2 c = c.before.before.before.before.requires.below c.before.before.before.loop-i.i
 
-returns : tie.Need-returns invariant-loop decreases-loop
+returns : tie.Need-returns-then-base-table invariant-loop decreases-loop
 returns c nets k =
     let turn = c.before.before.before in
     sym
     (ap not
-    (turn.before.loop.invariant nets k
-    ∙ tested turn.before.before.args.list.now turn.before.loop.i true turn.loop-test.true k (le-leb _ _ c.if1.true)))
+    (turn.before.loop-i.invariant nets k
+    ∙ tested turn.before.before.args.list.now turn.before.loop-i.i true turn.loop-i-test.true k (le-leb _ _ c.if-base-table.true)))
 
-loop-again : tie.Need-loop-preserved invariant-loop decreases-loop
+loop-again : tie.Need-loop-i-preserved invariant-loop decreases-loop
 loop-again c nets k =
     let turn = c.before.before.before in
-    turn.before.loop.invariant nets k
-    ∙ tested turn.before.before.args.list.now turn.before.loop.i false turn.loop-test.true k (lt-leb _ _ c.if1.false)
+    turn.before.loop-i.invariant nets k
+    ∙ tested turn.before.before.args.list.now turn.before.loop-i.i false turn.loop-i-test.true k (lt-leb _ _ c.if-base-table.false)
 
-returns-2 : tie.Need-returns-2 invariant-loop decreases-loop
+returns-2 : tie.Need-returns invariant-loop decreases-loop
 returns-2 c nets k =
     sym
     (ap not
-    (c.before.loop.invariant nets k ∙ disjoint-end c.before.before.args.list.now c.before.loop.i c.loop-test.false nets))
+    (c.before.loop-i.invariant nets k ∙ disjoint-end c.before.before.args.list.now c.before.loop-i.i c.loop-i-test.false nets))
 
-pub any-known-spec : {M : Type 1} → statement M
-any-known-spec =
+pub any_known_spec : {M : Type 1} → statement M
+any_known_spec =
     tie.close
     (tie.spec
     invariant-loop

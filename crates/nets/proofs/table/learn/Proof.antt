@@ -25,39 +25,39 @@ passed {list} {table₀} {table} {base} {i} p here in_table =
           rw (up_to-here list i here, ← ap (λ (n : ℕ). base + n) next) (knows-one (get_or list i 0) in_table (entry-fresh list i here d) (p.knows k d));
     }
 
-abbrev invariant-loop : tie.invariant-loop
+abbrev invariant-loop : tie.invariant-loop-i
 invariant-loop list table₀ base i₀ table i = Passed list table₀ base table i
 
-abbrev decreases-loop : tie.decreases-loop
+abbrev decreases-loop : tie.decreases-loop-i
 decreases-loop list table₀ base i₀ table i = length list - i
 
-loop-holds : tie.Need-loop-init invariant-loop decreases-loop
+loop-holds : tie.Need-loop-i-init invariant-loop decreases-loop
 loop-holds c = record { size = refl; knows = λ k d. k }
 
-cast-table-2 : tie.Need-overflow-cast-table-2 invariant-loop decreases-loop
-cast-table-2 c = omega (arith, c.shared-slice-known.given c.before.before.loop.i)
+cast-table-2 : tie.Need-overflow_cast-table-in-loop-i invariant-loop decreases-loop
+cast-table-2 c = omega (arith, c.shared_slice_known-1.given c.before.before.loop-i.i)
 
-mul-table-2 : tie.Need-overflow-mul-table-2 invariant-loop decreases-loop
-mul-table-2 c = omega (arith, c.shared-slice-known.given c.before.before.loop.i)
+mul-table-2 : tie.Need-offset_bounds-table-list invariant-loop decreases-loop
+mul-table-2 c = omega (arith, c.shared_slice_known-1.given c.before.before.loop-i.i)
 
-slice-write-table : tie.Need-slice-write-table invariant-loop decreases-loop
-slice-write-table c = omega (arith, c.before.before.before.requires.0.below c.before.before.loop.i)
+slice-write-table : tie.Need-bounds-table-list invariant-loop decreases-loop
+slice-write-table c = omega (arith, c.before.before.before.requires.0.below c.before.before.loop-i.i)
 
-loop-again : tie.Need-loop-preserved invariant-loop decreases-loop
+loop-again : tie.Need-loop-i-preserved invariant-loop decreases-loop
 loop-again c =
-    passed c.before.before.loop.invariant c.before.loop-test.true
-    (omega (arith, c.before.before.before.requires.0.below c.before.before.loop.i))
+    passed c.before.before.loop-i.invariant c.before.loop-i-test.true
+    (omega (arith, c.before.before.before.requires.0.below c.before.before.loop-i.i))
 
-same_length : tie.Need-same-length invariant-loop decreases-loop
-same_length c = c.before.loop.invariant.size
+same_length : tie.Need-shape_of-table invariant-loop decreases-loop
+same_length c = c.before.loop-i.invariant.size
 
 returns : tie.Need-returns invariant-loop decreases-loop
 returns c k d =
-    rw (← take_all c.before.loop.i c.before.before.args.list.now c.loop-test.false)
-    (c.before.loop.invariant.knows k d)
+    rw (← take_all c.before.loop-i.i c.before.before.args.list.now c.loop-i-test.false)
+    (c.before.loop-i.invariant.knows k d)
 
-pub learn-spec : {M : Type 1} → statement M
-learn-spec =
+pub learn_spec : {M : Type 1} → statement M
+learn_spec =
     tie.close
     (tie.spec
     invariant-loop

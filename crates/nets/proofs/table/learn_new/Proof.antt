@@ -86,13 +86,13 @@ module _ {nets list₀ : List ℕ} {base : ℕ} {list table : List ℕ} {i : ℕ
             ∙ ap (slot_of x) (sym (append_assoc nets (take i list₀) (x ∷ drop (suc i) list₀)))
             ∙ slot-fresh x (nets ++ take i list₀) (drop (suc i) list₀) new
 
-abbrev invariant-loop : tie.invariant-loop
+abbrev invariant-loop : tie.invariant-loop-i
 invariant-loop list₀ table₀ base first i₀ list table i = Passed list₀ table₀ base first list table i
 
-abbrev decreases-loop : tie.decreases-loop
+abbrev decreases-loop : tie.decreases-loop-i
 decreases-loop list₀ table₀ base first i₀ list table i = length list₀ - i
 
-loop-holds : tie.Need-loop-init invariant-loop decreases-loop
+loop-holds : tie.Need-loop-i-init invariant-loop decreases-loop
 loop-holds c =
     record {
       within = omega arith;
@@ -103,39 +103,39 @@ loop-holds c =
       learning = λ nets k e. record { left = refl; knows = rw (append-nil nets) k; written = refl };
     }
 
-cast-net : tie.Need-overflow-cast-net invariant-loop decreases-loop
-cast-net c = omega (arith, c.slice-known.given c.before.before.loop.i)
+cast-net : tie.Need-overflow_cast-net invariant-loop decreases-loop
+cast-net c = omega (arith, c.slice_known-1.given c.before.before.loop-i.i)
 
-mul-if1 : tie.Need-overflow-mul-if1 invariant-loop decreases-loop
-mul-if1 c = omega (arith, c.slice-known.given c.before.before.loop.i)
+mul-if1 : tie.Need-offset_bounds-table-net invariant-loop decreases-loop
+mul-if1 c = omega (arith, c.slice_known-1.given c.before.before.loop-i.i)
 
 -- The net at i is the one that the list had there at first, an index of the table.
-slice-read-if1 : tie.Need-slice-read-if1 invariant-loop decreases-loop
+slice-read-if1 : tie.Need-bounds-table-net invariant-loop decreases-loop
 slice-read-if1 c =
     let at = c.before.before.before in
-    omega (arith, at.loop.invariant.ahead at.loop.i (omega arith), at.before.requires.in_table.below at.loop.i)
+    omega (arith, at.loop-i.invariant.ahead at.loop-i.i (omega arith), at.before.requires.in_table.below at.loop-i.i)
 
-returns : tie.Need-returns invariant-loop decreases-loop
+returns : tie.Need-returns-then-base-table invariant-loop decreases-loop
 returns c =
     let turn = c.before.before.before in
-    let inv = turn.before.loop.invariant in (
-      (λ nets k e. met (inv.learning nets k e) turn.before.before.requires.single (omega arith) (rw (← inv.ahead turn.before.loop.i (omega arith)) c.if1.true)),
+    let inv = turn.before.loop-i.invariant in (
+      (λ nets k e. met (inv.learning nets k e) turn.before.before.requires.single (omega arith) (rw (← inv.ahead turn.before.loop-i.i (omega arith)) c.if-base-table.true)),
       inv.low,
     )
 
-mul-table : tie.Need-overflow-mul-table invariant-loop decreases-loop
-mul-table c = omega (arith, c.before.before.slice-known.given c.before.before.before.before.loop.i)
+mul-table : tie.Need-offset_bounds-table-net-in-loop-i invariant-loop decreases-loop
+mul-table c = omega (arith, c.before.before.slice_known-1.given c.before.before.before.before.loop-i.i)
 
-slice-write-table : tie.Need-slice-write-table invariant-loop decreases-loop
+slice-write-table : tie.Need-bounds-table-net-in-loop-i invariant-loop decreases-loop
 slice-write-table c =
     let at = c.before.before.before.before in
-    omega (arith, at.loop.invariant.ahead at.loop.i (omega arith), at.before.requires.in_table.below at.loop.i)
+    omega (arith, at.loop-i.invariant.ahead at.loop-i.i (omega arith), at.before.requires.in_table.below at.loop-i.i)
 
-loop-again : tie.Need-loop-preserved invariant-loop decreases-loop
+loop-again : tie.Need-loop-i-preserved invariant-loop decreases-loop
 loop-again c =
     let at = c.before.before.before.before in
-    let inv = at.loop.invariant in
-    let i = at.loop.i in
+    let inv = at.loop-i.invariant in
+    let i = at.loop-i.i in
     let first = at.before.args.first in
     let same = inv.ahead i (omega arith) in
     let in_table = at.before.requires.in_table.below i in
@@ -143,19 +143,19 @@ loop-again c =
       within = omega arith;
       list_kept = simp length-set inv.list_kept;
       table_kept = simp length-set inv.table_kept;
-      ahead = λ j h. get_or-set_other at.loop.list i j (first + i) 0 (λ e. omega arith) ∙ inv.ahead j (omega arith);
-      low = λ l. below_set (get_or at.loop.list i 0) (at.before.args.base + (first + i)) (omega arith) (omega arith) (inv.low l);
+      ahead = λ j h. get_or-set_other at.loop-i.list i j (first + i) 0 (λ e. omega arith) ∙ inv.ahead j (omega arith);
+      low = λ l. below_set (get_or at.loop-i.list i 0) (at.before.args.base + (first + i)) (omega arith) (omega arith) (inv.low l);
       learning = λ nets k e.
-          learn-one (inv.learning nets k e) at.before.requires.single (omega arith) first (get_or at.loop.list i 0) e same (omega arith) c.if1.false;
+          learn-one (inv.learning nets k e) at.before.requires.single (omega arith) first (get_or at.loop-i.list i 0) e same (omega arith) c.if-base-table.false;
     }
 
-returns-2 : tie.Need-returns-2 invariant-loop decreases-loop
+returns-2 : tie.Need-returns invariant-loop decreases-loop
 returns-2 c =
-    let inv = c.before.loop.invariant in
+    let inv = c.before.loop-i.invariant in
     ((λ nets k e. learnt (inv.learning nets k e) (omega arith) (omega arith)), inv.low)
 
-pub learn-new-spec : {M : Type 1} → statement M
-learn-new-spec =
+pub learn_new_spec : {M : Type 1} → statement M
+learn_new_spec =
     tie.close
     (tie.spec
     invariant-loop
@@ -166,8 +166,8 @@ learn-new-spec =
     cast-net
     mul-if1
     slice-read-if1
-    (λ c. c.before.before.before.before.loop.invariant.list_kept)
-    (λ c. c.before.before.before.before.loop.invariant.table_kept)
+    (λ c. c.before.before.before.before.loop-i.invariant.list_kept)
+    (λ c. c.before.before.before.before.loop-i.invariant.table_kept)
     returns
     (λ c. omega arith)
     (λ c. omega arith)
@@ -180,6 +180,6 @@ learn-new-spec =
     (λ c. omega arith)
     (λ c. omega arith)
     loop-again
-    (λ c. c.before.loop.invariant.list_kept)
-    (λ c. c.before.loop.invariant.table_kept)
+    (λ c. c.before.loop-i.invariant.list_kept)
+    (λ c. c.before.loop-i.invariant.table_kept)
     returns-2)

@@ -56,13 +56,13 @@ module _ {nets more list₀ list : List ℕ} {i : ℕ} (r : Resolving nets more 
               ∙ replaced-next (λ (x : ℕ). slot_of x (nets ++ more)) list₀ i here;
         }
 
-abbrev invariant-loop : tie.invariant-loop
+abbrev invariant-loop : tie.invariant-loop-i
 invariant-loop list₀ table base limit i₀ list i = Passed list₀ table base limit list i
 
-abbrev decreases-loop : tie.decreases-loop
+abbrev decreases-loop : tie.decreases-loop-i
 decreases-loop list₀ table base limit i₀ list i = length list₀ - i
 
-loop-holds : tie.Need-loop-init invariant-loop decreases-loop
+loop-holds : tie.Need-loop-i-init invariant-loop decreases-loop
 loop-holds c =
     record {
       within = omega arith;
@@ -71,49 +71,49 @@ loop-holds c =
       resolving = λ nets more k e. record { left = refl; written = refl };
     }
 
-cast-wrapping-sub-u32 : tie.Need-overflow-cast-wrapping-sub-u32 invariant-loop decreases-loop
-cast-wrapping-sub-u32 c = omega (arith, c.slice-known2.given c.before.before.loop.i)
+cast-wrapping-sub-u32 : tie.Need-overflow_cast-list invariant-loop decreases-loop
+cast-wrapping-sub-u32 c = omega (arith, c.slice_known-in-loop-i-1.given c.before.before.loop-i.i)
 
-mul-wrapping-sub-u32-2 : tie.Need-overflow-mul-wrapping-sub-u32-2 invariant-loop decreases-loop
-mul-wrapping-sub-u32-2 c = omega (arith, c.slice-known2.given c.before.before.loop.i)
+mul-wrapping-sub-u32-2 : tie.Need-offset_bounds-table-list invariant-loop decreases-loop
+mul-wrapping-sub-u32-2 c = omega (arith, c.slice_known-in-loop-i-1.given c.before.before.loop-i.i)
 
 -- The net at i is the one that the list had there at first, an index of the table.
-shared-slice-read-wrapping-sub-u32 : tie.Need-shared-slice-read-wrapping-sub-u32 invariant-loop decreases-loop
+shared-slice-read-wrapping-sub-u32 : tie.Need-bounds-table-list invariant-loop decreases-loop
 shared-slice-read-wrapping-sub-u32 c =
     let at = c.before.before.before in
-    omega (arith, at.loop.invariant.ahead at.loop.i (omega arith), at.before.before.before.requires.in_table.below at.loop.i)
+    omega (arith, at.loop-i.invariant.ahead at.loop-i.i (omega arith), at.before.before.before.requires.in_table.below at.loop-i.i)
 
-returns : tie.Need-returns invariant-loop decreases-loop
+returns : tie.Need-returns-then-limit-above invariant-loop decreases-loop
 returns c nets more k e =
     let sub = c.before in
     let turn = sub.before.before.before in
-    let inv = turn.before.loop.invariant in
-    met (inv.resolving nets more k e) (omega arith) k e (omega arith) sub.wrapping-sub-u32.result (omega arith)
-    (rw (← inv.ahead turn.before.loop.i (omega arith)) sub.wrapping-sub-u32.ensures)
-    c.if1.true
+    let inv = turn.before.loop-i.invariant in
+    met (inv.resolving nets more k e) (omega arith) k e (omega arith) sub.wrapping_sub_u32-above.result (omega arith)
+    (rw (← inv.ahead turn.before.loop-i.i (omega arith)) sub.wrapping_sub_u32-above.ensures)
+    c.if-limit-above.true
 
-loop-again : tie.Need-loop-preserved invariant-loop decreases-loop
+loop-again : tie.Need-loop-i-preserved invariant-loop decreases-loop
 loop-again c =
     let sub = c.before in
     let turn = sub.before.before.before in
-    let i = turn.before.loop.i in
-    let inv = turn.before.loop.invariant in
+    let i = turn.before.loop-i.i in
+    let inv = turn.before.loop-i.invariant in
     record {
       within = omega arith;
       kept = simp length-set inv.kept;
       ahead = λ j h.
-          get_or-set_other turn.before.loop.list i j sub.wrapping-sub-u32.result 0 (λ e. omega arith) ∙ inv.ahead j (omega arith);
+          get_or-set_other turn.before.loop-i.list i j sub.wrapping_sub_u32-above.result 0 (λ e. omega arith) ∙ inv.ahead j (omega arith);
       resolving = λ nets more k e.
-          resolve-one (inv.resolving nets more k e) (omega arith) k e (omega arith) sub.wrapping-sub-u32.result (omega arith)
-          (rw (← inv.ahead i (omega arith)) sub.wrapping-sub-u32.ensures)
-          c.if1.false;
+          resolve-one (inv.resolving nets more k e) (omega arith) k e (omega arith) sub.wrapping_sub_u32-above.result (omega arith)
+          (rw (← inv.ahead i (omega arith)) sub.wrapping_sub_u32-above.ensures)
+          c.if-limit-above.false;
     }
 
-returns-2 : tie.Need-returns-2 invariant-loop decreases-loop
-returns-2 c nets more k e = resolved (c.before.loop.invariant.resolving nets more k e) (omega arith) (omega arith)
+returns-2 : tie.Need-returns invariant-loop decreases-loop
+returns-2 c nets more k e = resolved (c.before.loop-i.invariant.resolving nets more k e) (omega arith) (omega arith)
 
-pub resolve-known-spec : {M : Type 1} → statement M
-resolve-known-spec =
+pub resolve_known_spec : {M : Type 1} → statement M
+resolve_known_spec =
     tie.close
     (tie.spec
     invariant-loop
@@ -125,7 +125,7 @@ resolve-known-spec =
     mul-wrapping-sub-u32-2
     shared-slice-read-wrapping-sub-u32
     (λ c κs. search rules)
-    (λ c. let called = c.before in called.before.before.before.before.loop.invariant.kept)
+    (λ c. let called = c.before in called.before.before.before.before.loop-i.invariant.kept)
     returns
     (λ c. omega arith)
     (λ c. omega arith)
@@ -133,5 +133,5 @@ resolve-known-spec =
     (λ c. omega arith)
     (λ c. omega arith)
     loop-again
-    (λ c. c.before.loop.invariant.kept)
+    (λ c. c.before.loop-i.invariant.kept)
     returns-2)

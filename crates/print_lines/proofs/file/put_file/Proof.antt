@@ -6,42 +6,42 @@ use Rattle.print_lines.proofs.file.put_file.Statement.{statement}
 use Rattle.print_lines.proofs.file.put_file.Tie as tie
 
 -- The places behind the bracket and behind the modules.
-abbrev start : tie.After-copy → tie.Start
+abbrev start : tie.After-copy-first → tie.Start
 start c = c.before.before.before.before.before
 
-abbrev opened : tie.After-put-all → tie.After-copy
+abbrev opened : tie.After-put_all-pen → tie.After-copy-first
 opened c = c.before.before.before.before.before
 
-copy-requires : tie.Need-copy-requires
+copy-requires : tie.Need-copy-first-requires
 copy-requires c κs = omega (arith, front-room c.before.before.before.before.requires)
 
-put-all-requires : tie.Need-put-all-requires
+put-all-requires : tie.Need-put_all-pen-requires
 put-all-requires c κs =
     let p = c.before.before.before.before in
-    modules-told (start p).requires p.copy.ensures
+    modules-told (start p).requires p.copy-first.ensures
 
-copy-requires-2 : tie.Need-copy-requires-2
+copy-requires-2 : tie.Need-copy-requires
 copy-requires-2 c κs =
     let b = c.before.before.before.before in
     let p = opened b in
-    let t = (start p).pre in
-    omega (arith, last-room t p.copy.ensures (b.put_all_lem.ensures (modules-told t p.copy.ensures)).put)
+    let t = (start p).requires in
+    omega (arith, last-room t p.copy-first.ensures (b.put_all_lem.ensures (modules-told t p.copy-first.ensures)).put)
 
 returns : tie.Need-returns
 returns c t =
     let last = c.before.before in
     let b = last.before.before.before.before.before in
     let p = opened b in
-    all_told t p.copy.ensures (b.put_all_lem.ensures (modules-told t p.copy.ensures)).put last.copy2.ensures
+    all_told t p.copy-first.ensures (b.put_all_lem.ensures (modules-told t p.copy-first.ensures)).put last.copy.ensures
 
-pub put-file-spec : {M : Type 1} → statement M
-put-file-spec =
+pub put_file_spec : {M : Type 1} → statement M
+put_file_spec =
     tie.close
     (tie.spec
     (λ c. search rules)
     copy-requires
     (λ c. omega (arith, some_number (start c.before.before.before).requires))
-    (λ c. omega (arith, c.shared-slice-known2.given 0))
+    (λ c. omega (arith, c.shared_slice_known-2-1.given 0))
     put-all-requires
     (λ c. search rules)
     copy-requires-2

@@ -9,39 +9,39 @@ use Rattle.print_lines.proofs.Going.{Going, going_start, going-all, next-told, g
 use Rattle.print_lines.proofs.occurrences.put_all.Statement.{statement}
 use Rattle.print_lines.proofs.occurrences.put_all.Tie as tie
 
-abbrev invariant-loop : tie.invariant-loop
+abbrev invariant-loop : tie.invariant-loop-i
 invariant-loop numbers from count out₀ at pen₀ i₀ out pen i = (t : OccurrencesTold numbers from count out₀ at) → Going t i out pen
 
-abbrev decreases-loop : tie.decreases-loop
+abbrev decreases-loop : tie.decreases-loop-i
 decreases-loop numbers from count out₀ at pen₀ i₀ out pen i = count - i
 
-abbrev start : tie.In-loop invariant-loop decreases-loop → tie.Start invariant-loop decreases-loop
+abbrev start : tie.In-loop-i invariant-loop decreases-loop → tie.Start invariant-loop decreases-loop
 start c = c.before.before.before.before
 
-put-requires : tie.Need-put-requires invariant-loop decreases-loop
+put-requires : tie.Need-put-pen-requires invariant-loop decreases-loop
 put-requires c κs =
     let turn = c.before in
     let t = (start turn).requires in
-    next-told t (turn.before.loop.invariant t) turn.loop-test.true
+    next-told t (turn.before.loop-i.invariant t) turn.loop-i-test.true
 
-loop-again : tie.Need-loop-preserved invariant-loop decreases-loop
+loop-again : tie.Need-loop-i-preserved invariant-loop decreases-loop
 loop-again c t =
     let turn = c.before.before.before.before in
-    going_more t (turn.before.loop.invariant t) turn.loop-test.true c.before.before.put.ensures
+    going_more t (turn.before.loop-i.invariant t) turn.loop-i-test.true c.before.before.put-pen.ensures
 
 returns : tie.Need-returns invariant-loop decreases-loop
-returns c t = going-all t (c.before.loop.invariant t) c.loop-test.false
+returns c t = going-all t (c.before.loop-i.invariant t) c.loop-i-test.false
 
-pub put-all-spec : {M : Type 1} → statement M
-put-all-spec =
+pub put_all_spec : {M : Type 1} → statement M
+put_all_spec =
     tie.close
     (tie.spec
     invariant-loop
     decreases-loop
     (λ c t. going_start t _ refl refl)
     put-requires
-    (λ c. omega (arith, c.before.before.before.before.loop-test.true))
-    (λ c. omega (arith, c.before.before.before.before.loop-test.true))
+    (λ c. omega (arith, c.before.before.before.before.loop-i-test.true))
+    (λ c. omega (arith, c.before.before.before.before.loop-i-test.true))
     loop-again
-    (λ c. let t = c.before.before.before.before.requires in laying-length (c.before.loop.invariant t).laid)
+    (λ c. let t = c.before.before.before.before.requires in laying-length (c.before.loop-i.invariant t).laid)
     returns)

@@ -15,43 +15,43 @@ abbrev nets : List ℕ → List ℕ
 nets drives = apart 32 drives ++ behind_driven
 
 -- The places behind the brackets and behind the nets.
-abbrev start : tie.After-copy → tie.Start
+abbrev start : tie.After-copy-nets → tie.Start
 start c = c.before.before.before.before.before
 
-abbrev behind-brackets : tie.After-put-apart → tie.After-copy
+abbrev behind-brackets : tie.After-put_apart-end → tie.After-copy-nets
 behind-brackets c = c.before.before.before.before
 
-opened : (c : tie.After-copy)
+opened : (c : tie.After-copy-nets)
     → let a = (start c).args in
-    Laying (driven_part a.drives.now) (nets a.drives.now) a.out.now a.at c.copy.new.1.0 c.copy.result
-opened c = laying-put {rest = nets (start c).args.drives.now} c.copy.ensures (laying-start (start c).requires.1)
+    Laying (driven_part a.drives.now) (nets a.drives.now) a.out-1.now a.at c.copy-nets.new.1.0 c.copy-nets.result
+opened c = laying-put {rest = nets (start c).args.drives.now} c.copy-nets.ensures (laying-start (start c).requires.1)
 
-listed : (c : tie.After-put-apart)
+listed : (c : tie.After-put_apart-end)
     → let a = (start (behind-brackets c)).args in
-    Laying (driven_part a.drives.now) behind_driven a.out.now a.at c.put-apart.new.1.1.0 c.put-apart.result
-listed c = laying-put {rest = behind_driven} c.put-apart.ensures (opened (behind-brackets c))
+    Laying (driven_part a.drives.now) behind_driven a.out-1.now a.at c.put_apart-end.new.1.1.0 c.put_apart-end.result
+listed c = laying-put {rest = behind_driven} c.put_apart-end.ensures (opened (behind-brackets c))
 
-copy-requires : tie.Need-copy-requires
+copy-requires : tie.Need-copy-nets-requires
 copy-requires c κs =
     let s = c.before.before.before.before in
     omega (arith, (room-first {xs = 40 ∷ 40 ∷ []} (nets s.args.drives.now) s.requires.1).fits)
 
-put-apart-requires : tie.Need-put-apart-requires
+put-apart-requires : tie.Need-put_apart-end-requires
 put-apart-requires c κs =
     let first = c.before.before.before in
     let s = start first in
-    (s.pre.0, room-first {xs = apart 32 s.args.drives.now} behind_driven (laying-left (opened first)))
+    (s.requires.0, room-first {xs = apart 32 s.args.drives.now} behind_driven (laying-left (opened first)))
 
-copy-requires-2 : tie.Need-copy-requires-2
+copy-requires-2 : tie.Need-copy-requires
 copy-requires-2 c κs = omega (arith, (laying-left (listed c.before.before.before.before)).fits)
 
 returns : tie.Need-returns
 returns c =
     let p = c.before.before in
-    laying-last p.copy2.ensures (listed p.before.before.before.before.before)
+    laying-last p.copy.ensures (listed p.before.before.before.before.before)
 
-pub put-driven-spec : {M : Type 1} → statement M
-put-driven-spec =
+pub put_driven_spec : {M : Type 1} → statement M
+put_driven_spec =
     tie.close
     (tie.spec
     (λ c. search rules)

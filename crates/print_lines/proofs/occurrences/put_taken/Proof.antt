@@ -20,32 +20,32 @@ abbrev nets : List ℕ → List ℕ
 nets takes = each (signed 32) takes ++ close
 
 -- The places behind the name and behind the nets.
-abbrev start : tie.After-put-name → tie.Start
+abbrev start : tie.After-put_name-nets → tie.Start
 start c = c.before.before.before.before
 
-abbrev behind-name : tie.After-put-more → tie.After-put-name
+abbrev behind-name : tie.After-put_more-end → tie.After-put_name-nets
 behind-name c = c.before.before.before.before
 
-named : (c : tie.After-put-name)
+named : (c : tie.After-put_name-nets)
     → let a = (start c).args in
-    Laying (taken_part a.refers a.takes.now) (nets a.takes.now) a.out.now a.at c.put-name.new.1.0 c.put-name.result
-named c = laying-put {rest = nets (start c).args.takes.now} c.put-name.ensures (laying-start (start c).requires.2)
+    Laying (taken_part a.refers a.takes.now) (nets a.takes.now) a.out-1.now a.at c.put_name-nets.new.1.0 c.put_name-nets.result
+named c = laying-put {rest = nets (start c).args.takes.now} c.put_name-nets.ensures (laying-start (start c).requires.2)
 
-listed : (c : tie.After-put-more)
+listed : (c : tie.After-put_more-end)
     → let a = (start (behind-name c)).args in
-    Laying (taken_part a.refers a.takes.now) close a.out.now a.at c.put-more.new.1.1.0 c.put-more.result
-listed c = laying-put {rest = close} c.put-more.ensures (named (behind-name c))
+    Laying (taken_part a.refers a.takes.now) close a.out-1.now a.at c.put_more-end.new.1.1.0 c.put_more-end.result
+listed c = laying-put {rest = close} c.put_more-end.ensures (named (behind-name c))
 
-put-name-requires : tie.Need-put-name-requires
+put-name-requires : tie.Need-put_name-nets-requires
 put-name-requires c κs =
     let s = c.before.before.before in
     (s.requires.0, room-first {xs = name_of s.args.refers} (nets s.args.takes.now) s.requires.2)
 
-put-more-requires : tie.Need-put-more-requires
+put-more-requires : tie.Need-put_more-end-requires
 put-more-requires c κs =
     let first = c.before.before.before in
     let s = start first in
-    (s.pre.1, room-first {xs = each (signed 32) s.args.takes.now} close (laying-left (named first)))
+    (s.requires.1, room-first {xs = each (signed 32) s.args.takes.now} close (laying-left (named first)))
 
 copy-requires : tie.Need-copy-requires
 copy-requires c κs = omega (arith, (laying-left (listed c.before.before.before.before)).fits)
@@ -55,8 +55,8 @@ returns c =
     let p = c.before.before in
     laying-last p.copy.ensures (listed p.before.before.before.before.before)
 
-pub put-taken-spec : {M : Type 1} → statement M
-put-taken-spec =
+pub put_taken_spec : {M : Type 1} → statement M
+put_taken_spec =
     tie.close
     (tie.spec
     put-name-requires

@@ -9,34 +9,34 @@ use borrow.Author.Rules.{rules}
 use Rattle.read_parts.proofs.number.read_number.Statement.{statement}
 use Rattle.read_parts.proofs.number.read_number.Tie as tie
 
-returns : tie.Need-returns
+returns : tie.Need-returns-then-bytes-at
 returns c =
     let a = c.before.before.before.args in
-    c.refuse.ensures ∙ ap number_read (sym (no_byte a.bytes.now a.at c.before.if1.true))
+    c.refuse.ensures ∙ ap number_read (sym (no_byte a.bytes.now a.at c.before.if-bytes-at.true))
 
-returns-2 : tie.Need-returns-2
+returns-2 : tie.Need-returns-then-first-lt128
 returns-2 c =
     let a = c.before.before.before.before.args in
-    ap number_read (sym (one_byte a.bytes.now a.at c.before.before.if1.false c.if2.true))
+    ap number_read (sym (one_byte a.bytes.now a.at c.before.before.if-bytes-at.false c.if-first-lt128.true))
 
 -- The first byte is 128 or more: the function's start from there.
-abbrev start : tie.Else2 → tie.Start
+abbrev start : tie.Else-first-lt128 → tie.Start
 start c = c.before.before.before.before
 
-returns-3 : tie.Need-returns-3
+returns-3 : tie.Need-returns-then-bytes-at-2
 returns-3 c =
     let far = c.before.before in
     let a = (start far).args in
-    c.refuse2.ensures
-    ∙ ap number_read (sym (cut_off a.bytes.now a.at far.before.before.if1.false far.if2.false c.before.if3.true))
+    c.refuse-then-bytes-at-2.ensures
+    ∙ ap number_read (sym (cut_off a.bytes.now a.at far.before.before.if-bytes-at.false far.if-first-lt128.false c.before.if-bytes-at-2.true))
 
-returns-4 : tie.Need-returns-4
+returns-4 : tie.Need-returns-then-second-eq0
 returns-4 c =
     let far = c.before.before.before.before in
     let a = (start far).args in
-    let two = c.before.before.before.if3.false in
-    let high = far.if2.false in
-    c.refuse3.ensures
+    let two = c.before.before.before.if-bytes-at-2.false in
+    let high = far.if-first-lt128.false in
+    c.refuse-then-second-eq0.ensures
     ∙ ap number_read
     (sym
     (⊎_elim
@@ -44,29 +44,29 @@ returns-4 c =
     (λ w. second-high a.bytes.now a.at two high w.0.left (leb-true _ _ w.1.taken))
     c.before.if4.branch))
 
-cast-t16 : tie.Need-overflow-cast-t16
+cast-t16 : tie.Need-overflow_cast-result-2
 cast-t16 c =
     let far = c.before.before.before.before in
-    omega (arith, far.before.before.before.shared-slice-known.given (start far).args.at)
+    omega (arith, far.before.before.before.shared_slice_known-1.given (start far).args.at)
 
-mul-t18 : tie.Need-overflow-mul-t18
+mul-t18 : tie.Need-overflow_mul-result
 mul-t18 c = omega (arith, leb-false)
 
-add-t19 : tie.Need-overflow-add-t19
+add-t19 : tie.Need-overflow_add-result-2
 add-t19 c =
     let far = c.before.before.before.before in
-    omega (arith, leb-false, far.before.before.before.shared-slice-known.given (start far).args.at)
+    omega (arith, leb-false, far.before.before.before.shared_slice_known-1.given (start far).args.at)
 
-returns-5 : tie.Need-returns-5
+returns-5 : tie.Need-returns
 returns-5 c =
     let far = c.before.before.before.before in
     let a = (start far).args in
-    let two = c.before.before.before.if3.false in
-    let high = far.if2.false in
-    ap number_read (sym (second-good a.bytes.now a.at two high c.before.if4.false (leb-false _ _ c.if5.false)))
+    let two = c.before.before.before.if-bytes-at-2.false in
+    let high = far.if-first-lt128.false in
+    ap number_read (sym (second-good a.bytes.now a.at two high c.before.if-second-eq0.false (leb-false _ _ c.if-second-ge128.false)))
 
-pub read-number-spec : {M : Type 1} → statement M
-read-number-spec =
+pub read_number_spec : {M : Type 1} → statement M
+read_number_spec =
     tie.close
     (tie.spec
     (λ c κs. search rules)

@@ -11,84 +11,84 @@ use Rattle.read_parts.proofs.parts.keep_module.Statement.{statement}
 use Rattle.read_parts.proofs.parts.keep_module.Tie as tie
 
 -- The number is read: the call that reads it, and the function's start.
-abbrev number : tie.After-named → tie.After-keep-number
+abbrev number : tie.In-On-2 → tie.After-keep_number-named
 number c = c.before.before.before.before
 
-abbrev entry : tie.After-named → tie.Start
+abbrev entry : tie.In-On-2 → tie.Start
 entry c = (number c).before.before.before.before
 
-named : (c : tie.After-named)
-    → Reached one read_number (entry c).args.bytes.now (entry c).args.spot (entry c).args.numbers.now
-    c.named.given.0.0 (number c).keep-number.new.1.1.0
-named c = reached sound-number (entry c).requires c.named.given.1 (number c).keep-number.ensures
+named : (c : tie.In-On-2)
+    → Reached one read_number (entry c).args.bytes.now (entry c).args.spot (entry c).args.numbers-1.now
+    c.named-1.given.0.0 (number c).keep_number-named.new.1.1.0
+named c = reached sound-number (entry c).requires c.named-1.given.1 (number c).keep_number-named.ensures
 
 -- The inputs are read: the call that reads them, and where reading stood.
-abbrev ins : tie.After-inputs → tie.After-keep-nets
+abbrev ins : tie.In-On-inputs-2 → tie.After-keep_nets-inputs
 ins c = c.before.before.before.before
 
-abbrev behind-number : tie.After-inputs → tie.After-named
+abbrev behind-number : tie.In-On-inputs-2 → tie.In-On-2
 behind-number c = (ins c).before.before.before
 
-inputs : (c : tie.After-inputs)
+inputs : (c : tie.In-On-inputs-2)
     → Reached list_numbers read_nets (entry (behind-number c)).args.bytes.now
-    (behind-number c).named.given.0.0 (number (behind-number c)).keep-number.new.1.1.0
-    c.inputs.given.0.0 (ins c).keep-nets.new.1.1.0
-inputs c = reached sound-nets (named (behind-number c)).stands c.inputs.given.1 (ins c).keep-nets.ensures
+    (behind-number c).named-1.given.0.0 (number (behind-number c)).keep_number-named.new.1.1.0
+    c.inputs-1.given.0.0 (ins c).keep_nets-inputs.new.1.1.0
+inputs c = reached sound-nets (named (behind-number c)).stands c.inputs-1.given.1 (ins c).keep_nets-inputs.ensures
 
 -- The outputs are read, likewise.
-abbrev outs : tie.After-outputs → tie.After-keep-nets2
+abbrev outs : tie.In-On-outputs-2 → tie.After-keep_nets-outputs
 outs c = c.before.before.before.before
 
-abbrev behind-inputs : tie.After-outputs → tie.After-inputs
+abbrev behind-inputs : tie.In-On-outputs-2 → tie.In-On-inputs-2
 behind-inputs c = (outs c).before.before.before
 
-outputs : (c : tie.After-outputs)
+outputs : (c : tie.In-On-outputs-2)
     → Reached list_numbers read_nets (entry (behind-number (behind-inputs c))).args.bytes.now
-    (behind-inputs c).inputs.given.0.0 (ins (behind-inputs c)).keep-nets.new.1.1.0
-    c.outputs.given.0.0 (outs c).keep-nets2.new.1.1.0
-outputs c = reached sound-nets (inputs (behind-inputs c)).stands c.outputs.given.1 (outs c).keep-nets2.ensures
+    (behind-inputs c).inputs-1.given.0.0 (ins (behind-inputs c)).keep_nets-inputs.new.1.1.0
+    c.outputs-1.given.0.0 (outs c).keep_nets-outputs.new.1.1.0
+outputs c = reached sound-nets (inputs (behind-inputs c)).stands c.outputs-1.given.1 (outs c).keep_nets-outputs.ensures
 
-returns : tie.Need-returns
+returns : tie.Need-returns-in_default
 returns c =
     takes-alike alike_module
-    (takes-ended (λ _. skip read_nets (skip read_nets read_body)) c.enum_told.given.1
-    c.before.before.before.before.keep-number.ensures)
+    (takes-ended (λ _. skip read_nets (skip read_nets read_body)) c.enum_told-1.given.1
+    c.before.before.before.before.keep_number-named.ensures)
 
-keep-nets-requires : tie.Need-keep-nets-requires
+keep-nets-requires : tie.Need-keep_nets-inputs-requires
 keep-nets-requires c κs = (named c.before.before).stands
 
-returns-2 : tie.Need-returns-2
+returns-2 : tie.Need-returns-in_default-inputs
 returns-2 c =
-    let p : tie.After-keep-nets = c.before.before.before.before in
+    let p : tie.After-keep_nets-inputs = c.before.before.before.before in
     takes-alike alike_module
     (takes_skip (named p.before.before.before)
-    (takes-ended (λ _. skip read_nets read_body) c.enum-told2.given.1 p.keep-nets.ensures))
+    (takes-ended (λ _. skip read_nets read_body) c.enum_told-in_default-inputs-1.given.1 p.keep_nets-inputs.ensures))
 
-keep-nets-requires-2 : tie.Need-keep-nets-requires-2
+keep-nets-requires-2 : tie.Need-keep_nets-outputs-requires
 keep-nets-requires-2 c κs = (inputs c.before.before).stands
 
-returns-3 : tie.Need-returns-3
+returns-3 : tie.Need-returns-in_default-outputs
 returns-3 c =
-    let p : tie.After-keep-nets2 = c.before.before.before.before in
-    let q : tie.After-inputs = p.before.before.before in
+    let p : tie.After-keep_nets-outputs = c.before.before.before.before in
+    let q : tie.In-On-inputs-2 = p.before.before.before in
     takes-alike alike_module
     (takes_skip (named (behind-number q))
-    (takes_skip (inputs q) (takes-ended (λ _. read_body) c.enum-told3.given.1 p.keep-nets2.ensures)))
+    (takes_skip (inputs q) (takes-ended (λ _. read_body) c.enum_told-in_default-outputs-1.given.1 p.keep_nets-outputs.ensures)))
 
-keep-body-requires : tie.Need-keep-body-requires
+keep-body-requires : tie.Need-keep_body-requires
 keep-body-requires c κs = (outputs c.before.before).stands
 
-returns-4 : tie.Need-returns-4
+returns-4 : tie.Need-returns
 returns-4 c =
     let last = c.before.before in
-    let p : tie.After-outputs = last.before.before.before in
-    let q : tie.After-inputs = behind-inputs p in
+    let p : tie.In-On-outputs-2 = last.before.before.before in
+    let q : tie.In-On-inputs-2 = behind-inputs p in
     takes-alike alike_module
     (takes_skip (named (behind-number q))
     (takes_skip (inputs q) (takes_skip (outputs p) last.keep_body.ensures)))
 
-pub keep-module-spec : {M : Type 1} → statement M
-keep-module-spec =
+pub keep_module_spec : {M : Type 1} → statement M
+keep_module_spec =
     tie.close
     (tie.spec
     (λ c κs. search rules)

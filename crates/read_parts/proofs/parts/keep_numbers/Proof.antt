@@ -8,32 +8,32 @@ use Rattle.read_parts.specs.Turns.{Turning, turn-first, turn-refused, turn-next,
 use Rattle.read_parts.proofs.parts.keep_numbers.Statement.{statement}
 use Rattle.read_parts.proofs.parts.keep_numbers.Tie as tie
 
-abbrev invariant-loop : tie.invariant-loop
+abbrev invariant-loop : tie.invariant-loop-left
 invariant-loop count bytes numbers₀ spot₀ left₀ numbers spot left = Turning read_number bytes spot₀ count numbers₀ left spot numbers
 
-abbrev decreases-loop : tie.decreases-loop
+abbrev decreases-loop : tie.decreases-loop-left
 decreases-loop count bytes numbers₀ spot₀ left₀ numbers spot left = left
 
 -- The turn that a call is made in.
-abbrev turn : tie.After-keep-number invariant-loop decreases-loop → tie.In-loop invariant-loop decreases-loop
+abbrev turn : tie.After-keep_number-way invariant-loop decreases-loop → tie.In-loop-left invariant-loop decreases-loop
 turn c = c.before.before
 
-returns : tie.Need-returns invariant-loop decreases-loop
+returns : tie.Need-returns-in_default invariant-loop decreases-loop
 returns c =
     let called = c.before.before.before.before in
     let t = turn called in
-    turn-refused t.before.loop.inv t.loop-test.taken c.enum_told.given.1 called.keep-number.ensures
+    turn-refused t.before.loop-left.inv t.loop-left-test.taken c.enum_told-1.given.1 called.keep_number-way.ensures
 
-loop-again : tie.Need-loop-preserved invariant-loop decreases-loop
+loop-again : tie.Need-loop-left-preserved invariant-loop decreases-loop
 loop-again c =
     let way = c.before in
     let called = way.before.before.before.before in
     let t = turn called in
-    turn-next t.before.loop.inv t.loop-test.taken
-    (reached sound-number t.before.loop.inv.stands way.way.given.1 called.keep-number.ensures)
+    turn-next t.before.loop-left.inv t.loop-left-test.taken
+    (reached sound-number t.before.loop-left.inv.stands way.way-1.given.1 called.keep_number-way.ensures)
 
-pub keep-numbers-spec : {M : Type 1} → statement M
-keep-numbers-spec =
+pub keep_numbers_spec : {M : Type 1} → statement M
+keep_numbers_spec =
     tie.close
     (tie.spec
     invariant-loop
@@ -48,4 +48,4 @@ keep-numbers-spec =
     (λ c. omega arith)
     loop-again
     (λ c. omega arith)
-    (λ c. turn_last c.before.loop.invariant c.loop-test.false))
+    (λ c. turn_last c.before.loop-left.invariant c.loop-left-test.false))

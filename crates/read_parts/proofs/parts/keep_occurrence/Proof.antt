@@ -10,57 +10,57 @@ use Rattle.read_parts.proofs.parts.keep_occurrence.Statement.{statement}
 use Rattle.read_parts.proofs.parts.keep_occurrence.Tie as tie
 
 -- The driven nets are read: the call that reads them, and the function's start.
-abbrev nets : tie.After-driven → tie.After-keep-nets
+abbrev nets : tie.In-On-2 → tie.After-keep_nets-driven
 nets c = c.before.before.before.before
 
-abbrev entry : tie.After-driven → tie.Start
+abbrev entry : tie.In-On-2 → tie.Start
 entry c = (nets c).before.before.before.before
 
-driven : (c : tie.After-driven)
-    → Reached list_numbers read_nets (entry c).args.bytes.now (entry c).args.spot (entry c).args.numbers.now
-    c.driven.given.0.0 (nets c).keep-nets.new.1.1.0
-driven c = reached sound-nets (entry c).requires c.driven.given.1 (nets c).keep-nets.ensures
+driven : (c : tie.In-On-2)
+    → Reached list_numbers read_nets (entry c).args.bytes.now (entry c).args.spot (entry c).args.numbers-1.now
+    c.driven-1.given.0.0 (nets c).keep_nets-driven.new.1.1.0
+driven c = reached sound-nets (entry c).requires c.driven-1.given.1 (nets c).keep_nets-driven.ensures
 
 -- The number is read: the call that reads it, and where reading stood.
-abbrev number : tie.After-refers → tie.After-keep-number
+abbrev number : tie.In-On-refers-2 → tie.After-keep_number-refers
 number c = c.before.before.before.before
 
-abbrev behind : tie.After-refers → tie.After-driven
+abbrev behind : tie.In-On-refers-2 → tie.In-On-2
 behind c = (number c).before.before.before
 
-refers : (c : tie.After-refers)
+refers : (c : tie.In-On-refers-2)
     → Reached one read_number (entry (behind c)).args.bytes.now
-    (behind c).driven.given.0.0 (nets (behind c)).keep-nets.new.1.1.0
-    c.refers.given.0.0 (number c).keep-number.new.1.1.0
-refers c = reached sound-number (driven (behind c)).stands c.refers.given.1 (number c).keep-number.ensures
+    (behind c).driven-1.given.0.0 (nets (behind c)).keep_nets-driven.new.1.1.0
+    c.refers-1.given.0.0 (number c).keep_number-refers.new.1.1.0
+refers c = reached sound-number (driven (behind c)).stands c.refers-1.given.1 (number c).keep_number-refers.ensures
 
-returns : tie.Need-returns
+returns : tie.Need-returns-in_default
 returns c =
     takes-alike alike-occurrence
-    (takes-ended (λ _. skip read_number read_nets) c.enum_told.given.1 c.before.before.before.before.keep-nets.ensures)
+    (takes-ended (λ _. skip read_number read_nets) c.enum_told-1.given.1 c.before.before.before.before.keep_nets-driven.ensures)
 
-keep-number-requires : tie.Need-keep-number-requires
+keep-number-requires : tie.Need-keep_number-refers-requires
 keep-number-requires c κs = (driven c.before.before).stands
 
-returns-2 : tie.Need-returns-2
+returns-2 : tie.Need-returns-in_default-refers
 returns-2 c =
-    let p : tie.After-keep-number = c.before.before.before.before in
+    let p : tie.After-keep_number-refers = c.before.before.before.before in
     takes-alike alike-occurrence
     (takes_skip (driven p.before.before.before)
-    (takes-ended (λ _. read_nets) c.enum-told2.given.1 p.keep-number.ensures))
+    (takes-ended (λ _. read_nets) c.enum_told-in_default-refers-1.given.1 p.keep_number-refers.ensures))
 
-keep-nets-requires-2 : tie.Need-keep-nets-requires-2
+keep-nets-requires-2 : tie.Need-keep_nets-requires
 keep-nets-requires-2 c κs = (refers c.before.before).stands
 
-returns-3 : tie.Need-returns-3
+returns-3 : tie.Need-returns
 returns-3 c =
     let last = c.before.before in
-    let p : tie.After-refers = last.before.before.before in
+    let p : tie.In-On-refers-2 = last.before.before.before in
     takes-alike alike-occurrence
-    (takes_skip (driven (behind p)) (takes_skip (refers p) last.keep-nets2.ensures))
+    (takes_skip (driven (behind p)) (takes_skip (refers p) last.keep_nets.ensures))
 
-pub keep-occurrence-spec : {M : Type 1} → statement M
-keep-occurrence-spec =
+pub keep_occurrence_spec : {M : Type 1} → statement M
+keep_occurrence_spec =
     tie.close
     (tie.spec
     (λ c κs. search rules)

@@ -4,44 +4,44 @@ use native.Mathlib.Omega.{arith}
 use Rattle.meaning.specs.Reading.{read_number}
 use Rattle.read_parts.specs.Steps.{number_read, step_from}
 use Rattle.read_parts.proofs.Stored.{count_room, count_kept, count-over, count-refused}
-use Rattle.read_parts.specs.declared.number.Number.TheVariants.{Is}
+use Rattle.read_parts.specs.declared.number-1.Number.TheVariants.{Is}
 use borrow.Author.Rules.{rules}
 use Rattle.read_parts.proofs.way.keep_count.Statement.{statement}
 use Rattle.read_parts.proofs.way.keep_count.Tie as tie
 
 -- The function's start, from where a number is found.
-abbrev entry : tie.After-known-told2 → tie.Start
+abbrev entry : tie.In-Is → tie.Start
 entry c = let called = c.before.before.before in called.before.before.before
 
-is : (c : tie.After-known-told2)
-    → Is c.before.value.given.0.0 c.before.value.given.0.1.0
+is : (c : tie.In-Is)
+    → Is c.before.value-1.given.0.0 c.before.value-1.given.0.1.0
     ≡ number_read (step_from read_number (entry c).args.bytes.now (entry c).args.spot)
-is c = sym c.before.value.given.1 ∙ c.before.before.before.read_number.ensures
+is c = sym c.before.value-1.given.1 ∙ c.before.before.before.read_number.ensures
 
-returns : tie.Need-returns
-returns c = count-over (entry c.before).requires (is c.before) (entry c.before).args.ceiling c.if1.true
+returns : tie.Need-returns-then-ceiling-value
+returns c = count-over (entry c.before).requires (is c.before) (entry c.before).args.ceiling c.if-ceiling-value.true
 
-slice-write-numbers : tie.Need-slice-write-numbers
+slice-write-numbers : tie.Need-bounds-numbers-filled
 slice-write-numbers c = count_room (entry c.before).requires (is c.before)
 
-mul-numbers : tie.Need-overflow-mul-numbers
+mul-numbers : tie.Need-offset_bounds-numbers-filled
 mul-numbers c = let h = slice-write-numbers c in omega arith
 
-add-t14 : tie.Need-overflow-add-t14
+add-t14 : tie.Need-overflow_add-result
 add-t14 c = let h = slice-write-numbers c in omega arith
 
-returns-2 : tie.Need-returns-2
+returns-2 : tie.Need-returns-in-Refused
 returns-2 c =
     let called = c.before.before.before in
     let start = called.before.before.before in
-    let none = sym c.before.number.given.1 ∙ called.read_number.ensures in
+    let none = sym c.before.number-1.given.1 ∙ called.read_number.ensures in
     count-refused start.requires none start.args.ceiling
 
-returns-3 : tie.Need-returns-3
-returns-3 c = count_kept (entry c.before).requires (is c.before) (entry c.before).args.ceiling c.if1.false
+returns-3 : tie.Need-returns-else-ceiling-value
+returns-3 c = count_kept (entry c.before).requires (is c.before) (entry c.before).args.ceiling c.if-ceiling-value.false
 
-pub keep-count-spec : {M : Type 1} → statement M
-keep-count-spec =
+pub keep_count_spec : {M : Type 1} → statement M
+keep_count_spec =
     tie.close
     (tie.spec
     (λ c κs. search rules)

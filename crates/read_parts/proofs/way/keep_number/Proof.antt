@@ -10,9 +10,9 @@ returns c =
     let called = c.before.before in
     let known = called.before.before.before in
     let start = known.before in
-    let bytes = bytes-all start.args.bytes.now (λ i. (known.shared-slice-known.given i).fits) in
-    let kept = called.keep-count.ensures in
+    let bytes = bytes-all start.args.bytes.now (λ i. (known.shared_slice_known-1.given i).fits) in
+    let kept = called.keep_count.ensures in
     record { answers = rw (count-largest bytes start.args.spot.place) at kept.answers; lays = kept.lays }
 
-pub keep-number-spec : {M : Type 1} → statement M
-keep-number-spec = tie.close (tie.spec (λ c κs. search rules) (λ c. search rules) returns)
+pub keep_number_spec : {M : Type 1} → statement M
+keep_number_spec = tie.close (tie.spec (λ c κs. search rules) (λ c. search rules) returns)

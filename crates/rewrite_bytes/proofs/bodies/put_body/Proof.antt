@@ -15,125 +15,125 @@ use Rattle.rewrite_bytes.proofs.Putting.{Sofar, none-put, all-put, Stays, stays,
 use Rattle.rewrite_bytes.proofs.bodies.put_body.Statement.{statement}
 use Rattle.rewrite_bytes.proofs.bodies.put_body.Tie as tie
 
-abbrev invariant-loop : tie.invariant-loop
+abbrev invariant-loop : tie.invariant-loop-left
 invariant-loop numbers place count table stamp out₀ to at₀ left₀ from₀ end₀ out at left from end =
     (s : Roomy numbers place count table stamp (length out₀) to) → Sofar s.w out₀ to at left from out end
 
-abbrev decreases-loop : tie.decreases-loop
+abbrev decreases-loop : tie.decreases-loop-left
 decreases-loop numbers place count table stamp out₀ to at₀ left₀ from₀ end₀ out at left from end = left
 
-abbrev begun : tie.At-loop invariant-loop decreases-loop → tie.Start invariant-loop decreases-loop
+abbrev begun : tie.At-loop-left invariant-loop decreases-loop → tie.Start invariant-loop decreases-loop
 begun c = c.before.before.before.before
 
-abbrev head : tie.After-is-withdrawn invariant-loop decreases-loop → tie.At-loop invariant-loop decreases-loop
+abbrev head : tie.After-is_withdrawn invariant-loop decreases-loop → tie.At-loop-left invariant-loop decreases-loop
 head c = c.before.before.before
 
-abbrev Asked : tie.At-loop invariant-loop decreases-loop → Type 0
+abbrev Asked : tie.At-loop-left invariant-loop decreases-loop → Type 0
 Asked c =
-    Roomy (begun c).args.numbers.now (begun c).args.place (begun c).args.count (begun c).args.table.now (begun c).args.stamp (length (begun c).args.out.now) (begun c).args.to
+    Roomy (begun c).args.numbers.now (begun c).args.place (begun c).args.count (begun c).args.table.now (begun c).args.stamp (length (begun c).args.out-1.now) (begun c).args.to
 
 now :
-    (c : tie.After-is-withdrawn invariant-loop decreases-loop) (s : Asked (head c))
-    → Turn (begun (head c)).args.numbers.now (head c).loop.at (head c).loop.left ((head c).loop.invariant s).rest c.before.occurrence-at.result
+    (c : tie.After-is_withdrawn invariant-loop decreases-loop) (s : Asked (head c))
+    → Turn (begun (head c)).args.numbers.now (head c).loop-left.at (head c).loop-left.left ((head c).loop-left.invariant s).rest c.before.occurrence_at-o.result
 now c s =
-    let sofar = (head c).loop.invariant s in
-    turn sofar.rest c.before.before.loop-test.true sofar.ahead c.before.occurrence-at.ensures
+    let sofar = (head c).loop-left.invariant s in
+    turn sofar.rest c.before.before.loop-left-test.true sofar.ahead c.before.occurrence_at-o.ensures
 
 -- One of the four gates, and the two new nets.
-told : (c : tie.Then1 invariant-loop decreases-loop) → withdrawn c.before.before.occurrence-at.result.refers ≡ true
-told c = sym c.before.is-withdrawn.ensures ∙ c.if1.true
+told : (c : tie.Then-is_withdrawn invariant-loop decreases-loop) → withdrawn c.before.before.occurrence_at-o.result.refers ≡ true
+told c = sym c.before.is_withdrawn.ensures ∙ c.if-is_withdrawn.true
 
-abbrev test : tie.After-seek invariant-loop decreases-loop → tie.Then1 invariant-loop decreases-loop
+abbrev test : tie.After-seek-first invariant-loop decreases-loop → tie.Then-is_withdrawn invariant-loop decreases-loop
 test c = c.before
 
 found :
-    (c : tie.After-seek invariant-loop decreases-loop) (s : Asked (head (test c).before))
-    → Found (seekable s.w ((head (test c).before).loop.inv s) (now (test c).before s) (told (test c))) c.seek.result
-found c s = c.seek.ensures (seekable s.w ((head (test c).before).loop.inv s) (now (test c).before s) (told (test c)))
+    (c : tie.After-seek-first invariant-loop decreases-loop) (s : Asked (head (test c).before))
+    → Found (seekable s.w ((head (test c).before).loop-left.inv s) (now (test c).before s) (told (test c))) c.seek-first.result
+found c s = c.seek-first.ensures (seekable s.w ((head (test c).before).loop-left.inv s) (now (test c).before s) (told (test c)))
 
 found-next :
-    (c : tie.After-seek2 invariant-loop decreases-loop) (s : Asked (head (test c.before).before))
-    → Found (seekable-next s.w ((head (test c.before).before).loop.inv s) (now (test c.before).before s) (told (test c.before)) (found c.before s))
-    c.seek2.result
+    (c : tie.After-seek-second invariant-loop decreases-loop) (s : Asked (head (test c.before).before))
+    → Found (seekable-next s.w ((head (test c.before).before).loop-left.inv s) (now (test c.before).before s) (told (test c.before)) (found c.before s))
+    c.seek-second.result
 found-next c s =
-    c.seek2.ensures
-    (seekable-next s.w ((head (test c.before).before).loop.inv s) (now (test c.before).before s) (told (test c.before)) (found c.before s))
+    c.seek-second.ensures
+    (seekable-next s.w ((head (test c.before).before).loop-left.inv s) (now (test c.before).before s) (told (test c.before)) (found c.before s))
 
-put-three-requires : tie.Need-put-three-requires invariant-loop decreases-loop
+put-three-requires : tie.Need-put_three-end-requires invariant-loop decreases-loop
 put-three-requires c κs =
     let gate = c.before in
     let two = gate.before in
     let seen = (test two.before).before in
-    let s = (begun (head seen)).pre in
-    subst (λ (g : Gate). Replacing g two.before.seek.result two.seek2.result (head seen).loop.out (head seen).loop.end) (sym gate.gate-at.ensures)
-    (replacing s.w ((head seen).loop.inv s) (now seen s) (told (test two.before)) (found two.before s) (found-next two s))
+    let s = (begun (head seen)).requires in
+    subst (λ (g : Gate). Replacing g two.before.seek-first.result two.seek-second.result (head seen).loop-left.out-1 (head seen).loop-left.end) (sym gate.gate_at-gate.ensures)
+    (replacing s.w ((head seen).loop-left.inv s) (now seen s) (told (test two.before)) (found two.before s) (found-next two s))
 
-loop-again : tie.Need-loop-preserved invariant-loop decreases-loop
+loop-again : tie.Need-loop-left-preserved-then-is_withdrawn invariant-loop decreases-loop
 loop-again c s =
     let put = c.before.before in
     let gate = put.before.before in
     let two = gate.before in
     let seen = (test two.before).before in
-    replaced-next s.w ((head seen).loop.inv s) (now seen s) (told (test two.before)) (found two.before s) (found-next two s)
-    (rw gate.gate-at.ensures at put.put_three.ensures)
+    replaced-next s.w ((head seen).loop-left.inv s) (now seen s) (told (test two.before)) (found two.before s) (found-next two s)
+    (rw gate.gate_at-gate.ensures at put.put_three-end.ensures)
 
 -- An occurrence that stays.
 stays_here :
-    (c : tie.Else1 invariant-loop decreases-loop) (s : Asked (head c.before)) → Stays s.w ((head c.before).loop.inv s) (now c.before s)
-stays_here c s = stays s.w ((head c.before).loop.inv s) (now c.before s) (sym c.before.is-withdrawn.ensures ∙ c.if1.false)
+    (c : tie.Else-is_withdrawn invariant-loop decreases-loop) (s : Asked (head c.before)) → Stays s.w ((head c.before).loop-left.inv s) (now c.before s)
+stays_here c s = stays s.w ((head c.before).loop-left.inv s) (now c.before s) (sym c.before.is_withdrawn.ensures ∙ c.if-is_withdrawn.false)
 
-put-list-requires : tie.Need-put-list-requires invariant-loop decreases-loop
+put-list-requires : tie.Need-put_list-end-requires invariant-loop decreases-loop
 put-list-requires c κs =
     let at-else = c.before.before in
     let loop = head at-else.before in
-    let s = (begun loop).pre in
+    let s = (begun loop).requires in
     let here = stays_here at-else s in
-    let part = here.part (at-else.before.before.occurrence-at.result.to - loop.loop.at) loop.loop.at refl refl in (
-      part_small (at-else.before.before.occurrence-at.result.to - loop.loop.at) loop.loop.at s.w.small,
+    let part = here.part (at-else.before.before.occurrence_at-o.result.to - loop.loop-left.at) loop.loop-left.at refl refl in (
+      part_small (at-else.before.before.occurrence_at-o.result.to - loop.loop-left.at) loop.loop-left.at s.w.small,
       record { fits = rw part here.room },
     )
 
-loop-again-2 : tie.Need-loop-preserved-2 invariant-loop decreases-loop
+loop-again-2 : tie.Need-loop-left-preserved invariant-loop decreases-loop
 loop-again-2 c s =
     let put = c.before.before in
     let at-else = put.before.before.before in
     let loop = head at-else.before in
     let here = stays_here at-else s in
-    let part = here.part (at-else.before.before.occurrence-at.result.to - loop.loop.at) loop.loop.at refl refl in
-    here.next (rw part at put.put-list.ensures)
+    let part = here.part (at-else.before.before.occurrence_at-o.result.to - loop.loop-left.at) loop.loop-left.at refl refl in
+    here.next (rw part at put.put_list-end.ensures)
 
-pub put-body-spec : {M : Type 1} → statement M
-put-body-spec =
+pub put_body_spec : {M : Type 1} → statement M
+put_body_spec =
     tie.close
     (tie.spec
     invariant-loop
     decreases-loop
     (λ c s. none-put s.w s.room)
-    (λ c κs. let sofar = c.before.loop.invariant (begun c.before).pre in there sofar.rest c.loop-test.true sofar.ahead)
-    (λ c. c.before.loop-test.true)
+    (λ c κs. let sofar = c.before.loop-left.invariant (begun c.before).requires in there sofar.rest c.loop-left-test.true sofar.ahead)
+    (λ c. c.before.loop-left-test.true)
     (λ c κs. tt)
-    (λ c κs. let seen = c.before in let s = (begun (head seen)).pre in seekable s.w ((head seen).loop.invariant s) (now seen s) (told c))
-    (λ c. let s = (begun (head (test c).before)).pre in omega (arith, (found c s).low))
+    (λ c κs. let seen = c.before in let s = (begun (head seen)).requires in seekable s.w ((head seen).loop-left.invariant s) (now seen s) (told c))
+    (λ c. let s = (begun (head (test c).before)).requires in omega (arith, (found c s).low))
     (λ c κs.
     let seen = (test c).before in
-    let s = (begun (head seen)).pre in
-    seekable-next s.w ((head seen).loop.inv s) (now seen s) (told (test c)) (found c s))
+    let s = (begun (head seen)).requires in
+    seekable-next s.w ((head seen).loop-left.inv s) (now seen s) (told (test c)) (found c s))
     (λ c κs.
     let seen = (test c.before).before in
-    let s = (begun (head seen)).pre in
-    (in_net s.w ((head seen).loop.inv s) (now seen s) (told (test c.before)), in_takes s.w ((head seen).loop.inv s) (now seen s) (told (test c.before))))
-    (λ c. let two = c.before in let s = (begun (head (test two.before).before)).pre in omega (arith, (found two.before s).low))
-    (λ c. let two = c.before in let s = (begun (head (test two.before).before)).pre in omega (arith, (found-next two s).low))
+    let s = (begun (head seen)).requires in
+    (in_net s.w ((head seen).loop-left.inv s) (now seen s) (told (test c.before)), in_takes s.w ((head seen).loop-left.inv s) (now seen s) (told (test c.before))))
+    (λ c. let two = c.before in let s = (begun (head (test two.before).before)).requires in omega (arith, (found two.before s).low))
+    (λ c. let two = c.before in let s = (begun (head (test two.before).before)).requires in omega (arith, (found-next two s).low))
     put-three-requires
-    (λ c. let two = c.before.before.before.before.before in let s = (begun (head (test two.before).before)).pre in omega (arith, (found-next two s).low))
-    (λ c. let two = c.before.before.before.before.before in omega (arith, (test two.before).before.before.before.loop-test.taken))
+    (λ c. let two = c.before.before.before.before.before in let s = (begun (head (test two.before).before)).requires in omega (arith, (found-next two s).low))
+    (λ c. let two = c.before.before.before.before.before in omega (arith, (test two.before).before.before.before.loop-left-test.taken))
     loop-again
-    (λ c. let s = (begun (head c.before)).pre in omega (arith, (stays_here c s).within, (now c.before s).read.next, (begun (head c.before)).good))
-    (λ c. let s = (begun (head c.before)).pre in omega (arith, (now c.before s).read.next))
-    (λ c. let s = (begun (head c.before)).pre in omega (arith, (now c.before s).read.next))
-    (λ c. let s = (begun (head c.before)).pre in omega (arith, (stays_here c s).within))
+    (λ c. let s = (begun (head c.before)).requires in omega (arith, (stays_here c s).within, (now c.before s).read.next, (begun (head c.before)).good))
+    (λ c. let s = (begun (head c.before)).requires in omega (arith, (now c.before s).read.next))
+    (λ c. let s = (begun (head c.before)).requires in omega (arith, (now c.before s).read.next))
+    (λ c. let s = (begun (head c.before)).requires in omega (arith, (stays_here c s).within))
     put-list-requires
-    (λ c. let at-else = c.before.before.before.before.before in omega (arith, at-else.before.before.before.loop-test.true))
+    (λ c. let at-else = c.before.before.before.before.before in omega (arith, at-else.before.before.before.loop-left-test.true))
     loop-again-2
-    (λ c. laying-length (c.before.loop.invariant (begun c.before).pre).laying)
-    (λ c s. all-put s.w (omega (arith, c.loop-test.false)) (c.before.loop.invariant s)))
+    (λ c. laying-length (c.before.loop-left.invariant (begun c.before).requires).laying)
+    (λ c s. all-put s.w (omega (arith, c.loop-left-test.false)) (c.before.loop-left.invariant s)))

@@ -20,68 +20,68 @@ use Rattle.rewrite_bytes.proofs.Modules.{front, parts, front-part, module-bytes}
 use Rattle.rewrite_bytes.proofs.files.put_module.Statement.{statement}
 use Rattle.rewrite_bytes.proofs.files.put_module.Tie as tie
 
-abbrev start : tie.After-mark-module → tie.Start
+abbrev start : tie.After-mark_module → tie.Start
 start c = let known = c.before.before in known.before.before.before
 
-abbrev marked : tie.After-module-at → tie.After-mark-module
+abbrev marked : tie.After-module_at-header → tie.After-mark_module
 marked c = c.before.before.before
 
-abbrev Asked : tie.After-module-at → Type 0
+abbrev Asked : tie.After-module_at-header → Type 0
 Asked c =
     let args = (start (marked c)).args in
-    ModuleWritable args.numbers.now args.start args.own args.table.now args.stamp args.out.now args.to
+    ModuleWritable args.numbers.now args.start args.own args.table-1.now args.stamp args.out-1.now args.to
 
-header : (c : tie.After-module-at) (s : Asked c) → HeaderOf (start (marked c)).args.numbers.now (start (marked c)).args.start s.there.m c.module-at.result
-header c s = c.module-at.ensures s.there.m s.there.stands
+header : (c : tie.After-module_at-header) (s : Asked c) → HeaderOf (start (marked c)).args.numbers.now (start (marked c)).args.start s.there.m c.module_at-header.result
+header c s = c.module_at-header.ensures s.there.m s.there.stands
 
-long : (c : tie.After-module-at) (s : Asked c) → c.module-at.result.to - (start (marked c)).args.start ≡ 3 + length s.there.m.inputs + length s.there.m.outputs
+long : (c : tie.After-module_at-header) (s : Asked c) → c.module_at-header.result.to - (start (marked c)).args.start ≡ 3 + length s.there.m.inputs + length s.there.m.outputs
 long c s = omega (arith, (header c s).from, (header c s).to)
 
 -- What is left behind the front, and behind the count.
-abbrev count : (c : tie.After-module-at) → Asked c → ℕ
+abbrev count : (c : tie.After-module_at-header) → Asked c → ℕ
 count c s = length s.there.m.occurrences + 2 * fours s.there.m.occurrences
 
-abbrev body : (c : tie.After-module-at) → Asked c → List ℕ
+abbrev body : (c : tie.After-module_at-header) → Asked c → List ℕ
 body c s = each occurrence_bytes (rewrite_body (unused s.there.m) s.there.m.occurrences)
 
-abbrev whole : (c : tie.After-module-at) → Asked c → List ℕ
+abbrev whole : (c : tie.After-module_at-header) → Asked c → List ℕ
 whole c s = module_bytes (rewrite_module s.there.m)
 
-begun : (c : tie.After-module-at) (s : Asked c) → Laying (whole c s) (whole c s) (start (marked c)).args.out.now (start (marked c)).args.to (start (marked c)).args.out.now (start (marked c)).args.to
+begun : (c : tie.After-module_at-header) (s : Asked c) → Laying (whole c s) (whole c s) (start (marked c)).args.out-1.now (start (marked c)).args.to (start (marked c)).args.out-1.now (start (marked c)).args.to
 begun c s = laying-start s.room
 
-abbrev read : tie.After-put-list → tie.After-module-at
+abbrev read : tie.After-put_list-front → tie.After-module_at-header
 read c = c.before.before.before
 
-part : (c : tie.After-module-at) (s : Asked c) → take (c.module-at.result.to - (start (marked c)).args.start) (drop (start (marked c)).args.start (start (marked c)).args.numbers.now) ≡ front s.there.m
+part : (c : tie.After-module_at-header) (s : Asked c) → take (c.module_at-header.result.to - (start (marked c)).args.start) (drop (start (marked c)).args.start (start (marked c)).args.numbers.now) ≡ front s.there.m
 part c s = front-part s.there.m s.there.stands _ (long c s)
 
 fronted :
-    (c : tie.After-put-list) (s : Asked (read c))
-    → Laying (whole (read c) s) (number_bytes (count (read c) s) ++ body (read c) s) (start (marked (read c))).args.out.now (start (marked (read c))).args.to c.put-list.new.1.0 c.put-list.result
+    (c : tie.After-put_list-front) (s : Asked (read c))
+    → Laying (whole (read c) s) (number_bytes (count (read c) s) ++ body (read c) s) (start (marked (read c))).args.out-1.now (start (marked (read c))).args.to c.put_list-front.new.1.0 c.put_list-front.result
 fronted c s =
     laying-more (begun (read c) s) (each number_bytes (front s.there.m)) (number_bytes (count (read c) s) ++ body (read c) s) (module-bytes s.there.m)
-    (rw (part (read c) s) at c.put-list.ensures)
+    (rw (part (read c) s) at c.put_list-front.ensures)
 
 -- Behind the new count.
-abbrev front_of : tie.After-put → tie.After-put-list
+abbrev front_of : tie.After-put-counted → tie.After-put_list-front
 front_of c = let known = c.before.before in known.before.before.before
 
-same_count : (c : tie.After-module-at) (s : Asked c) → c.module-at.result.count + 2 * (start (marked c)).args.own ≡ count c s
+same_count : (c : tie.After-module_at-header) (s : Asked c) → c.module_at-header.result.count + 2 * (start (marked c)).args.own ≡ count c s
 same_count c s = omega (arith, (header c s).count, s.owned)
 
 counted :
-    (c : tie.After-put) (s : Asked (read (front_of c)))
-    → Laying (whole (read (front_of c)) s) (body (read (front_of c)) s) (start (marked (read (front_of c)))).args.out.now (start (marked (read (front_of c)))).args.to
-    c.put.new.1.0 c.put.result
+    (c : tie.After-put-counted) (s : Asked (read (front_of c)))
+    → Laying (whole (read (front_of c)) s) (body (read (front_of c)) s) (start (marked (read (front_of c)))).args.out-1.now (start (marked (read (front_of c)))).args.to
+    c.put-counted.new.1.0 c.put-counted.result
 counted c s =
     laying-more (fronted (front_of c) s) (number_bytes (count (read (front_of c)) s)) (body (read (front_of c)) s) refl
-    (rw (same_count (read (front_of c)) s) at c.put.ensures)
+    (rw (same_count (read (front_of c)) s) at c.put-counted.ensures)
 
 roomy :
-    (c : tie.After-put) (s : Asked (read (front_of c)))
-    → Roomy (start (marked (read (front_of c)))).args.numbers.now ((read (front_of c)).module-at.result.to + 1) (read (front_of c)).module-at.result.count
-    (marked (read (front_of c))).mark-module.new.1.1.0 (start (marked (read (front_of c)))).args.stamp (length c.put.new.1.0) c.put.result
+    (c : tie.After-put-counted) (s : Asked (read (front_of c)))
+    → Roomy (start (marked (read (front_of c)))).args.numbers.now ((read (front_of c)).module_at-header.result.to + 1) (read (front_of c)).module_at-header.result.count
+    (marked (read (front_of c))).mark_module.new.1.1.0 (start (marked (read (front_of c)))).args.stamp (length c.put-counted.new.1.0) c.put-counted.result
 unfolding unused
 roomy c s =
     let r = read (front_of c) in
@@ -95,13 +95,13 @@ roomy c s =
             suits = s.suited.suits;
             single = s.suited.single;
             small = s.there.small;
-            long = (marked r).mark-module.kept.1.1.0 ∙ s.there.wide;
-            stamped = (marked r).mark-module.ensures s.there;
+            long = (marked r).mark_module.kept.1.1.0 ∙ s.there.wide;
+            stamped = (marked r).mark_module.ensures s.there;
           };
       room = (laying-left (counted c s)).fits;
     }
 
-put-requires : tie.Need-put-requires
+put-requires : tie.Need-put-counted-requires
 put-requires c κs =
     let f = c.before.before.before.before in
     let r = read f in
@@ -114,10 +114,10 @@ unfolding unused roomy
 returns c s =
     let done = c.before.before in
     let put = let known = done.before.before.before in known.before.before in
-    (laying-last (done.put-body.ensures (roomy put s)) (counted put s), (marked (read (front_of put))).mark-module.ensures s.there)
+    (laying-last (done.put_body.ensures (roomy put s)) (counted put s), (marked (read (front_of put))).mark_module.ensures s.there)
 
-pub put-module-spec : {M : Type 1} → statement M
-put-module-spec =
+pub put_module_spec : {M : Type 1} → statement M
+put_module_spec =
     tie.close
     (tie.spec
     (λ c κs. let known = c.before.before in known.before.before.requires.there)
@@ -130,7 +130,7 @@ put-module-spec =
     let r = c.before.before in
     let s = (start (marked r)).requires in
     let room = laying-room (begun r s) (each number_bytes (front s.there.m)) (number_bytes (count r s) ++ body r s) (module-bytes s.there.m) in (
-      part_small (r.module-at.result.to - (start (marked r)).args.start) (start (marked r)).args.start s.there.small,
+      part_small (r.module_at-header.result.to - (start (marked r)).args.start) (start (marked r)).args.start s.there.small,
       record { fits = rw (part r s) (omega (arith, room.1)) },
     ))
     (λ c. search rules)

@@ -4,11 +4,11 @@ use Rattle.meaning.specs.Withdrawn.{pair_kind}
 use Rattle.rewrite_bytes.proofs.three.pair_kind.Statement.{statement}
 use Rattle.rewrite_bytes.proofs.three.pair_kind.Tie as tie
 
-pub pair-kind-spec : {M : Type 1} → statement M
+pub pair_kind_spec : {M : Type 1} → statement M
 unfolding pair_kind
-pair-kind-spec =
+pair_kind_spec =
     tie.close
     (tie.spec
-    (λ c. rw c.if1.true)
-    (λ c. rw c.if2.true)
-    (λ c. rw (ne_eqb _ 7 c.before.if1.false, ne_eqb _ 15 c.if2.false)))
+    (λ c. rw c.if-kind-eq7.true)
+    (λ c. rw c.if-kind-eq15.true)
+    (λ c. rw (ne_eqb _ 7 c.before.if-kind-eq7.false, ne_eqb _ 15 c.if-kind-eq15.false)))

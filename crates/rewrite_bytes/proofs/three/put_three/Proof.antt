@@ -57,14 +57,14 @@ all_small g first second pair two four is_pair is_two s_first s_second s_net (mo
     (more one (more s_second (more s_pair (more pairs (more s_c (more s_d
     (more one (more s_net (more s_two (more pairs (more s_first (more s_second none)))))))))))))))))
 
-put-list-requires : tie.Need-put-list-requires
+put-list-requires : tie.Need-put_list-requires
 put-list-requires c κs =
     let two = c.before.before in
     let pair = two.before in
     let start = pair.before.before in
     let p = start.requires in
-    let same = bytes-are start.args.gate start.args.first start.args.second _ _ pair.pair-kind.ensures two.two-kind.ensures in (
-      all_small start.args.gate start.args.first start.args.second _ _ p.four pair.pair-kind.ensures two.two-kind.ensures
+    let same = bytes-are start.args.gate start.args.first start.args.second _ _ pair.pair_kind-pair.ensures two.two_kind-two.ensures in (
+      all_small start.args.gate start.args.first start.args.second _ _ p.four pair.pair_kind-pair.ensures two.two_kind-two.ensures
           p.small_first p.small_second p.net p.takes,
       record { fits = omega (arith, ap length same, p.room) },
     )
@@ -75,10 +75,10 @@ returns c =
     let two = put.before.before.before in
     let pair = two.before in
     let start = pair.before.before in
-    rw (bytes-are start.args.gate start.args.first start.args.second _ _ pair.pair-kind.ensures two.two-kind.ensures) at put.put-list.ensures
+    rw (bytes-are start.args.gate start.args.first start.args.second _ _ pair.pair_kind-pair.ensures two.two_kind-two.ensures) at put.put_list.ensures
 
-pub put-three-spec : {M : Type 1} → statement M
-put-three-spec =
+pub put_three_spec : {M : Type 1} → statement M
+put_three_spec =
     tie.close
     (tie.spec
     (λ c κs. tt)

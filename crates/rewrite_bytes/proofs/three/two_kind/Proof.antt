@@ -4,12 +4,12 @@ use Rattle.meaning.specs.Withdrawn.{two_kind}
 use Rattle.rewrite_bytes.proofs.three.two_kind.Statement.{statement}
 use Rattle.rewrite_bytes.proofs.three.two_kind.Tie as tie
 
-pub two-kind-spec : {M : Type 1} → statement M
+pub two_kind_spec : {M : Type 1} → statement M
 unfolding two_kind
-two-kind-spec =
+two_kind_spec =
     tie.close
     (tie.spec
-    (λ c. rw c.if1.true)
-    (λ c. rw c.if2.true)
-    (λ c. rw c.if3.true)
-    (λ c. rw (ne_eqb _ 4 c.before.before.if1.false, ne_eqb _ 7 c.before.if2.false, ne_eqb _ 12 c.if3.false)))
+    (λ c. rw c.if-kind-eq4.true)
+    (λ c. rw c.if-kind-eq7.true)
+    (λ c. rw c.if-kind-eq12.true)
+    (λ c. rw (ne_eqb _ 4 c.before.before.if-kind-eq4.false, ne_eqb _ 7 c.before.if-kind-eq7.false, ne_eqb _ 12 c.if-kind-eq12.false)))

@@ -12,12 +12,12 @@ use Rattle.rewrite_bytes.proofs.Stamping.{stamped-same, marked_more}
 use Rattle.rewrite_bytes.proofs.used.mark.Statement.{statement}
 use Rattle.rewrite_bytes.proofs.used.mark.Tie as tie
 
-abbrev invariant-loop : tie.invariant-loop
+abbrev invariant-loop : tie.invariant-loop-i
 invariant-loop list table₀ stamp i₀ i-end table i =
     (length table ≡ length table₀)
     × ((used : ℕ → Bool) → Stamped table₀ stamp used → Stamped table stamp (λ x. used x || member x (take i list)))
 
-abbrev decreases-loop : tie.decreases-loop
+abbrev decreases-loop : tie.decreases-loop-i
 decreases-loop list table₀ stamp i₀ i-end table i = i-end - i
 
 pub mark_spec : {M : Type 1} → statement M
@@ -28,20 +28,20 @@ mark_spec =
     invariant-loop
     decreases-loop
     (λ c. (refl, λ used s. stamped-same used (λ x. used x || member x []) (λ x. or-false (used x)) s))
-    (λ c. omega (arith, c.loop-test.true))
-    (λ c. c.before.loop-test.true)
-    (λ c. omega (arith, c.shared-slice-known.given c.before.before.loop.i))
-    (λ c. let loop = c.before.before in omega (arith, loop.before.requires.below loop.loop.i c.before.loop-test.true, loop.loop.invariant.0))
-    (λ c. omega (arith, c.before.loop-test.true))
-    (λ c. omega (arith, c.before.loop-test.true))
+    (λ c. omega (arith, c.loop-i-test.true))
+    (λ c. c.before.loop-i-test.true)
+    (λ c. omega (arith, c.shared_slice_known-1.given c.before.before.loop-i.i))
+    (λ c. let loop = c.before.before in omega (arith, loop.before.requires.below loop.loop-i.i c.before.loop-i-test.true, loop.loop-i.invariant.0))
+    (λ c. omega (arith, c.before.loop-i-test.true))
+    (λ c. omega (arith, c.before.loop-i-test.true))
     (λ c.
     let loop = c.before.before in
-    let more = c.before.loop-test.true in (
-      length-set loop.loop.table _ _ ∙ loop.loop.invariant.0,
+    let more = c.before.loop-i-test.true in (
+      length-set loop.loop-i.table _ _ ∙ loop.loop-i.invariant.0,
       λ used s.
-          marked_more loop.before.args.list.now loop.loop.i used more
-          (omega (arith, loop.before.requires.below loop.loop.i more, loop.loop.invariant.0)) (loop.loop.invariant.1 used s),
+          marked_more loop.before.args.list.now loop.loop-i.i used more
+          (omega (arith, loop.before.requires.below loop.loop-i.i more, loop.loop-i.invariant.0)) (loop.loop-i.invariant.1 used s),
     ))
-    (λ c. c.before.loop.invariant.0)
+    (λ c. c.before.loop-i.invariant.0)
     (λ c used s.
-    rw (take_all c.before.loop.i c.before.before.args.list.now c.loop-test.false) at (c.before.loop.invariant.1 used s)))
+    rw (take_all c.before.loop-i.i c.before.before.args.list.now c.loop-i-test.false) at (c.before.loop-i.invariant.1 used s)))

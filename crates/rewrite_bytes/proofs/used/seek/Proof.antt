@@ -9,24 +9,24 @@ use Rattle.rewrite_bytes.proofs.Seeking.{low_of, used-here, told-used, found_her
 use Rattle.rewrite_bytes.proofs.used.seek.Statement.{statement}
 use Rattle.rewrite_bytes.proofs.used.seek.Tie as tie
 
-abbrev invariant-loop : tie.invariant-loop
+abbrev invariant-loop : tie.invariant-loop-i
 invariant-loop table stamp from i₀ i = (s : Seekable table stamp from) → unused_from s.used i ≡ s.first ∷ s.rest
 
-abbrev decreases-loop : tie.decreases-loop
+abbrev decreases-loop : tie.decreases-loop-i
 decreases-loop table stamp from i₀ i = 16384 - i
 
-pub seek-spec : {M : Type 1} → statement M
-seek-spec =
+pub seek_spec : {M : Type 1} → statement M
+seek_spec =
     tie.close
     (tie.spec
     invariant-loop
     decreases-loop
     (λ c s. s.is)
-    (λ c. let loop = c.before in let s = loop.before.requires in omega (arith, s.long, low_of s.used loop.loop.i (loop.loop.invariant s)))
-    (λ c. let loop = c.before.before in let s = loop.before.requires in omega (arith, low_of s.used loop.loop.i (loop.loop.invariant s)))
-    (λ c. let loop = c.before.before in let s = loop.before.requires in omega (arith, low_of s.used loop.loop.i (loop.loop.invariant s)))
+    (λ c. let loop = c.before in let s = loop.before.requires in omega (arith, s.long, low_of s.used loop.loop-i.i (loop.loop-i.invariant s)))
+    (λ c. let loop = c.before.before in let s = loop.before.requires in omega (arith, low_of s.used loop.loop-i.i (loop.loop-i.invariant s)))
+    (λ c. let loop = c.before.before in let s = loop.before.requires in omega (arith, low_of s.used loop.loop-i.i (loop.loop-i.invariant s)))
     (λ c s.
     let loop = c.before.before in
-    let e = loop.loop.invariant s in
-    sym (used-here s.used loop.loop.i (low_of s.used loop.loop.i e) (told-used s.used s.stamped loop.loop.i c.if1.true)) ∙ e)
-    (λ c s. let loop = c.before.before in found_here s loop.loop.i (loop.loop.invariant s) c.if1.false))
+    let e = loop.loop-i.invariant s in
+    sym (used-here s.used loop.loop-i.i (low_of s.used loop.loop-i.i e) (told-used s.used s.stamped loop.loop-i.i c.loop-i-test.true)) ∙ e)
+    (λ c s. let loop = c.before.before in found_here s loop.loop-i.i (loop.loop-i.invariant s) c.loop-i-test.false))

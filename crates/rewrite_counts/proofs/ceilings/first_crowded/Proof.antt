@@ -11,50 +11,50 @@ use Rattle.rewrite_counts.proofs.Deciding.{crowded-here, uncrowded_here, uncrowd
 use Rattle.rewrite_counts.proofs.ceilings.first_crowded.Statement.{statement}
 use Rattle.rewrite_counts.proofs.ceilings.first_crowded.Tie as tie
 
-abbrev invariant-loop : tie.invariant-loop
+abbrev invariant-loop : tie.invariant-loop-k
 invariant-loop nets own modules k₀ k =
     (s : Netted nets own modules) → nets_verdict 0 (rewrite_file s.table.ms) ≡ nets_verdict k (rewrite_file (drop k s.table.ms))
 
-abbrev decreases-loop : tie.decreases-loop
+abbrev decreases-loop : tie.decreases-loop-k
 decreases-loop nets own modules k₀ k = modules - k
 
-returns : tie.Need-returns invariant-loop decreases-loop
+returns : tie.Need-returns-then-nets-k-gt4096 invariant-loop decreases-loop
 returns c s =
     let turn = c.before.before.before in
-    let h = here-at s.table.ms turn.before.loop.k (omega (arith, turn.loop-test.true, s.table.all)) in
-    turn.before.loop.invariant s
-    ∙ crowded-here h (omega (arith, c.if1.true, s.entry turn.before.loop.k h.m h.later h.here, s.table.entry turn.before.loop.k h.m h.later h.here))
+    let h = here-at s.table.ms turn.before.loop-k.k (omega (arith, turn.loop-k-test.true, s.table.all)) in
+    turn.before.loop-k.invariant s
+    ∙ crowded-here h (omega (arith, c.if-nets-k-gt4096.true, s.entry turn.before.loop-k.k h.m h.later h.here, s.table.entry turn.before.loop-k.k h.m h.later h.here))
 
-loop-again : tie.Need-loop-preserved invariant-loop decreases-loop
+loop-again : tie.Need-loop-k-preserved invariant-loop decreases-loop
 loop-again c s =
     let turn = c.before.before.before in
-    let h = here-at s.table.ms turn.before.loop.k (omega (arith, turn.loop-test.true, s.table.all)) in
-    turn.before.loop.invariant s
-    ∙ uncrowded_here h (omega (arith, c.if1.false, s.entry turn.before.loop.k h.m h.later h.here, s.table.entry turn.before.loop.k h.m h.later h.here))
+    let h = here-at s.table.ms turn.before.loop-k.k (omega (arith, turn.loop-k-test.true, s.table.all)) in
+    turn.before.loop-k.invariant s
+    ∙ uncrowded_here h (omega (arith, c.if-nets-k-gt4096.false, s.entry turn.before.loop-k.k h.m h.later h.here, s.table.entry turn.before.loop-k.k h.m h.later h.here))
 
-add-if1 : tie.Need-overflow-add-if1 invariant-loop decreases-loop
+add-if1 : tie.Need-overflow_add-nets invariant-loop decreases-loop
 add-if1 c =
     let turn = c.before.before in
     let s = turn.before.before.requires in
-    let h = here-at s.table.ms turn.before.loop.k (omega (arith, turn.loop-test.true, s.table.all)) in
-    omega (arith, s.entry turn.before.loop.k h.m h.later h.here, s.few turn.before.loop.k h.m h.later h.here, c.shared-slice-known2.given c.before.before.before.loop.k)
+    let h = here-at s.table.ms turn.before.loop-k.k (omega (arith, turn.loop-k-test.true, s.table.all)) in
+    omega (arith, s.entry turn.before.loop-k.k h.m h.later h.here, s.few turn.before.loop-k.k h.m h.later h.here, c.shared_slice_known-in-loop-k-1.given c.before.before.before.loop-k.k)
 
-pub first-crowded-spec : {M : Type 1} → statement M
-first-crowded-spec =
+pub first_crowded_spec : {M : Type 1} → statement M
+first_crowded_spec =
     tie.close
     (tie.spec
     invariant-loop
     decreases-loop
     (λ c s. refl)
-    (λ c. let s = c.before.before.requires in omega (arith, c.loop-test.true, s.table.all, s.long))
-    (λ c. let s = c.before.before.before.requires in omega (arith, c.before.loop-test.true, s.table.all, s.long))
-    (λ c. let s = c.before.before.before.requires in omega (arith, c.before.loop-test.true, s.table.all, s.table.long))
-    (λ c. let turn = c.before.before in let s = turn.before.before.requires in omega (arith, turn.loop-test.true, s.table.all, s.table.long))
-    (λ c. omega (arith, c.shared-slice-known2.given c.before.before.before.loop.k))
-    (λ c. omega (arith, c.shared-slice-known2.given c.before.before.before.loop.k))
+    (λ c. let s = c.before.before.requires in omega (arith, c.loop-k-test.true, s.table.all, s.long))
+    (λ c. let s = c.before.before.before.requires in omega (arith, c.before.loop-k-test.true, s.table.all, s.long))
+    (λ c. let s = c.before.before.before.requires in omega (arith, c.before.loop-k-test.true, s.table.all, s.table.long))
+    (λ c. let turn = c.before.before in let s = turn.before.before.requires in omega (arith, turn.loop-k-test.true, s.table.all, s.table.long))
+    (λ c. omega (arith, c.shared_slice_known-in-loop-k-1.given c.before.before.before.loop-k.k))
+    (λ c. omega (arith, c.shared_slice_known-in-loop-k-1.given c.before.before.before.loop-k.k))
     add-if1
     returns
-    (λ c. let turn = c.before.before.before in omega (arith, turn.loop-test.true, turn.before.before.well-formed))
-    (λ c. omega (arith, c.before.before.before.loop-test.true))
+    (λ c. let turn = c.before.before.before in omega (arith, turn.loop-k-test.true, turn.before.before.well-formed))
+    (λ c. omega (arith, c.before.before.before.loop-k-test.true))
     loop-again
-    (λ c s. c.before.loop.invariant s ∙ uncrowded_left s.table.ms _ (omega (arith, c.loop-test.false, s.table.all))))
+    (λ c s. c.before.loop-k.invariant s ∙ uncrowded_left s.table.ms _ (omega (arith, c.loop-k-test.false, s.table.all))))

@@ -11,35 +11,35 @@ use Rattle.rewrite_counts.proofs.Deciding.{user_here, no_user_here, no_user_left
 use Rattle.rewrite_counts.proofs.ceilings.first_user.Statement.{statement}
 use Rattle.rewrite_counts.proofs.ceilings.first_user.Tie as tie
 
-abbrev invariant-loop : tie.invariant-loop
+abbrev invariant-loop : tie.invariant-loop-k
 invariant-loop own modules k₀ k = (s : OwnTable own modules) → withdrawn_verdict 0 s.ms ≡ withdrawn_verdict k (drop k s.ms)
 
-abbrev decreases-loop : tie.decreases-loop
+abbrev decreases-loop : tie.decreases-loop-k
 decreases-loop own modules k₀ k = modules - k
 
-returns : tie.Need-returns invariant-loop decreases-loop
+returns : tie.Need-returns-then-own-k-gt0 invariant-loop decreases-loop
 returns c s =
     let turn = c.before.before in
-    let h = here-at s.ms turn.before.loop.k (omega (arith, turn.loop-test.true, s.all)) in
-    turn.before.loop.invariant s ∙ user_here h (omega (arith, c.if1.true, s.entry turn.before.loop.k h.m h.later h.here))
+    let h = here-at s.ms turn.before.loop-k.k (omega (arith, turn.loop-k-test.true, s.all)) in
+    turn.before.loop-k.invariant s ∙ user_here h (omega (arith, c.if-own-k-gt0.true, s.entry turn.before.loop-k.k h.m h.later h.here))
 
-loop-again : tie.Need-loop-preserved invariant-loop decreases-loop
+loop-again : tie.Need-loop-k-preserved invariant-loop decreases-loop
 loop-again c s =
     let turn = c.before.before in
-    let h = here-at s.ms turn.before.loop.k (omega (arith, turn.loop-test.true, s.all)) in
-    turn.before.loop.invariant s ∙ no_user_here h (omega (arith, c.if1.false, s.entry turn.before.loop.k h.m h.later h.here))
+    let h = here-at s.ms turn.before.loop-k.k (omega (arith, turn.loop-k-test.true, s.all)) in
+    turn.before.loop-k.invariant s ∙ no_user_here h (omega (arith, c.if-own-k-gt0.false, s.entry turn.before.loop-k.k h.m h.later h.here))
 
-pub first-user-spec : {M : Type 1} → statement M
-first-user-spec =
+pub first_user_spec : {M : Type 1} → statement M
+first_user_spec =
     tie.close
     (tie.spec
     invariant-loop
     decreases-loop
     (λ c s. refl)
-    (λ c. let s = c.before.before.requires in omega (arith, c.loop-test.true, s.all, s.long))
-    (λ c. let s = c.before.before.before.requires in omega (arith, c.before.loop-test.true, s.all, s.long))
+    (λ c. let s = c.before.before.requires in omega (arith, c.loop-k-test.true, s.all, s.long))
+    (λ c. let s = c.before.before.before.requires in omega (arith, c.before.loop-k-test.true, s.all, s.long))
     returns
-    (λ c. let turn = c.before.before in omega (arith, turn.loop-test.true, turn.before.before.well-formed))
-    (λ c. omega (arith, c.before.before.loop-test.true))
+    (λ c. let turn = c.before.before in omega (arith, turn.loop-k-test.true, turn.before.before.well-formed))
+    (λ c. omega (arith, c.before.before.loop-k-test.true))
     loop-again
-    (λ c s. c.before.loop.invariant s ∙ no_user_left s.ms _ (omega (arith, c.loop-test.false, s.all))))
+    (λ c s. c.before.loop-k.invariant s ∙ no_user_left s.ms _ (omega (arith, c.loop-k-test.false, s.all))))

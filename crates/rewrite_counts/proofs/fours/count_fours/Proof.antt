@@ -10,71 +10,71 @@ use Rattle.rewrite_counts.proofs.Filling.{counted_none, reaching, counted-more}
 use Rattle.rewrite_counts.proofs.fours.count_fours.Statement.{statement}
 use Rattle.rewrite_counts.proofs.fours.count_fours.Tie as tie
 
-abbrev invariant-loop : tie.invariant-loop
+abbrev invariant-loop : tie.invariant-loop-k
 invariant-loop image starts modules own₀ reached₀ k₀ own reached k =
     (k ≤ modules)
     × (length own ≡ length own₀)
     × (length reached ≡ length reached₀)
     × ((s : Countable image starts modules (length own₀) (length reached₀)) → Counted s.rs k own reached)
 
-abbrev decreases-loop : tie.decreases-loop
+abbrev decreases-loop : tie.decreases-loop-k
 decreases-loop image starts modules own₀ reached₀ k₀ own reached k = k
 
-abbrev start : tie.At-loop invariant-loop decreases-loop → tie.Start invariant-loop decreases-loop
+abbrev start : tie.At-loop-k invariant-loop decreases-loop → tie.Start invariant-loop decreases-loop
 start c = let known = c.before.before.before in known.before.before
 
-abbrev turn : tie.After-fours-of invariant-loop decreases-loop → tie.In-loop invariant-loop decreases-loop
+abbrev turn : tie.After-fours_of-found invariant-loop decreases-loop → tie.In-loop-k invariant-loop decreases-loop
 turn c = c.before.before
 
 -- The module whose turn it is, and those behind it.
 module _
-    (c : tie.In-loop invariant-loop decreases-loop)
+    (c : tie.In-loop-k invariant-loop decreases-loop)
     (s : Countable (start c.before).args.image.now (start c.before).args.starts.now (start c.before).args.modules
     (length (start c.before).args.own.now) (length (start c.before).args.reached.now))
   where
     abbrev position : ℕ
-    position = c.before.loop.k - 1
+    position = c.before.loop-k.k - 1
 
     low : position < length s.rs
-    low = omega (arith, c.loop-test.true, c.before.loop.invariant.0, s.all)
+    low = omega (arith, c.loop-k-test.true, c.before.loop-k.invariant.0, s.all)
 
-    behind : Counted s.rs (position + 1) c.before.loop.own c.before.loop.reached
+    behind : Counted s.rs (position + 1) c.before.loop-k.own c.before.loop-k.reached
     behind =
-        let again : position + 1 ≡ c.before.loop.k = omega (arith, c.loop-test.true) in
-        subst (λ (n : ℕ). Counted s.rs n c.before.loop.own c.before.loop.reached) (sym again) (c.before.loop.invariant.3 s)
+        let again : position + 1 ≡ c.before.loop-k.k = omega (arith, c.loop-k-test.true) in
+        subst (λ (n : ℕ). Counted s.rs n c.before.loop-k.own c.before.loop-k.reached) (sym again) (c.before.loop-k.invariant.3 s)
 
-    in-own : position < length c.before.loop.own
-    in-own = omega (arith, low, s.own_long, c.before.loop.invariant.1)
+    in-own : position < length c.before.loop-k.own
+    in-own = omega (arith, low, s.own_long, c.before.loop-k.invariant.1)
 
-    in-reached : position < length c.before.loop.reached
-    in-reached = omega (arith, low, s.reached_long, c.before.loop.invariant.2)
+    in-reached : position < length c.before.loop-k.reached
+    in-reached = omega (arith, low, s.reached_long, c.before.loop-k.invariant.2)
 
-loop-again : tie.Need-loop-preserved invariant-loop decreases-loop
+loop-again : tie.Need-loop-k-preserved invariant-loop decreases-loop
 loop-again c =
     let t = turn c in (
-      omega (arith, t.before.loop.inv.0),
-      length-set t.before.loop.own _ _ ∙ t.before.loop.inv.1,
-      length-set t.before.loop.reached _ _ ∙ t.before.loop.inv.2,
+      omega (arith, t.before.loop-k.inv.0),
+      length-set t.before.loop-k.own _ _ ∙ t.before.loop-k.inv.1,
+      length-set t.before.loop-k.reached _ _ ∙ t.before.loop-k.inv.2,
       λ s.
-          let found = c.fours-of.ensures (reaching s (low t s) (behind t s).tabled) in
+          let found = c.fours_of-found.ensures (reaching s (low t s) (behind t s).tabled) in
           counted-more (here-at s.rs (position t s) (low t s)) _ _ (behind t s) (in-own t s) (in-reached t s) found.0 found.1,
     )
 
-pub count-fours-spec : {M : Type 1} → statement M
-count-fours-spec =
+pub count_fours_spec : {M : Type 1} → statement M
+count_fours_spec =
     tie.close
     (tie.spec
     invariant-loop
     decreases-loop
     (λ c. (omega arith, refl, refl, λ s. counted_none s.rs _ _ _ (omega (arith, s.all)) s.reached_long))
-    (λ c. c.loop-test.true)
-    (λ c κs. let t = c.before in let s = (start t.before).pre in reaching s (low t s) (behind t s).tabled)
-    (λ c. let t = turn c in let s = (start t.before).pre in omega (arith, in-own t s))
-    (λ c. let t = turn c in let s = (start t.before).pre in in-own t s)
-    (λ c. let t = turn c in let s = (start t.before).pre in omega (arith, in-reached t s))
-    (λ c. let t = turn c in let s = (start t.before).pre in in-reached t s)
-    (λ c. omega (arith, (turn c).loop-test.true))
+    (λ c. c.loop-k-test.true)
+    (λ c κs. let t = c.before in let s = (start t.before).requires in reaching s (low t s) (behind t s).tabled)
+    (λ c. let t = turn c in let s = (start t.before).requires in omega (arith, in-own t s))
+    (λ c. let t = turn c in let s = (start t.before).requires in in-own t s)
+    (λ c. let t = turn c in let s = (start t.before).requires in omega (arith, in-reached t s))
+    (λ c. let t = turn c in let s = (start t.before).requires in in-reached t s)
+    (λ c. omega (arith, (turn c).loop-k-test.true))
     loop-again
-    (λ c. c.before.loop.invariant.1)
-    (λ c. c.before.loop.invariant.2)
-    (λ c s. let none : c.before.loop.k ≡ 0 = omega (arith, c.loop-test.false) in rw none at (c.before.loop.invariant.3 s)))
+    (λ c. c.before.loop-k.invariant.1)
+    (λ c. c.before.loop-k.invariant.2)
+    (λ c s. let none : c.before.loop-k.k ≡ 0 = omega (arith, c.loop-k-test.false) in rw none at (c.before.loop-k.invariant.3 s)))

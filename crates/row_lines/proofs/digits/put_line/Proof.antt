@@ -11,39 +11,39 @@ use Rattle.row_lines.specs.Digits.{digit, line_text}
 use Rattle.row_lines.proofs.digits.put_line.Statement.{statement}
 use Rattle.row_lines.proofs.digits.put_line.Tie as tie
 
-abbrev invariant-loop : tie.invariant-loop
+abbrev invariant-loop : tie.invariant-loop-i
 invariant-loop row out₀ from i₀ out i = Row digit row out₀ from out (from + i) i
 
-abbrev decreases-loop : tie.decreases-loop
+abbrev decreases-loop : tie.decreases-loop-i
 decreases-loop row out₀ from i₀ out i = length row - i
 
-loop-holds : tie.Need-loop-init invariant-loop decreases-loop
+loop-holds : tie.Need-loop-i-init invariant-loop decreases-loop
 loop-holds c = rw (add-zero c.args.from) (row-begin digit c.args.row.now c.args.out.now c.args.from (omega (arith, c.requires)))
 
 -- The place of the next digit, and that of the line feed, are inside.
-abbrev turn : tie.After-shared-slice-known invariant-loop decreases-loop → tie.At-loop invariant-loop decreases-loop
+abbrev turn : tie.After-shared_slice_known-1 invariant-loop decreases-loop → tie.At-loop-i invariant-loop decreases-loop
 turn c = c.before.before
 
-inside : tie.Need-slice-write-out invariant-loop decreases-loop
-inside c = omega (arith, (turn c).before.requires, put-length (turn c).loop.invariant.down)
+inside : tie.Need-bounds-out-from invariant-loop decreases-loop
+inside c = omega (arith, (turn c).before.requires, put-length (turn c).loop-i.invariant.down)
 
-loop-again : tie.Need-loop-preserved invariant-loop decreases-loop
+loop-again : tie.Need-loop-i-preserved invariant-loop decreases-loop
 loop-again c =
     let a = (turn c).before.args in
-    let l = (turn c).loop in
+    let l = (turn c).loop-i in
     rw (← add_assoc a.from l.i 1)
-    (row_more l.inv c.before.loop-test.true (put_byte _ l.out (a.from + l.i) (inside c)))
+    (row_more l.inv c.before.loop-i-test.true (put_byte _ l.out (a.from + l.i) (inside c)))
 
-end-inside : tie.Need-slice-write-out-2 invariant-loop decreases-loop
-end-inside c = omega (arith, c.before.before.requires, put-length c.before.loop.invariant.down, c.before.loop.invariant.passed)
+end-inside : tie.Need-bounds-out-end invariant-loop decreases-loop
+end-inside c = omega (arith, c.before.before.requires, put-length c.before.loop-i.invariant.down, c.before.loop-i.invariant.passed)
 
 whole : tie.Need-returns invariant-loop decreases-loop
 unfolding line_text
 whole c =
-    put-after (row-end c.before.loop.invariant c.loop-test.false) (put_byte line_feed c.before.loop.out _ (end-inside c))
+    put-after (row-end c.before.loop-i.invariant c.loop-i-test.false) (put_byte line_feed c.before.loop-i.out _ (end-inside c))
 
-pub put-line-spec : {M : Type 1} → statement M
-put-line-spec =
+pub put_line_spec : {M : Type 1} → statement M
+put_line_spec =
     tie.close
     (tie.spec
     invariant-loop

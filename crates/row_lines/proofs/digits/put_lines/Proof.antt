@@ -6,53 +6,53 @@ use Rattle.row_lines.proofs.Texts.{Lays, lays-begin, lays_more, lays_no_values, 
 use Rattle.row_lines.proofs.digits.put_lines.Statement.{statement}
 use Rattle.row_lines.proofs.digits.put_lines.Tie as tie
 
-abbrev invariant-loop : tie.invariant-loop
+abbrev invariant-loop : tie.invariant-loop-row
 invariant-loop values rows outputs out₀ at₀ from₀ row₀ out at from row = Lays values rows outputs out₀ out at from row
 
-abbrev decreases-loop : tie.decreases-loop
+abbrev decreases-loop : tie.decreases-loop-row
 decreases-loop values rows outputs out₀ at₀ from₀ row₀ out at from row = rows - row
 
 -- Where a line is put, and the loop's turn around it.
-abbrev putting : tie.After-put-line invariant-loop decreases-loop → tie.Else2 invariant-loop decreases-loop
+abbrev putting : tie.After-put_line-at invariant-loop decreases-loop → tie.Else-out-at invariant-loop decreases-loop
 putting c = c.before.before.before
 
-abbrev turn : tie.Else2 invariant-loop decreases-loop → tie.In-loop invariant-loop decreases-loop
+abbrev turn : tie.Else-out-at invariant-loop decreases-loop → tie.In-loop-row invariant-loop decreases-loop
 turn c = c.before.before
 
 -- The next row's values are there, and the line's room.
-inside : tie.Need-slice-bounds-put-line-end invariant-loop decreases-loop
-inside c = omega (arith, (turn c).before.loop.invariant.inside, c.before.if1.false)
+inside : tie.Need-slice_bounds-put_line-end invariant-loop decreases-loop
+inside c = omega (arith, (turn c).before.loop-row.invariant.inside, c.before.if-values-from.false)
 
-room : (c : tie.After-put-line-arg2 invariant-loop decreases-loop)
+room : (c : tie.After-put_line-arg-in-loop-row-1 invariant-loop decreases-loop)
     → let e = c.before.before in
-    let l = (turn e).before.loop in
+    let l = (turn e).before.loop-row in
     let s = (turn e).before.before.before.before.args in
-    l.at + length (take (l.from + s.outputs - l.from) (drop l.from s.values.now)) < length l.out
+    l.at + length (take (l.from + s.outputs - l.from) (drop l.from s.values.now)) < length l.out-1
 room c =
     let e = c.before.before in
-    let l = (turn e).before.loop in
+    let l = (turn e).before.loop-row in
     let s = (turn e).before.before.before.before.args in
-    omega (arith, e.if2.false, l.inv.room-is, length-take (l.from + s.outputs - l.from) (drop l.from s.values.now))
+    omega (arith, e.if-out-at.false, l.inv.room-is, length-take (l.from + s.outputs - l.from) (drop l.from s.values.now))
 
-loop-again : tie.Need-loop-preserved invariant-loop decreases-loop
+loop-again : tie.Need-loop-row-preserved invariant-loop decreases-loop
 loop-again c =
     let p = c.before.before in
     let e = putting p in
-    lays_more (turn e).before.loop.inv (turn e).loop-test.taken e.before.if1.left e.if2.left p.put-line.ensures
+    lays_more (turn e).before.loop-row.inv (turn e).loop-row-test.taken e.before.if-values-from.left e.if-out-at.left p.put_line-at.ensures
 
-pub put-lines-spec : {M : Type 1} → statement M
-put-lines-spec =
+pub put_lines_spec : {M : Type 1} → statement M
+put_lines_spec =
     tie.close
     (tie.spec
     invariant-loop
     decreases-loop
     (λ c. lays-begin _ _ _ _)
-    (λ c. c.before.loop.invariant.inside)
-    (λ c. c.before.before.loop.invariant.goes.same)
-    (λ c. lays_no_values c.before.before.loop.invariant c.if1.true)
-    (λ c. omega (arith, c.before.before.loop.invariant.room-is))
-    (λ c. c.before.before.before.loop.invariant.goes.same)
-    (λ c. lays_no_room c.before.before.before.loop.invariant c.if2.true)
+    (λ c. c.before.loop-row.invariant.inside)
+    (λ c. c.before.before.loop-row.invariant.goes.same)
+    (λ c. lays_no_values c.before.before.loop-row.invariant c.if-values-from.true)
+    (λ c. omega (arith, c.before.before.loop-row.invariant.room-is))
+    (λ c. c.before.before.before.loop-row.invariant.goes.same)
+    (λ c. lays_no_room c.before.before.before.loop-row.invariant c.if-out-at.true)
     (λ c. omega (arith, inside c))
     (λ c. omega arith)
     (λ c. omega arith)
@@ -61,5 +61,5 @@ put-lines-spec =
     (λ c. omega arith)
     (λ c. omega arith)
     loop-again
-    (λ c. c.before.loop.invariant.goes.same)
-    (λ c. lays_all c.before.loop.invariant c.loop-test.false))
+    (λ c. c.before.loop-row.invariant.goes.same)
+    (λ c. lays_all c.before.loop-row.invariant c.loop-row-test.false))

@@ -14,14 +14,14 @@ empty : (line : List ℕ) → length line ≡ 0 → 0 ≡ bare_length line
 empty [] e = refl
 empty (b ∷ line) e = absurd (omega arith)
 
-returns : tie.Need-returns
-returns c = empty c.before.args.line.now c.if1.true
+returns : tie.Need-returns-then-line-eq0
+returns c = empty c.before.args.line.now c.if-line-eq0.true
 
-returns-2 : tie.Need-returns-2
-returns-2 c = let l = c.before.before.before.args.line.now in rw (eq-eqb (get_or l (length l - 1) 0) carriage_return c.if2.true)
+returns-2 : tie.Need-returns-then-line-last-eq13
+returns-2 c = let l = c.before.before.before.args.line.now in rw (eq-eqb (get_or l (length l - 1) 0) carriage_return c.if-line-last-eq13.true)
 
-returns-3 : tie.Need-returns-3
-returns-3 c = let l = c.before.before.before.args.line.now in rw (ne_eqb (get_or l (length l - 1) 0) carriage_return c.if2.false)
+returns-3 : tie.Need-returns
+returns-3 c = let l = c.before.before.before.args.line.now in rw (ne_eqb (get_or l (length l - 1) 0) carriage_return c.if-line-last-eq13.false)
 
-pub bare-length-spec : {M : Type 1} → statement M
-bare-length-spec = tie.close (tie.spec returns (λ c. search rules) (λ c. search rules) returns-2 returns-3)
+pub bare_length_spec : {M : Type 1} → statement M
+bare_length_spec = tie.close (tie.spec returns (λ c. search rules) (λ c. search rules) returns-2 returns-3)

@@ -13,10 +13,10 @@ use Rattle.row_lines.specs.Lines.{feed_at}
 use Rattle.row_lines.proofs.judging.feed_at.Statement.{statement}
 use Rattle.row_lines.proofs.judging.feed_at.Tie as tie
 
-abbrev invariant-loop : tie.invariant-loop
+abbrev invariant-loop : tie.invariant-loop-i
 invariant-loop text i₀ i = (i ≤ length text) × (feed_at text ≡ i + feed_at (drop i text))
 
-abbrev decreases-loop : tie.decreases-loop
+abbrev decreases-loop : tie.decreases-loop-i
 decreases-loop text i₀ i = length text - i
 
 module _ (text : List ℕ) (i : ℕ) (inside : i < length text) where
@@ -32,23 +32,23 @@ none : (text : List ℕ) (i : ℕ) → length text ≤ i → feed_at (drop i tex
 unfolding feed_at
 none text i h = ap feed_at (drop_of_length-le text h)
 
-returns : tie.Need-returns invariant-loop decreases-loop
+returns : tie.Need-returns-then-text-i-eq10 invariant-loop decreases-loop
 returns c =
     let t = c.before.before in
     let text = t.before.before.args.text.now in
-    omega (arith, here text t.before.loop.i t.loop-test.true c.if1.true)
+    omega (arith, here text t.before.loop-i.i t.loop-i-test.true c.if-text-i-eq10.true)
 
-loop-again : tie.Need-loop-preserved invariant-loop decreases-loop
+loop-again : tie.Need-loop-i-preserved invariant-loop decreases-loop
 loop-again c =
     let t = c.before.before in
     let text = t.before.before.args.text.now in
-    (omega arith, omega (arith, further text t.before.loop.i t.loop-test.true c.if1.false))
+    (omega arith, omega (arith, further text t.before.loop-i.i t.loop-i-test.true c.if-text-i-eq10.false))
 
-returns-2 : tie.Need-returns-2 invariant-loop decreases-loop
-returns-2 c = omega (arith, none c.before.before.args.text.now c.before.loop.i c.loop-test.false)
+returns-2 : tie.Need-returns invariant-loop decreases-loop
+returns-2 c = omega (arith, none c.before.before.args.text.now c.before.loop-i.i c.loop-i-test.false)
 
-pub feed-at-spec : {M : Type 1} → statement M
-feed-at-spec =
+pub feed_at_spec : {M : Type 1} → statement M
+feed_at_spec =
     tie.close
     (tie.spec
     invariant-loop

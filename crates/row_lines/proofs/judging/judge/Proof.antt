@@ -8,33 +8,33 @@ use Rattle.row_lines.specs.Lines.{judged}
 use Rattle.row_lines.proofs.judging.judge.Statement.{statement}
 use Rattle.row_lines.proofs.judging.judge.Tie as tie
 
-returns : tie.Need-returns
+returns : tie.Need-returns-then-other-word
 unfolding judged
 returns c =
     let s = c.before.before.before in
     let w = s.args.word.now in
-    let found = c.before.first-other.ensures in
-    rw (ne_eqb (first_other w) (length w) (λ e. c.if1.true (found ∙ e)), found)
+    let found = c.before.first_other-other.ensures in
+    rw (ne_eqb (first_other w) (length w) (λ e. c.if-other-word.true (found ∙ e)), found)
 
 -- Every byte belongs there.
-belong : (c : tie.After-count-values) → first_other c.before.before.before.before.args.word.now ≡ length c.before.before.before.before.args.word.now
-belong c = sym c.before.before.first-other.ensures ∙ c.before.if1.false
+belong : (c : tie.After-count_values-values) → first_other c.before.before.before.before.args.word.now ≡ length c.before.before.before.before.args.word.now
+belong c = sym c.before.before.first_other-other.ensures ∙ c.before.if-other-word.false
 
-returns-2 : tie.Need-returns-2
+returns-2 : tie.Need-returns-then-values-inputs
 unfolding judged
 returns-2 c =
     let k = c.before in
     let s = k.before.before.before.before in
     let w = s.args.word.now in
-    rw (eq-eqb (first_other w) (length w) (belong k), ne_eqb (length (values_of w)) s.args.inputs (λ e. c.if2.true (k.count-values.ensures ∙ e)), k.count-values.ensures)
+    rw (eq-eqb (first_other w) (length w) (belong k), ne_eqb (length (values_of w)) s.args.inputs (λ e. c.if-values-inputs.true (k.count_values-values.ensures ∙ e)), k.count_values-values.ensures)
 
-returns-3 : tie.Need-returns-3
+returns-3 : tie.Need-returns
 unfolding judged
 returns-3 c =
     let k = c.before in
     let s = k.before.before.before.before in
     let w = s.args.word.now in
-    rw (eq-eqb (first_other w) (length w) (belong k), eq-eqb (length (values_of w)) s.args.inputs (sym k.count-values.ensures ∙ c.if2.false))
+    rw (eq-eqb (first_other w) (length w) (belong k), eq-eqb (length (values_of w)) s.args.inputs (sym k.count_values-values.ensures ∙ c.if-values-inputs.false))
 
-pub judge-spec : {M : Type 1} → statement M
-judge-spec = tie.close (tie.spec (λ c κs. search rules) returns (λ c κs. search rules) returns-2 returns-3)
+pub judge_spec : {M : Type 1} → statement M
+judge_spec = tie.close (tie.spec (λ c κs. search rules) returns (λ c κs. search rules) returns-2 returns-3)

@@ -43,10 +43,10 @@ module _ (text₀ text : List ℕ) (from i : ℕ) (inside : from + i < length te
       (subst (λ (x : ℕ). PutDown (x ∷ []) text i (set text i (get_or text (from + i) 0)) (i + 1)) next-byte
       (put_byte (get_or text (from + i) 0) text i (omega (arith, put-length d)))))
 
-abbrev invariant-loop : tie.invariant-loop
+abbrev invariant-loop : tie.invariant-loop-i
 invariant-loop text₀ from to long i₀ text i = (i ≤ to - from) × PutDown (take i (drop from text₀)) text₀ 0 text i
 
-abbrev decreases-loop : tie.decreases-loop
+abbrev decreases-loop : tie.decreases-loop-i
 decreases-loop text₀ from to long i₀ text i = long - i
 
 module _ (from to : ℕ) (text : List ℕ) where
@@ -62,39 +62,39 @@ module _ (from to : ℕ) (text : List ℕ) where
   unfolding moved
   there h g = rw (le-leb from to h, le-leb to (length text) g)
 
-abbrev turn : tie.After-slice-known invariant-loop decreases-loop → tie.In-loop invariant-loop decreases-loop
+abbrev turn : tie.After-slice_known-1 invariant-loop decreases-loop → tie.In-loop-i invariant-loop decreases-loop
 turn c = c.before
 
-inside : tie.Need-slice-read-text invariant-loop decreases-loop
-inside c = omega (arith, put-length (turn c).before.loop.invariant.1)
+inside : tie.Need-bounds-text-from invariant-loop decreases-loop
+inside c = omega (arith, put-length (turn c).before.loop-i.invariant.1)
 
-loop-again : tie.Need-loop-preserved invariant-loop decreases-loop
+loop-again : tie.Need-loop-i-preserved invariant-loop decreases-loop
 loop-again c =
-    let l = (turn c).before.loop in
+    let l = (turn c).before.loop-i in
     let s = (turn c).before.before.before.before in
     (omega arith, moved_more s.args.text.now l.text s.args.from l.i (omega (arith, inside c, put-length l.inv.1)) l.inv.1)
 
-returns-3 : tie.Need-returns-3 invariant-loop decreases-loop
+returns-3 : tie.Need-returns invariant-loop decreases-loop
 returns-3 c =
-    let l = c.before.loop in
+    let l = c.before.loop-i in
     let s = c.before.before.before.before in
     let all : l.i ≡ s.args.to - s.args.from = omega arith in
     rw (there s.args.from s.args.to s.args.text.now (omega arith) (omega arith)) (rw all at l.invariant.1)
 
-pub carry-spec : {M : Type 1} → statement M
-carry-spec =
+pub carry_spec : {M : Type 1} → statement M
+carry_spec =
     tie.close
     (tie.spec
     invariant-loop
     decreases-loop
-    (λ c. rw (nowhere _ _ _ c.if1.true) (put-nothing _ 0 (omega arith)))
-    (λ c. rw (outside _ _ _ c.if2.true) (put-nothing _ 0 (omega arith)))
+    (λ c. rw (nowhere _ _ _ c.if-to-from.true) (put-nothing _ 0 (omega arith)))
+    (λ c. rw (outside _ _ _ c.if-text-to.true) (put-nothing _ 0 (omega arith)))
     (λ c. (omega arith, put-nothing _ 0 (omega arith)))
     (λ c. omega arith)
     inside
-    (λ c. omega (arith, put-length (turn c).before.loop.invariant.1))
+    (λ c. omega (arith, put-length (turn c).before.loop-i.invariant.1))
     (λ c. omega arith)
     (λ c. omega arith)
     loop-again
-    (λ c. put-length c.before.loop.invariant.1)
+    (λ c. put-length c.before.loop-i.invariant.1)
     returns-3)

@@ -34,23 +34,23 @@ module _ (filled : ℕ) (text : List ℕ) where
   unfolding last_end
   open-ended some h n = rw (lt-ltb 0 filled (omega (arith, some)), lt-ltb filled (length text) h, ne_eqb (get_or text (filled - 1) 0) line_feed n)
 
-returns-4 : tie.Need-returns-4
+returns-4 : tie.Need-returns
 returns-4 c =
     let s = c.before.before.before.before in
     let f = s.args.filled in
     let t = s.args.text.now in
-    let e = open-ended f t c.before.before.before.if1.false c.before.before.if2.false c.if3.false in
-    (omega (arith, ap length e), set-laid t f line_feed c.before.before.if2.false ∙ ap (laid t f) (sym e))
+    let e = open-ended f t c.before.before.before.if-filled-eq0.false c.before.before.if-text-filled.false c.if-text-last-eq10.false in
+    (omega (arith, ap length e), set-laid t f line_feed c.before.before.if-text-filled.false ∙ ap (laid t f) (sym e))
 
-pub end-text-spec : {M : Type 1} → statement M
-end-text-spec =
+pub end_text_spec : {M : Type 1} → statement M
+end_text_spec =
     tie.close
     (tie.spec
-    (λ c. as_it_was _ _ (empty _ _ c.if1.true))
-    (λ c. as_it_was _ _ (full _ _ c.if2.true))
+    (λ c. as_it_was _ _ (empty _ _ c.if-filled-eq0.true))
+    (λ c. as_it_was _ _ (full _ _ c.if-text-filled.true))
     (λ c. search rules)
     (λ c. search rules)
-    (λ c. as_it_was _ _ (ended _ _ c.if3.true))
+    (λ c. as_it_was _ _ (ended _ _ c.if-text-last-eq10.true))
     (λ c. search rules)
     (λ c. search rules)
     (λ c. search rules)

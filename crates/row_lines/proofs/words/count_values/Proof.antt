@@ -10,38 +10,38 @@ use Rattle.row_lines.proofs.Values.{value-here, no_value-here, no_values}
 use Rattle.row_lines.proofs.words.count_values.Statement.{statement}
 use Rattle.row_lines.proofs.words.count_values.Tie as tie
 
-abbrev invariant-loop : tie.invariant-loop
+abbrev invariant-loop : tie.invariant-loop-i
 invariant-loop word values₀ i₀ values i =
     (i ≤ length word) × (values ≤ i) × (length (values_of word) ≡ values + length (values_of (drop i word)))
 
-abbrev decreases-loop : tie.decreases-loop
+abbrev decreases-loop : tie.decreases-loop-i
 decreases-loop word values₀ i₀ values i = length word - i
 
-abbrev turn : tie.After-mark-of invariant-loop decreases-loop → tie.In-loop invariant-loop decreases-loop
+abbrev turn : tie.After-mark_of invariant-loop decreases-loop → tie.In-loop-i invariant-loop decreases-loop
 turn c = c.before.before
 
-loop-again : tie.Need-loop-preserved invariant-loop decreases-loop
+loop-again : tie.Need-loop-i-preserved invariant-loop decreases-loop
 loop-again c =
     let k = c.before in
     let t = turn k in
-    let l = t.before.loop in
+    let l = t.before.loop-i in
     let w = t.before.before.before.args.word.now in
     ⊎_elim
     (λ a.
-    let one = value-here w l.i t.loop-test.taken (omega (arith, k.mark-of.ensures, a.0.taken)) in
+    let one = value-here w l.i t.loop-i-test.taken (omega (arith, k.mark_of.ensures, a.0.taken)) in
     (omega arith, omega (arith, a.1), omega (arith, a.1, ap length one)))
     (λ a.
-    let none = no_value-here w l.i t.loop-test.taken (omega (arith, k.mark-of.ensures, a.0.left)) in
+    let none = no_value-here w l.i t.loop-i-test.taken (omega (arith, k.mark_of.ensures, a.0.left)) in
     (omega arith, omega (arith, a.1), omega (arith, a.1, ap length none)))
-    c.if1.branch
+    c.if-mark_of-lt-GAP.branch
 
 returns : tie.Need-returns invariant-loop decreases-loop
 returns c =
-    let none = no_values c.before.before.before.args.word.now c.before.loop.i c.loop-test.false in
+    let none = no_values c.before.before.before.args.word.now c.before.loop-i.i c.loop-i-test.false in
     omega (arith, ap length none)
 
-pub count-values-spec : {M : Type 1} → statement M
-count-values-spec =
+pub count_values_spec : {M : Type 1} → statement M
+count_values_spec =
     tie.close
     (tie.spec
     invariant-loop

@@ -12,10 +12,10 @@ use Rattle.row_lines.specs.Words.{other, mark_of, first_other}
 use Rattle.row_lines.proofs.words.first_other.Statement.{statement}
 use Rattle.row_lines.proofs.words.first_other.Tie as tie
 
-abbrev invariant-loop : tie.invariant-loop
+abbrev invariant-loop : tie.invariant-loop-i
 invariant-loop word i₀ i = (i ≤ length word) × (first_other word ≡ i + first_other (drop i word))
 
-abbrev decreases-loop : tie.decreases-loop
+abbrev decreases-loop : tie.decreases-loop-i
 decreases-loop word i₀ i = length word - i
 
 module _ (word : List ℕ) (i : ℕ) (inside : i < length word) where
@@ -31,27 +31,27 @@ none : (word : List ℕ) (i : ℕ) → length word ≤ i → first_other (drop i
 unfolding first_other
 none word i h = ap first_other (drop_of_length-le word h)
 
-abbrev turn : tie.After-mark-of invariant-loop decreases-loop → tie.In-loop invariant-loop decreases-loop
+abbrev turn : tie.After-mark_of invariant-loop decreases-loop → tie.In-loop-i invariant-loop decreases-loop
 turn c = c.before.before
 
-returns : tie.Need-returns invariant-loop decreases-loop
+returns : tie.Need-returns-then-mark_of-eq-OTHER invariant-loop decreases-loop
 returns c =
     let t = turn c.before in
     let w = t.before.before.before.args.word.now in
-    omega (arith, t.before.loop.inv.1, here w t.before.loop.i t.loop-test.taken (sym c.before.mark-of.ensures ∙ c.if1.true))
+    omega (arith, t.before.loop-i.inv.1, here w t.before.loop-i.i t.loop-i-test.taken (sym c.before.mark_of.ensures ∙ c.if-mark_of-eq-OTHER.true))
 
-loop-again : tie.Need-loop-preserved invariant-loop decreases-loop
+loop-again : tie.Need-loop-i-preserved invariant-loop decreases-loop
 loop-again c =
     let t = turn c.before in
     let w = t.before.before.before.args.word.now in
-    let rest = further w t.before.loop.i t.loop-test.taken (λ e. c.if1.false (c.before.mark-of.ensures ∙ e)) in
-    (omega arith, omega (arith, t.before.loop.inv.1, rest))
+    let rest = further w t.before.loop-i.i t.loop-i-test.taken (λ e. c.if-mark_of-eq-OTHER.false (c.before.mark_of.ensures ∙ e)) in
+    (omega arith, omega (arith, t.before.loop-i.inv.1, rest))
 
-returns-2 : tie.Need-returns-2 invariant-loop decreases-loop
-returns-2 c = omega (arith, none c.before.before.before.args.word.now c.before.loop.i c.loop-test.false)
+returns-2 : tie.Need-returns invariant-loop decreases-loop
+returns-2 c = omega (arith, none c.before.before.before.args.word.now c.before.loop-i.i c.loop-i-test.false)
 
-pub first-other-spec : {M : Type 1} → statement M
-first-other-spec =
+pub first_other_spec : {M : Type 1} → statement M
+first_other_spec =
     tie.close
     (tie.spec
     invariant-loop

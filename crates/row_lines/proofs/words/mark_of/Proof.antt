@@ -20,36 +20,36 @@ module _ (b : ℕ) (no_digit : (leb 48 b && leb b 57) ≡ false) where
   none n88 n120 n90 n122 n95 =
       rw (no_digit, ne_eqb b 88 n88, ne_eqb b 120 n120, ne_eqb b 90 n90, ne_eqb b 122 n122, ne_eqb b 95 n95)
 
-returns : tie.Need-returns
+returns : tie.Need-returns-in-88
 unfolding mark_of
-returns c = ⊎_elim (λ e. rw e) (λ e. rw e) c.match.keys1
+returns c = ⊎_elim (λ e. rw e) (λ e. rw e) c.in-88.keys1
 
-returns-2 : tie.Need-returns-2
+returns-2 : tie.Need-returns-in-90
 unfolding mark_of
-returns-2 c = ⊎_elim (λ e. rw e) (λ e. rw e) c.match.keys2
+returns-2 c = ⊎_elim (λ e. rw e) (λ e. rw e) c.in-90.keys2
 
-returns-3 : tie.Need-returns-3
+returns-3 : tie.Need-returns-in-95
 unfolding mark_of
-returns-3 c = rw c.match.keys3
+returns-3 c = rw c.in-95.keys3
 
-returns-4 : tie.Need-returns-4
-returns-4 c = sym (digit _ c.before.if1.false c.if2.true)
+returns-4 : tie.Need-returns-in-48-to-57
+returns-4 c = sym (digit _ c.before.if-byte-lt48.false c.if-byte-lt58.true)
 
-returns-5 : tie.Need-returns-5
+returns-5 : tie.Need-returns-in_default
 returns-5 c =
     let b = c.before.before.args.byte in
-    none b (rw (lt-leb 48 b c.if1.true)) (λ e. omega arith) (λ e. omega arith) (λ e. omega arith) (λ e. omega arith) (λ e. omega arith)
+    none b (rw (lt-leb 48 b c.if-byte-lt48.true)) (λ e. omega arith) (λ e. omega arith) (λ e. omega arith) (λ e. omega arith) (λ e. omega arith)
 
-returns-6 : tie.Need-returns-6
+returns-6 : tie.Need-returns-in_default-2
 returns-6 c =
     let b = c.before.before.before.args.byte in
-    let r = c.before.before.match.rest in
-    none b (rw (lt-leb b 57 c.if2.false) (and-false (leb 48 b)))
+    let r = c.before.before.in_default-1.rest in
+    none b (rw (lt-leb b 57 c.if-byte-lt58.false) (and-false (leb 48 b)))
     (λ e. r.0.0.1 (inl e))
     (λ e. r.0.0.1 (inr e))
     (λ e. r.0.1 (inl e))
     (λ e. r.0.1 (inr e))
     (λ e. r.1 e)
 
-pub mark-of-spec : {M : Type 1} → statement M
-mark-of-spec = tie.close (tie.spec returns returns-2 returns-3 returns-4 returns-5 returns-6)
+pub mark_of_spec : {M : Type 1} → statement M
+mark_of_spec = tie.close (tie.spec returns returns-2 returns-3 returns-4 returns-5 returns-6)

@@ -46,19 +46,19 @@ module _ {word values₀ : List ℕ} {from : ℕ} {values : List ℕ} {at i : �
       rw (kept, stays)
       record { passed = omega arith; inside = p.inside; goes = rw (ap (fitting values at) none) at p.goes }
 
-abbrev invariant-loop : tie.invariant-loop
+abbrev invariant-loop : tie.invariant-loop-i
 invariant-loop word values₀ from at₀ i₀ values at i = Puts word values₀ from values at i
 
-abbrev decreases-loop : tie.decreases-loop
+abbrev decreases-loop : tie.decreases-loop-i
 decreases-loop word values₀ from at₀ i₀ values at i = length word - i
 
-abbrev turn : tie.After-mark-of invariant-loop decreases-loop → tie.In-loop invariant-loop decreases-loop
+abbrev turn : tie.After-mark_of-mark invariant-loop decreases-loop → tie.In-loop-i invariant-loop decreases-loop
 turn c = c.before.before
 
-abbrev entry : tie.In-loop invariant-loop decreases-loop → tie.Start invariant-loop decreases-loop
+abbrev entry : tie.In-loop-i invariant-loop decreases-loop → tie.Start invariant-loop decreases-loop
 entry t = t.before.before.before.before
 
-loop-holds : tie.Need-loop-init invariant-loop decreases-loop
+loop-holds : tie.Need-loop-i-init invariant-loop decreases-loop
 loop-holds c =
     let s = c.before.before in
     record {
@@ -68,44 +68,44 @@ loop-holds c =
     }
 
 -- There is room for another value.
-room : tie.Need-slice-write-values invariant-loop decreases-loop
-room c = let h = (turn c.before.before).before.loop.inv.inside in omega (arith, c.if2.false)
+room : tie.Need-bounds-values-at invariant-loop decreases-loop
+room c = let h = (turn c.before.before).before.loop-i.inv.inside in omega (arith, c.if-at-values.false)
 
-loop-again : tie.Need-loop-preserved invariant-loop decreases-loop
+loop-again : tie.Need-loop-i-preserved invariant-loop decreases-loop
 loop-again c =
     let k = c.before in
     let t = turn k in
-    let l = t.before.loop in
+    let l = t.before.loop-i in
     let w = (entry t).args.word.now in
     ⊎_elim
     (λ a.
-    let one = value-here w l.i t.loop-test.taken (omega (arith, k.mark-of.ensures, a.0.taken)) in
-    puts-value l.inv t.loop-test.taken
-    (one ∙ ap (λ (m : ℕ). m ∷ values_of (drop (l.i + 1) w)) (sym k.mark-of.ensures))
+    let one = value-here w l.i t.loop-i-test.taken (omega (arith, k.mark_of-mark.ensures, a.0.taken)) in
+    puts-value l.inv t.loop-i-test.taken
+    (one ∙ ap (λ (m : ℕ). m ∷ values_of (drop (l.i + 1) w)) (sym k.mark_of-mark.ensures))
     a.1.left
     a.2
     a.3)
     (λ a.
-    let none = no_value-here w l.i t.loop-test.taken (omega (arith, k.mark-of.ensures, a.0.left)) in
-    puts_none l.inv t.loop-test.taken none a.1 a.2)
-    c.if1.branch
+    let none = no_value-here w l.i t.loop-i-test.taken (omega (arith, k.mark_of-mark.ensures, a.0.left)) in
+    puts_none l.inv t.loop-i-test.taken none a.1 a.2)
+    c.if-mark-lt-GAP.branch
 
-same_length : tie.Need-same-length invariant-loop decreases-loop
-same_length c = (turn c.before.before).before.loop.inv.goes.same
+same_length : tie.Need-shape_of-values-then-at-values invariant-loop decreases-loop
+same_length c = (turn c.before.before).before.loop-i.inv.goes.same
 
-returns : tie.Need-returns invariant-loop decreases-loop
+returns : tie.Need-returns-then-at-values invariant-loop decreases-loop
 returns c =
-    let l = (turn c.before.before).before.loop in
-    goes_end (fitting-full l.values l.at _ c.if2.true) l.inv.goes
+    let l = (turn c.before.before).before.loop-i in
+    goes_end (fitting-full l.values l.at _ c.if-at-values.true) l.inv.goes
 
-returns-2 : tie.Need-returns-2 invariant-loop decreases-loop
+returns-2 : tie.Need-returns invariant-loop decreases-loop
 returns-2 c =
-    let l = c.before.loop in
+    let l = c.before.loop-i in
     let w = c.before.before.before.before.args.word.now in
-    goes_end (fitting-none l.values l.at (no_values w l.i c.loop-test.false)) l.invariant.goes
+    goes_end (fitting-none l.values l.at (no_values w l.i c.loop-i-test.false)) l.invariant.goes
 
-pub put-at-spec : {M : Type 1} → statement M
-put-at-spec =
+pub put_at_spec : {M : Type 1} → statement M
+put_at_spec =
     tie.close
     (tie.spec
     invariant-loop
@@ -120,5 +120,5 @@ put-at-spec =
     (λ c. omega arith)
     (λ c. omega arith)
     loop-again
-    (λ c. c.before.loop.invariant.goes.same)
+    (λ c. c.before.loop-i.invariant.goes.same)
     returns-2)

@@ -3,14 +3,14 @@ use Rattle.std.proofs.Common.{◌≡◌, length, rules}
 use Rattle.rows_file.proofs.steps.run_steps.Statement.{statement}
 use Rattle.rows_file.proofs.steps.run_steps.Tie as tie
 
-abbrev invariant-loop : tie.invariant-loop
+abbrev invariant-loop : tie.invariant-loop-left
 invariant-loop file task text out buffer₀ progress₀ left₀ buffer progress left = length buffer ≡ length buffer₀
 
-abbrev decreases-loop : tie.decreases-loop
+abbrev decreases-loop : tie.decreases-loop-left
 decreases-loop file task text out buffer₀ progress₀ left₀ buffer progress left = left
 
-pub run-steps-spec : {M : Type 1} → statement M
-run-steps-spec =
+pub run_steps_spec : {M : Type 1} → statement M
+run_steps_spec =
     tie.close
     (tie.spec
     invariant-loop

@@ -10,73 +10,73 @@ use Rattle.run_engine.proofs.Front.{Front, front-none, front-more, front-all}
 use Rattle.run_engine.proofs.buffers.give.Statement.{statement}
 use Rattle.run_engine.proofs.buffers.give.Tie as tie
 
-abbrev invariant-loop : tie.invariant-loop
+abbrev invariant-loop : tie.invariant-loop-i
 invariant-loop image from to scratch out₀ count i₀ out i = Front (values_at 0 image from to 0 scratch) out₀ out i
 
-abbrev decreases-loop : tie.decreases-loop
+abbrev decreases-loop : tie.decreases-loop-i
 decreases-loop image from to scratch out₀ count i₀ out i = count - i
 
-loop-holds : tie.Need-loop-init invariant-loop decreases-loop
+loop-holds : tie.Need-loop-i-init invariant-loop decreases-loop
 loop-holds c =
     let a = c.before.before.before.args in
     front-none (values_at 0 a.image.now a.from a.to 0 a.scratch.now) a.out.now
 
 -- Where the function began, from a turn of its loop.
-abbrev start : tie.At-loop invariant-loop decreases-loop → tie.Start invariant-loop decreases-loop
+abbrev start : tie.At-loop-i invariant-loop decreases-loop → tie.Start invariant-loop decreases-loop
 start c = c.before.before.before.before
 
 entry-requires : tie.Need-entry-requires invariant-loop decreases-loop
-entry-requires c κs = omega (arith, (start c.before).pre.readable.inside)
+entry-requires c κs = omega (arith, (start c.before).requires.readable.inside)
 
 -- The slot is one of scratch,
 slot-inside : (c : tie.After-entry invariant-loop decreases-loop) → c.entry.result < length (start c.before.before).args.scratch.now
 slot-inside c =
     let from = start c.before.before in
     omega
-    (arith, c.entry.ensures, from.pre.readable.slots (from.args.from + c.before.before.loop.i) (omega arith) (omega (arith, c.before.loop-test.true)))
+    (arith, c.entry.ensures, from.requires.readable.slots (from.args.from + c.before.before.loop-i.i) (omega arith) (omega (arith, c.before.loop-i-test.true)))
 
 -- and its value the one whose turn it is.
 value :
     (c : tie.After-entry invariant-loop decreases-loop)
     → let a = (start c.before.before).args in
-    get_or a.scratch.now c.entry.result 0 ≡ get_or (values_at 0 a.image.now a.from a.to 0 a.scratch.now) c.before.before.loop.i 0
+    get_or a.scratch.now c.entry.result 0 ≡ get_or (values_at 0 a.image.now a.from a.to 0 a.scratch.now) c.before.before.loop-i.i 0
 value c =
     let from = start c.before.before in
     let a = from.args in
     ap (λ (slot : ℕ). get_or a.scratch.now slot 0) c.entry.ensures
-    ∙ sym (value-at 0 a.image.now a.from a.to a.scratch.now c.before.before.loop.i c.before.loop-test.true from.pre.readable.inside)
+    ∙ sym (value-at 0 a.image.now a.from a.to a.scratch.now c.before.before.loop-i.i c.before.loop-i-test.true from.requires.readable.inside)
 
 -- There are as many values as places.
 all-values :
-    (c : tie.At-loop invariant-loop decreases-loop)
+    (c : tie.At-loop-i invariant-loop decreases-loop)
     → let a = (start c).args in
     length (values_at 0 a.image.now a.from a.to 0 a.scratch.now) ≡ a.to - a.from
 all-values c =
     let from = start c in
     let a = from.args in
-    length-of-values 0 a.image.now a.from a.to 0 a.scratch.now from.pre.readable.inside
+    length-of-values 0 a.image.now a.from a.to 0 a.scratch.now from.requires.readable.inside
 
-cast-out : tie.Need-overflow-cast-out invariant-loop decreases-loop
+cast-out : tie.Need-overflow_cast-out invariant-loop decreases-loop
 cast-out c =
     let turn = c.before in
     let from = start turn.before.before in
-    let i = turn.before.before.loop.i in
+    let i = turn.before.before.loop-i.i in
     omega
-    (arith, value turn, all-at from.pre.bytes i 0 (omega (arith, all-values turn.before.before, turn.before.loop-test.true)))
+    (arith, value turn, all-at from.requires.bytes i 0 (omega (arith, all-values turn.before.before, turn.before.loop-i-test.true)))
 
-slice-write-out : tie.Need-slice-write-out invariant-loop decreases-loop
+slice-write-out : tie.Need-bounds-out-i invariant-loop decreases-loop
 slice-write-out c =
     let head = c.before.before.before in
-    omega (arith, head.loop.invariant.size, head.before.before.before.before.requires.room, c.before.before.loop-test.true)
+    omega (arith, head.loop-i.invariant.size, head.before.before.before.before.requires.room, c.before.before.loop-i-test.true)
 
-loop-again : tie.Need-loop-preserved invariant-loop decreases-loop
+loop-again : tie.Need-loop-i-preserved invariant-loop decreases-loop
 loop-again c =
     let head = c.before.before.before in
-    let taken = c.before.before.loop-test.true in
-    front-more head.loop.invariant (omega (arith, all-values head, taken)) (omega (arith, head.before.before.before.before.requires.room, taken)) (value c.before)
+    let taken = c.before.before.loop-i-test.true in
+    front-more head.loop-i.invariant (omega (arith, all-values head, taken)) (omega (arith, head.before.before.before.before.requires.room, taken)) (value c.before)
 
 returns : tie.Need-returns invariant-loop decreases-loop
-returns c = front-all c.before.loop.invariant (omega (arith, all-values c.before, c.loop-test.false))
+returns c = front-all c.before.loop-i.invariant (omega (arith, all-values c.before, c.loop-i-test.false))
 
 pub give_spec : {M : Type 1} → statement M
 give_spec =
@@ -95,5 +95,5 @@ give_spec =
     (λ c. omega arith)
     (λ c. omega arith)
     loop-again
-    (λ c. c.before.loop.invariant.size)
+    (λ c. c.before.loop-i.invariant.size)
     returns)

@@ -23,98 +23,98 @@ record Going
   laid_so :
       (s : RowsRun image starts nets site rows values (length entries₀) (length out₀)) → out ≡ laid out₀ 0 (joined (row_gives s) done)
 
-abbrev invariant-loop : tie.invariant-loop
+abbrev invariant-loop : tie.invariant-loop-done
 invariant-loop image starts nets site rows values entries₀ out₀ k inputs outputs done₀ entries out done =
     Going image starts nets site rows values entries₀ entries out₀ out done
 
-abbrev decreases-loop : tie.decreases-loop
+abbrev decreases-loop : tie.decreases-loop-done
 decreases-loop image starts nets site rows values entries₀ out₀ k inputs outputs done₀ entries out done = rows - done
 
 -- Where the function began, from where its header is read, and the header from a turn of its loop.
-abbrev began : tie.After-module-at invariant-loop decreases-loop → tie.Start invariant-loop decreases-loop
+abbrev began : tie.After-module_at-header invariant-loop decreases-loop → tie.Start invariant-loop decreases-loop
 began c = let lists = c.before.before.before in lists.before.before.before.before
 
-abbrev header : tie.At-loop invariant-loop decreases-loop → tie.After-module-at invariant-loop decreases-loop
+abbrev header : tie.At-loop-done invariant-loop decreases-loop → tie.After-module_at-header invariant-loop decreases-loop
 header c = c.before.before
 
 -- What the header says of the module, in a turn.
-abbrev Asked : tie.At-loop invariant-loop decreases-loop → Type 0
+abbrev Asked : tie.At-loop-done invariant-loop decreases-loop → Type 0
 Asked c =
     let a = (began (header c)).args in
-    RowsRun a.image.now a.starts.now a.nets.now a.site a.rows a.values.now (length a.entries.now) (length a.out.now)
+    RowsRun a.image.now a.starts.now a.nets.now a.site a.rows a.values.now (length a.entries-1.now) (length a.out-1.now)
 
-ins : (c : tie.At-loop invariant-loop decreases-loop) (s : Asked c) → (header c).module-at.result.inputs ≡ length s.standing.found.m.inputs
-ins c s = inputs_are s.standing (header c).module-at.ensures
+ins : (c : tie.At-loop-done invariant-loop decreases-loop) (s : Asked c) → (header c).module_at-header.result.inputs ≡ length s.standing.found.m.inputs
+ins c s = inputs_are s.standing (header c).module_at-header.ensures
 
 outs :
-    (c : tie.At-loop invariant-loop decreases-loop) (s : Asked c)
-    → let h = (header c).module-at.result in
+    (c : tie.At-loop-done invariant-loop decreases-loop) (s : Asked c)
+    → let h = (header c).module_at-header.result in
     h.to - h.from ≡ length s.standing.found.m.outputs
-outs c s = omega (arith, outputs-are s.standing (header c).module-at.ensures)
+outs c s = omega (arith, outputs-are s.standing (header c).module_at-header.ensures)
 
-loop-holds : tie.Need-loop-init invariant-loop decreases-loop
+loop-holds : tie.Need-loop-done-init invariant-loop decreases-loop
 unfolding joined
 loop-holds c =
     let a = (began c.before).args in
-    record { until = omega arith; same = refl; size = refl; laid_so = λ s. sym (laid-nothing a.out.now 0) }
+    record { until = omega arith; same = refl; size = refl; laid_so = λ s. sym (laid-nothing a.out-1.now 0) }
 
 -- A turn once its rows are counted: there are so many, and no more than 256.
-abbrev turned : tie.After-run-block invariant-loop decreases-loop → tie.After-least invariant-loop decreases-loop
+abbrev turned : tie.After-run_block invariant-loop decreases-loop → tie.After-least-some invariant-loop decreases-loop
 turned c = c.before.before.before
 
 upto :
-    (c : tie.After-least invariant-loop decreases-loop)
-    → c.before.before.loop.done + c.least.result ≤ (began (header c.before.before)).args.rows
-upto c = omega (arith, c.least.ensures, c.before.loop-test.true)
+    (c : tie.After-least-some invariant-loop decreases-loop)
+    → c.before.before.loop-done.done + c.least-some.result ≤ (began (header c.before.before)).args.rows
+upto c = omega (arith, c.least-some.ensures, c.before.loop-done-test.true)
 
-few : (c : tie.After-least invariant-loop decreases-loop) → c.least.result ≤ 256
-few c = omega (arith, c.least.ensures)
+few : (c : tie.After-least-some invariant-loop decreases-loop) → c.least-some.result ≤ 256
+few c = omega (arith, c.least-some.ensures)
 
 read-place :
-    (c : tie.After-least invariant-loop decreases-loop)
+    (c : tie.After-least-some invariant-loop decreases-loop)
     → let head = c.before.before in
-    head.loop.done * (header head).module-at.result.inputs ≤ length (began (header head)).args.values.now
+    head.loop-done.done * (header head).module_at-header.result.inputs ≤ length (began (header head)).args.values.now
 read-place c =
     let head = c.before.before in
-    let s = (began (header head)).pre in
-    omega (arith, read-there s head.loop.done c.least.result (upto c) (ins head s) (outs head s))
+    let s = (began (header head)).requires in
+    omega (arith, read-there s head.loop-done.done c.least-some.result (upto c) (ins head s) (outs head s))
 
 write-place :
-    (c : tie.After-least invariant-loop decreases-loop)
+    (c : tie.After-least-some invariant-loop decreases-loop)
     → let head = c.before.before in
-    let h = (header head).module-at.result in
-    head.loop.done * (h.to - h.from) ≤ length (began (header head)).args.out.now
+    let h = (header head).module_at-header.result in
+    head.loop-done.done * (h.to - h.from) ≤ length (began (header head)).args.out-1.now
 write-place c =
     let head = c.before.before in
-    let s = (began (header head)).pre in
-    omega (arith, write-there s head.loop.done c.least.result (upto c) (ins head s) (outs head s))
+    let s = (began (header head)).requires in
+    omega (arith, write-there s head.loop-done.done c.least-some.result (upto c) (ins head s) (outs head s))
 
-run-block-requires : tie.Need-run-block-requires invariant-loop decreases-loop
+run-block-requires : tie.Need-run_block-requires invariant-loop decreases-loop
 run-block-requires c κs =
     let least = c.before.before in
     let head = least.before.before in
-    let s = (began (header head)).pre in
-    turn-runs s head.loop.done least.least.result (upto least) (ins head s) (outs head s) (few least) head.loop.invariant.same head.loop.invariant.size
+    let s = (began (header head)).requires in
+    turn-runs s head.loop-done.done least.least-some.result (upto least) (ins head s) (outs head s) (few least) head.loop-done.invariant.same head.loop-done.invariant.size
 
-loop-again : tie.Need-loop-preserved invariant-loop decreases-loop
+loop-again : tie.Need-loop-done-preserved invariant-loop decreases-loop
 loop-again c =
     let ran = c.before.before.before in
     let least = turned ran in
     let head = least.before.before in
-    let l = head.loop in
+    let l = head.loop-done in
     let a = (began (header head)).args in
     record {
       until = upto least;
-      same = ran.run-block.auto.1.1.1.1.1.1.1.0 ∙ l.inv.same;
-      size = ran.run-block.auto.1.1.1.1.1.1.1.1.1.0 ∙ l.inv.size;
+      same = ran.run_block.auto.1.1.1.1.1.1.1.0 ∙ l.inv.same;
+      size = ran.run_block.auto.1.1.1.1.1.1.1.1.1.0 ∙ l.inv.size;
       laid_so = λ s.
-          turn_more s l.done least.least.result (upto least) (ins head s) (outs head s) a.out.now refl (l.inv.laid_so s)
-          (ran.run-block.ensures
-          (turn-runs s l.done least.least.result (upto least) (ins head s) (outs head s) (few least) l.inv.same l.inv.size));
+          turn_more s l.done least.least-some.result (upto least) (ins head s) (outs head s) a.out-1.now refl (l.inv.laid_so s)
+          (ran.run_block.ensures
+          (turn-runs s l.done least.least-some.result (upto least) (ins head s) (outs head s) (few least) l.inv.same l.inv.size));
     }
 
-pub run-rows-spec : {M : Type 1} → statement M
-run-rows-spec =
+pub run_rows_spec : {M : Type 1} → statement M
+run_rows_spec =
     tie.close
     (tie.spec
     invariant-loop
@@ -122,9 +122,9 @@ run-rows-spec =
     (λ c. let lists = c.before in omega (arith, in_starts (scene lists.before.before.before.before.requires.standing)))
     (λ c. let lists = c.before.before in in_starts (scene lists.before.before.before.before.requires.standing))
     (λ c κs. let lists = c.before.before in module_there (scene lists.before.before.before.before.requires.standing))
-    (λ c. omega (arith, outputs-are (began c.before).pre.standing c.before.module-at.ensures))
+    (λ c. omega (arith, outputs-are (began c.before).requires.standing c.before.module_at-header.ensures))
     loop-holds
-    (λ c. omega (arith, c.loop-test.true))
+    (λ c. omega (arith, c.loop-done-test.true))
     (λ c κs. search rules)
     (λ c. omega (arith, read-place c, (began (header c.before.before)).good))
     (λ c. let least = c.before in omega (arith, write-place least, (began (header least.before.before)).good))
@@ -132,11 +132,11 @@ run-rows-spec =
     (λ c. let least = turned c.before.before.before in omega (arith, upto least, (began (header least.before.before)).fits))
     (λ c.
     let least = turned c.before.before.before in
-    omega (arith, least.least.ensures, least.before.loop-test.taken))
+    omega (arith, least.least-some.ensures, least.before.loop-done-test.taken))
     loop-again
-    (λ c. c.before.loop.invariant.same)
-    (λ c. c.before.loop.invariant.size)
+    (λ c. c.before.loop-done.invariant.same)
+    (λ c. c.before.loop-done.invariant.size)
     (λ c s.
-    let l = c.before.loop in
+    let l = c.before.loop-done in
     let a = (began (header c.before)).args in
-    all-given s a.out.now (omega (arith, l.invariant.until, c.loop-test.false)) (l.invariant.laid_so s)))
+    all-given s a.out-1.now (omega (arith, l.invariant.until, c.loop-done-test.false)) (l.invariant.laid_so s)))

@@ -19,17 +19,17 @@ record Going (count outputs : ℕ) (low high : List ℕ) (at : ℕ) (out₀ out 
   size : length out ≡ length out₀
   laid_so : (g : Group count outputs at low high (length out₀)) → out ≡ laid out₀ at (given g.values r)
 
-abbrev invariant-loop : tie.invariant-loop
+abbrev invariant-loop : tie.invariant-loop-r
 invariant-loop count outputs low high at out₀ place₀ r₀ out place r = Going count outputs low high at out₀ out place r
 
-abbrev decreases-loop : tie.decreases-loop
+abbrev decreases-loop : tie.decreases-loop-r
 decreases-loop count outputs low high at out₀ place₀ r₀ out place r = count - r
 
 -- Where the function began, from a turn of its loop.
-abbrev start : tie.At-loop invariant-loop decreases-loop → tie.Start invariant-loop decreases-loop
+abbrev start : tie.At-loop-r invariant-loop decreases-loop → tie.Start invariant-loop decreases-loop
 start c = c.before.before.before.before
 
-loop-holds : tie.Need-loop-init invariant-loop decreases-loop
+loop-holds : tie.Need-loop-r-init invariant-loop decreases-loop
 unfolding joined
 loop-holds c =
     let a = c.before.before.before.args in
@@ -37,57 +37,57 @@ loop-holds c =
       until = omega arith;
       here = omega (arith, zero-mul a.outputs);
       size = refl;
-      laid_so = λ g. sym (laid-nothing a.out.now a.at);
+      laid_so = λ g. sym (laid-nothing a.out-1.now a.at);
     }
 
 -- The row's part is one of the buffer.
-inside : (c : tie.In-loop invariant-loop decreases-loop) → let l = c.before.loop in l.place + (start c.before).args.outputs ≤ length l.out
+inside : (c : tie.In-loop-r invariant-loop decreases-loop) → let l = c.before.loop-r in l.place + (start c.before).args.outputs ≤ length l.out-1
 inside c =
-    let l = c.before.loop in
-    omega (arith, row_room (start c.before).pre l.r c.loop-test.true, l.invariant.here, l.invariant.size)
+    let l = c.before.loop-r in
+    omega (arith, row_room (start c.before).requires l.r c.loop-r-test.true, l.invariant.here, l.invariant.size)
 
-long : (c : tie.In-loop invariant-loop decreases-loop)
-    → let l = c.before.loop in
+long : (c : tie.In-loop-r invariant-loop decreases-loop)
+    → let l = c.before.loop-r in
     let outputs = (start c.before).args.outputs in
-    length (mid_of l.place (l.place + outputs - l.place) l.out) ≡ outputs
+    length (mid_of l.place (l.place + outputs - l.place) l.out-1) ≡ outputs
 long c =
-    let l = c.before.loop in
+    let l = c.before.loop-r in
     let outputs = (start c.before).args.outputs in
-    mid_len l.place (l.place + outputs) l.out (inside c) ∙ omega arith
+    mid_len l.place (l.place + outputs) l.out-1 (inside c) ∙ omega arith
 
-give-row-requires : tie.Need-give-row-requires invariant-loop decreases-loop
+give-row-requires : tie.Need-give_row-requires invariant-loop decreases-loop
 give-row-requires c κs =
     let turn = c.before in
-    let g = (start turn.before).pre in
-    (omega (arith, turn.loop-test.true, g.few), row-given g turn.before.loop.r turn.loop-test.true (long turn))
+    let g = (start turn.before).requires in
+    (omega (arith, turn.loop-r-test.true, g.few), row-given g turn.before.loop-r.r turn.loop-r-test.true (long turn))
 
-loop-again : tie.Need-loop-preserved invariant-loop decreases-loop
+loop-again : tie.Need-loop-r-preserved invariant-loop decreases-loop
 loop-again c =
     let gave = c.before.before in
     let turn = gave.before.before in
-    let l = turn.before.loop in
+    let l = turn.before.loop-r in
     let a = (start turn.before).args in
-    let taken = turn.loop-test.true in
+    let taken = turn.loop-r-test.true in
     record {
       until = omega (arith, taken);
       here = omega (arith, l.invariant.here, ap (λ (n : ℕ). n * a.outputs) (add-one l.r), suc-mul l.r a.outputs);
       size =
-          same_len_mid l.place (l.place + a.outputs - l.place) l.out gave.give-row.new.1.1.1.0 gave.give-row.auto.1.1.1.0
+          same_len_mid l.place (l.place + a.outputs - l.place) l.out-1 gave.give_row.new.1.1.1.0 gave.give_row.auto.1.1.1.0
           ∙ l.invariant.size;
       laid_so = λ g.
-          row_more g a.out.now refl (l.invariant.laid_so g) l.invariant.here refl taken
-          (gave.give-row.ensures (row-given g l.r taken (long turn)));
+          row_more g a.out-1.now refl (l.invariant.laid_so g) l.invariant.here refl taken
+          (gave.give_row.ensures (row-given g l.r taken (long turn)));
     }
 
-pub give-group-spec : {M : Type 1} → statement M
-give-group-spec =
+pub give_group_spec : {M : Type 1} → statement M
+give_group_spec =
     tie.close
     (tie.spec
     invariant-loop
     decreases-loop
     loop-holds
     (λ c. omega (arith, inside c, (start c.before).good))
-    (λ c. omega (arith, c.loop-test.true, (start c.before).pre.few))
+    (λ c. omega (arith, c.loop-r-test.true, (start c.before).requires.few))
     (λ c. omega arith)
     (λ c. omega arith)
     inside
@@ -95,8 +95,8 @@ give-group-spec =
     (λ c. omega arith)
     (λ c. omega arith)
     loop-again
-    (λ c. c.before.loop.invariant.size)
+    (λ c. c.before.loop-r.invariant.size)
     (λ c g.
-    let l = c.before.loop in
-    let all : l.r ≡ (start c.before).args.count = omega (arith, l.invariant.until, c.loop-test.false) in
-    l.invariant.laid_so g ∙ ap (λ (n : ℕ). laid (start c.before).args.out.now (start c.before).args.at (given g.values n)) all))
+    let l = c.before.loop-r in
+    let all : l.r ≡ (start c.before).args.count = omega (arith, l.invariant.until, c.loop-r-test.false) in
+    l.invariant.laid_so g ∙ ap (λ (n : ℕ). laid (start c.before).args.out-1.now (start c.before).args.at (given g.values n)) all))

@@ -12,7 +12,7 @@ use Rattle.run_rows.proofs.outputs.give_some.Tie as tie
 abbrev start : tie.After-fetch → tie.Start
 start c = c.before.before.before.before.before
 
-abbrev fetched : tie.After-give-group-arg → tie.After-fetch
+abbrev fetched : tie.After-give_group-arg-1 → tie.After-fetch
 fetched c = let lent = c.before.before.before in lent.before.before
 
 fetch-requires : tie.Need-fetch-requires
@@ -27,10 +27,10 @@ fetch-requires c κs =
       high-long = omega (arith, g.narrow, all);
     }
 
-give-group-requires : tie.Need-give-group-requires
+give-group-requires : tie.Need-give_group-requires
 give-group-requires c κs =
     let f = fetched c in
-    let g = (start f).pre in
+    let g = (start f).requires in
     let all = length-replicate {A = ℕ} 192 0 in
     shown-group g f.fetch.ensures.0 f.fetch.ensures.1 (omega (arith, g.narrow, all)) (omega (arith, g.narrow, all)) refl
 
@@ -39,11 +39,11 @@ returns c g =
     let gave = c.before.before in
     let f = fetched gave.before in
     let all = length-replicate {A = ℕ} 192 0 in
-    gave.give-group.ensures
+    gave.give_group.ensures
     (shown-group g f.fetch.ensures.0 f.fetch.ensures.1 (omega (arith, g.narrow, all)) (omega (arith, g.narrow, all)) refl)
 
-pub give-some-spec : {M : Type 1} → statement M
-give-some-spec =
+pub give_some_spec : {M : Type 1} → statement M
+give_some_spec =
     tie.close
     (tie.spec
     (λ c. search rules)
@@ -53,5 +53,5 @@ give-some-spec =
     (λ c. let f = c.before.before.before in sym f.fetch.auto.1.1.1.1.1.1.0)
     (λ c. let f = c.before.before.before.before in sym f.fetch.auto.1.1.1.1.1.1.1.0)
     give-group-requires
-    (λ c. c.before.before.give-group.auto.1.1.1.1.1.0)
+    (λ c. c.before.before.give_group.auto.1.1.1.1.1.0)
     returns)

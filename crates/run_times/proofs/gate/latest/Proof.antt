@@ -14,20 +14,20 @@ use Rattle.run_times.proofs.gate.latest.Tie as tie
 abbrev Left : (image : List ℕ) (from to : ℕ) (times : List ℕ) (i most : ℕ) → Type 0
 Left image from to times i most = Going 0 image from to times i (λ xs. max most (largest xs)) largest
 
-abbrev invariant-loop : tie.invariant-loop
+abbrev invariant-loop : tie.invariant-loop-i
 invariant-loop image from to units others unit₀ family₀ i₀ unit family i = Left image from to units i unit × Left image from to others i family
 
-abbrev decreases-loop : tie.decreases-loop
+abbrev decreases-loop : tie.decreases-loop-i
 decreases-loop image from to units others unit₀ family₀ i₀ unit family i = to - i
 
 -- Where the function began, from a turn of its loop; and the turn, from where its slot is read.
-abbrev start : tie.At-loop invariant-loop decreases-loop → tie.Start invariant-loop decreases-loop
+abbrev start : tie.At-loop-i invariant-loop decreases-loop → tie.Start invariant-loop decreases-loop
 start c = c.before.before.before.before
 
-abbrev turn : tie.After-entry invariant-loop decreases-loop → tie.At-loop invariant-loop decreases-loop
+abbrev turn : tie.After-entry-slot invariant-loop decreases-loop → tie.At-loop-i invariant-loop decreases-loop
 turn c = c.before.before
 
-loop-holds : tie.Need-loop-init invariant-loop decreases-loop
+loop-holds : tie.Need-loop-i-init invariant-loop decreases-loop
 loop-holds c =
     let from = c.before.before.before in
     let a = from.args in (
@@ -36,11 +36,11 @@ loop-holds c =
     )
 
 -- The slot that was read is one of both lists.
-slot-in-units : (c : tie.After-entry invariant-loop decreases-loop) → c.entry.result < length (start (turn c)).args.units.now
-slot-in-units c = going-slot (turn c).loop.invariant.0 (start (turn c)).pre.0 c.before.loop-test.true c.entry.ensures
+slot-in-units : (c : tie.After-entry-slot invariant-loop decreases-loop) → c.entry-slot.result < length (start (turn c)).args.units.now
+slot-in-units c = going-slot (turn c).loop-i.invariant.0 (start (turn c)).requires.0 c.before.loop-i-test.true c.entry-slot.ensures
 
-slot-in-others : (c : tie.After-entry invariant-loop decreases-loop) → c.entry.result < length (start (turn c)).args.others.now
-slot-in-others c = going-slot (turn c).loop.invariant.1 (start (turn c)).pre.1 c.before.loop-test.true c.entry.ensures
+slot-in-others : (c : tie.After-entry-slot invariant-loop decreases-loop) → c.entry-slot.result < length (start (turn c)).args.others.now
+slot-in-others c = going-slot (turn c).loop-i.invariant.1 (start (turn c)).requires.1 c.before.loop-i-test.true c.entry-slot.ensures
 
 -- The larger of the latest so far and of what stands at the slot.
 later :
@@ -52,38 +52,38 @@ later :
 unfolding largest
 later times most is same xs = omega (arith, is, ap (λ (slot : ℕ). get_or times slot 0) same)
 
-loop-again : tie.Need-loop-preserved invariant-loop decreases-loop
+loop-again : tie.Need-loop-i-preserved invariant-loop decreases-loop
 loop-again c =
     let first = c.before.before in
     let read = first.before.before in
     let from = start (turn read) in
-    let inv = (turn read).loop.invariant in
-    let taken = read.before.loop-test.true in (
-      going_more inv.0 taken from.pre.0.inside (later from.args.units.now _ first.larger.ensures read.entry.ensures),
-      going_more inv.1 taken from.pre.1.inside (later from.args.others.now _ c.larger2.ensures read.entry.ensures),
+    let inv = (turn read).loop-i.invariant in
+    let taken = read.before.loop-i-test.true in (
+      going_more inv.0 taken from.requires.0.inside (later from.args.units.now _ first.larger-unit.ensures read.entry-slot.ensures),
+      going_more inv.1 taken from.requires.1.inside (later from.args.others.now _ c.larger-family.ensures read.entry-slot.ensures),
     )
 
 returns : tie.Need-returns invariant-loop decreases-loop
 unfolding largest
 returns c =
-    let l = c.before.loop in
-    (omega (arith, going-all l.invariant.0 c.loop-test.false), omega (arith, going-all l.invariant.1 c.loop-test.false))
+    let l = c.before.loop-i in
+    (omega (arith, going-all l.invariant.0 c.loop-i-test.false), omega (arith, going-all l.invariant.1 c.loop-i-test.false))
 
-pub latest-spec : {M : Type 1} → statement M
-latest-spec =
+pub latest_spec : {M : Type 1} → statement M
+latest_spec =
     tie.close
     (tie.spec
     invariant-loop
     decreases-loop
     loop-holds
-    (λ c κs. omega (arith, (start c.before).pre.0.inside))
+    (λ c κs. omega (arith, (start c.before).requires.0.inside))
     (λ c. let h = slot-in-units c in omega arith)
     (λ c. slot-in-units c.before)
     (λ c κs. tt)
     (λ c. let h = slot-in-others c.before.before in omega arith)
     (λ c. let first = c.before.before in slot-in-others first.before)
     (λ c κs. tt)
-    (λ c. let first = c.before.before in omega (arith, first.before.before.before.loop-test.true))
-    (λ c. let first = c.before.before in omega (arith, first.before.before.before.loop-test.true))
+    (λ c. let first = c.before.before in omega (arith, first.before.before.before.loop-i-test.true))
+    (λ c. let first = c.before.before in omega (arith, first.before.before.before.loop-i-test.true))
     loop-again
     returns)

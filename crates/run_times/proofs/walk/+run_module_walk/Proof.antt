@@ -42,90 +42,90 @@ module _ (t : ℕ) where
 
 -- `walk`, whose measure is t.
 module _ (t : ℕ) where
-  add_at : walk-lts.Need-overflow-add-at (walk-claims t) (walk_at t) walk.Post Inv-loop μ-loop
+  add_at : walk-lts.Need-overflow_add-at (walk-claims t) (walk_at t) walk.Post Inv-loop μ-loop
   add_at c =
       let known = c.before.before.before in
       let from = known.before.before.before.before in
       omega (arith, from.requires.1.0.header.body.within, from.well-formed)
 
-  add-filled : walk-lts.Need-overflow-add-filled (walk-claims t) (walk_at t) walk.Post Inv-loop μ-loop
+  add-filled : walk-lts.Need-overflow_add-filled (walk-claims t) (walk_at t) walk.Post Inv-loop μ-loop
   add-filled c =
       let now = units-own t c.before in
       omega (arith, now.turn.fits, turns.enough now, now.progress.size, (start t c.before.before.before).good)
 
   -- The slot that a gate fills is one of either list.
   in-units :
-      (c : walk-lts.After-at-gate (walk-claims t) (walk_at t) walk.Post Inv-loop μ-loop)
-      → let l = (gate-read t c.before.before.before).before.before.loop in
-      l.filled < length l.units
+      (c : walk-lts.After-at_gate-times (walk-claims t) (walk_at t) walk.Post Inv-loop μ-loop)
+      → let l = (gate-read t c.before.before.before).before.before.loop-left in
+      l.filled < length l.units-1
   in-units c = let gate = c.before.before.before in turns.gate-room (units-own t (gate-read t gate)) (gate-kind t gate)
 
   in-others :
-      (c : walk-lts.After-at-gate (walk-claims t) (walk_at t) walk.Post Inv-loop μ-loop)
-      → let l = (gate-read t c.before.before.before).before.before.loop in
-      l.filled < length l.others
+      (c : walk-lts.After-at_gate-times (walk-claims t) (walk_at t) walk.Post Inv-loop μ-loop)
+      → let l = (gate-read t c.before.before.before).before.before.loop-left in
+      l.filled < length l.others-1
   in-others c = let gate = c.before.before.before in turns.gate-room (others-own t (gate-read t gate)) (gate-kind t gate)
 
-  mul-units : walk-lts.Need-overflow-mul-units (walk-claims t) (walk_at t) walk.Post Inv-loop μ-loop
+  mul-units : walk-lts.Need-offset_bounds-units-here (walk-claims t) (walk_at t) walk.Post Inv-loop μ-loop
   mul-units c =
       let read = gate-read t c.before.before.before in
       omega (arith, in-units c, (units-own t read).progress.size, (start t read.before.before).good)
 
-  mul-others : walk-lts.Need-overflow-mul-others (walk-claims t) (walk_at t) walk.Post Inv-loop μ-loop
+  mul-others : walk-lts.Need-offset_bounds-others-here (walk-claims t) (walk_at t) walk.Post Inv-loop μ-loop
   mul-others c =
       let read = gate-read t c.before.before.before in
       omega (arith, in-others c, (others-own t read).progress.size, (start t read.before.before).good)
 
-  loop-again : walk-lts.Need-loop-preserved (walk-claims t) (walk_at t) walk.Post Inv-loop μ-loop
+  loop-again : walk-lts.Need-loop-left-preserved-in-Gate (walk-claims t) (walk_at t) walk.Post Inv-loop μ-loop
   loop-again c =
       let gate = c.before.before.before in
       let read = gate-read t gate in
-      let inv = read.before.before.loop.inv in (
-        λ s ahead. turns.turn-gate (here t read inv.0 s ahead) (gate-kind t gate) c.at-gate.ensures.0,
-        λ s ahead. turns.turn-gate (here t read inv.1 s ahead) (gate-kind t gate) c.at-gate.ensures.1,
+      let inv = read.before.before.loop-left.inv in (
+        λ s ahead. turns.turn-gate (here t read inv.0 s ahead) (gate-kind t gate) c.at_gate-times.ensures.0,
+        λ s ahead. turns.turn-gate (here t read inv.1 s ahead) (gate-kind t gate) c.at_gate-times.ensures.1,
       )
 
   -- At a module, once its arguments are passed: its parts of the lists begin within them.
-  lent-units : walk-lts.Need-overflow-sub-run-module (walk-claims t) (walk_at t) walk.Post Inv-loop μ-loop
+  lent-units : walk-lts.Need-slice_bounds-run_module-count (walk-claims t) (walk_at t) walk.Post Inv-loop μ-loop
   lent-units c =
       let passed = passed-one t c.before.before in
       let told = passed-from t passed in
       modules.lent-inside (units-own t (module-read t told)) (module-kind t told) passed.copy.ensures
 
-  lent-others : walk-lts.Need-overflow-sub-run-module-2 (walk-claims t) (walk_at t) walk.Post Inv-loop μ-loop
+  lent-others : walk-lts.Need-slice_bounds-run_module-count-then-o-gt0 (walk-claims t) (walk_at t) walk.Post Inv-loop μ-loop
   lent-others c =
       let passed = c.before.before.before in
       let told = passed-from t (passed-one t passed) in
-      modules.lent-inside (others-own t (module-read t told)) (module-kind t told) passed.copy2.ensures
+      modules.lent-inside (others-own t (module-read t told)) (module-kind t told) passed.copy-then-o-gt0.ensures
 
-  mul-lent-units : walk-lts.Need-overflow-mul-run-module (walk-claims t) (walk_at t) walk.Post Inv-loop μ-loop
+  mul-lent-units : walk-lts.Need-offset_bounds-units-frame (walk-claims t) (walk_at t) walk.Post Inv-loop μ-loop
   mul-lent-units c =
       let read = module-read t (passed-from t (passed-one t c.before.before)) in
       let from = start t read.before.before in
       let now = units-own t read in
-      omega (arith, frame_is from.pre.1.0.runnable.scene, turns.enough now, now.progress.size, from.good)
+      omega (arith, frame_is from.requires.1.0.runnable.scene, turns.enough now, now.progress.size, from.good)
 
-  mul-lent-others : walk-lts.Need-overflow-mul-run-module-2 (walk-claims t) (walk_at t) walk.Post Inv-loop μ-loop
+  mul-lent-others : walk-lts.Need-offset_bounds-others-frame (walk-claims t) (walk_at t) walk.Post Inv-loop μ-loop
   mul-lent-others c =
       let read = module-read t (passed-from t (passed-one t c.before.before.before)) in
       let from = start t read.before.before in
       let now = others-own t read in
-      omega (arith, frame_is from.pre.1.1.runnable.scene, turns.enough now, now.progress.size, from.good)
+      omega (arith, frame_is from.requires.1.1.runnable.scene, turns.enough now, now.progress.size, from.good)
 
-  run-module-requires : walk-lts.Need-run-module-requires (walk-claims t) (walk_at t) walk.Post Inv-loop μ-loop
+  run-module-requires : walk-lts.Need-run_module-requires (walk-claims t) (walk_at t) walk.Post Inv-loop μ-loop
   run-module-requires c κs =
       let both = c.before.before.before.before in
       let one = passed-one t both in
       let told = passed-from t one in
       let read = module-read t told in (
-        omega (arith, modules.falls (units-own t read) (module-kind t told), (start t read.before.before).pre.0),
+        omega (arith, modules.falls (units-own t read) (module-kind t told), (start t read.before.before).requires.0),
         (
           modules.calls (units-own t read) (module-kind t told) one.copy.ensures,
-          modules.calls (others-own t read) (module-kind t told) both.copy2.ensures,
+          modules.calls (others-own t read) (module-kind t told) both.copy-then-o-gt0.ensures,
         ),
       )
 
-  copy-requires-3 : walk-lts.Need-copy-requires-3 (walk-claims t) (walk_at t) walk.Post Inv-loop μ-loop
+  copy-requires-3 : walk-lts.Need-copy-requires-then-o-gt0-2 (walk-claims t) (walk_at t) walk.Post Inv-loop μ-loop
   copy-requires-3 c κs =
       let lent = c.before.before in
       let ran = lent.before.before.before in
@@ -133,11 +133,11 @@ module _ (t : ℕ) where
       let told = passed-from t one in
       let now = units-own t (module-read t told) in
       let kind = module-kind t told in
-      modules.fetches now kind one.copy.ensures ran.run-module.new.1.1.1.1.1.0
-      ran.run-module.auto.1.1.1.1.1.0
+      modules.fetches now kind one.copy.ensures ran.run_module.new.1.1.1.1.1.0
+      ran.run_module.auto.1.1.1.1.1.0
       (one.before.before.module-at.ensures (modules.sub now kind).m (module_stands (modules.sub now kind)))
 
-  copy-requires-4 : walk-lts.Need-copy-requires-4 (walk-claims t) (walk_at t) walk.Post Inv-loop μ-loop
+  copy-requires-4 : walk-lts.Need-copy-requires-then-o-gt0-3 (walk-claims t) (walk_at t) walk.Post Inv-loop μ-loop
   copy-requires-4 c κs =
       let ran = ran-before t c.before.before.before in
       let both = passed-both t ran in
@@ -145,11 +145,11 @@ module _ (t : ℕ) where
       let told = passed-from t one in
       let now = others-own t (module-read t told) in
       let kind = module-kind t told in
-      modules.fetches now kind both.copy2.ensures ran.run-module.last.1.1.1.1.1.1.0
-      ran.run-module.kept.1.1.1.1.1.1.0
+      modules.fetches now kind both.copy-then-o-gt0.ensures ran.run_module.last.1.1.1.1.1.1.0
+      ran.run_module.kept.1.1.1.1.1.1.0
       (one.before.before.module-at.ensures (modules.sub now kind).m (module_stands (modules.sub now kind)))
 
-  loop-again-2 : walk-lts.Need-loop-preserved-2 (walk-claims t) (walk_at t) walk.Post Inv-loop μ-loop
+  loop-again-2 : walk-lts.Need-loop-left-preserved-then-o-gt0 (walk-claims t) (walk_at t) walk.Post Inv-loop μ-loop
   loop-again-2 c =
       let fetched = c.before.before in
       let ran = ran-before t (fetched_one t fetched) in
@@ -158,33 +158,33 @@ module _ (t : ℕ) where
       let told = passed-from t one in
       let read = module-read t told in
       let kind = module-kind t told in
-      let inv = read.before.before.loop.inv in (
+      let inv = read.before.before.loop-left.inv in (
         λ s ahead.
             let now = here t read inv.0 s ahead in
-            modules.turn_module now kind one.copy.ensures ran.run-module.last.1.1.1.1.1.0
-            ran.run-module.kept.1.1.1.1.1.0
+            modules.turn_module now kind one.copy.ensures ran.run_module.last.1.1.1.1.1.0
+            ran.run_module.kept.1.1.1.1.1.0
             (one.before.before.module-at.ensures (modules.sub now kind).m (module_stands (modules.sub now kind)))
-            (ran.run-module.ensures.0 (modules.calls now kind one.copy.ensures))
-            (fetched_one t fetched).copy3.ensures,
+            (ran.run_module.ensures.0 (modules.calls now kind one.copy.ensures))
+            (fetched_one t fetched).copy-then-o-gt0-2.ensures,
         λ s ahead.
             let now = here t read inv.1 s ahead in
-            modules.turn_module now kind both.copy2.ensures ran.run-module.last.1.1.1.1.1.1.0
-            ran.run-module.kept.1.1.1.1.1.1.0
+            modules.turn_module now kind both.copy-then-o-gt0.ensures ran.run_module.last.1.1.1.1.1.1.0
+            ran.run_module.kept.1.1.1.1.1.1.0
             (one.before.before.module-at.ensures (modules.sub now kind).m (module_stands (modules.sub now kind)))
-            (ran.run-module.ensures.1 (modules.calls now kind both.copy2.ensures))
-            fetched.copy4.ensures,
+            (ran.run_module.ensures.1 (modules.calls now kind both.copy-then-o-gt0.ensures))
+            fetched.copy-then-o-gt0-3.ensures,
       )
 
-  loop-again-3 : walk-lts.Need-loop-preserved-3 (walk-claims t) (walk_at t) walk.Post Inv-loop μ-loop
+  loop-again-3 : walk-lts.Need-loop-left-preserved (walk-claims t) (walk_at t) walk.Post Inv-loop μ-loop
   loop-again-3 c =
       let read = module-read t c.before.before in
-      let inv = read.before.before.loop.inv in (
-        λ s ahead. turns.turn-idle (here t read inv.0 s ahead) (omega (arith, c.if1.false)),
-        λ s ahead. turns.turn-idle (here t read inv.1 s ahead) (omega (arith, c.if1.false)),
+      let inv = read.before.before.loop-left.inv in (
+        λ s ahead. turns.turn-idle (here t read inv.0 s ahead) (omega (arith, c.if-o-gt0.false)),
+        λ s ahead. turns.turn-idle (here t read inv.1 s ahead) (omega (arith, c.if-o-gt0.false)),
       )
 
-pub +run-module-walk-spec : {M : Type 1} → statement M
-+run-module-walk-spec =
+pub +run_module_walk_spec : {M : Type 1} → statement M
++run_module_walk_spec =
     close μ-run-module μ-walk
     (λ t.
     run-module-lts.spec (run-module-claims t) (run-module-at t) run-module.Post
@@ -194,7 +194,7 @@ pub +run-module-walk-spec : {M : Type 1} → statement M
     (λ c κs.
     let header = c.before.before in
     let from = began t header in
-    (omega (arith, from.pre.0), (walkable t header from.pre.1.0, walkable t header from.pre.1.1)))
+    (omega (arith, from.requires.0), (walkable t header from.requires.1.0, walkable t header from.requires.1.1)))
     (λ c. c.before.before.before.before.walk.auto.1.1.1.1.1.1.0)
     (λ c. c.before.before.before.before.walk.auto.1.1.1.1.1.1.1.0)
     (λ c.
@@ -209,10 +209,10 @@ pub +run-module-walk-spec : {M : Type 1} → statement M
     (λ c.
     let known = c.before.before.before in
     let a = known.before.before.before.before.args in
-    (walking_begins (times_work one_each) a.units.now, walking_begins (times_work (delay_in a.family.delays)) a.others.now))
+    (walking_begins (times_work one_each) a.units-1.now, walking_begins (times_work (delay_in a.family.delays)) a.others-1.now))
     (λ c κs.
     let l = c.before in
-    occurrence-there (omega (arith, c.loop-test.true)) (come l.loop.invariant.0 (start t l).requires.1.0).ahead)
+    occurrence-there (omega (arith, c.loop-left-test.true)) (come l.loop-left.invariant.0 (start t l).requires.1.0).ahead)
     (λ c. omega arith)
     (add-filled t)
     (λ c κs. search rules)
@@ -224,7 +224,7 @@ pub +run-module-walk-spec : {M : Type 1} → statement M
     (in-units t)
     (mul-others t)
     (in-others t)
-    (λ c. omega (arith, (gate-read t c.before.before.before).before.loop-test.taken))
+    (λ c. omega (arith, (gate-read t c.before.before.before).before.loop-left-test.taken))
     (loop-again t)
     (λ c. search rules)
     (λ c. search rules)
@@ -250,14 +250,14 @@ pub +run-module-walk-spec : {M : Type 1} → statement M
     (copy-requires-4 t)
     (λ c.
     let ran = ran-before t (fetched_one t c.before.before) in
-    omega (arith, (module-read t (passed-from t (passed-one t (passed-both t ran)))).before.loop-test.taken))
+    omega (arith, (module-read t (passed-from t (passed-one t (passed-both t ran)))).before.loop-left-test.taken))
     (loop-again-2 t)
-    (λ c. omega (arith, (module-read t c.before.before).before.loop-test.taken))
+    (λ c. omega (arith, (module-read t c.before.before).before.loop-left-test.taken))
     (loop-again-3 t)
-    (λ c. let l = c.before in (come l.loop.invariant.0 (start t l).requires.1.0).size)
-    (λ c. let l = c.before in (come l.loop.invariant.1 (start t l).requires.1.1).size)
+    (λ c. let l = c.before in (come l.loop-left.invariant.0 (start t l).requires.1.0).size)
+    (λ c. let l = c.before in (come l.loop-left.invariant.1 (start t l).requires.1.1).size)
     (λ c.
-    let inv = c.before.loop.invariant in (
-      λ s. finish (come inv.0 s) c.loop-test.false,
-      λ s. finish (come inv.1 s) c.loop-test.false,
+    let inv = c.before.loop-left.invariant in (
+      λ s. finish (come inv.0 s) c.loop-left-test.false,
+      λ s. finish (come inv.1 s) c.loop-left-test.false,
     )))

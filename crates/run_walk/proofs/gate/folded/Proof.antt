@@ -15,48 +15,48 @@ use Rattle.run_walk.proofs.Reading.{Going, going_start, going-slot, going_more, 
 use Rattle.run_walk.proofs.gate.folded.Statement.{statement}
 use Rattle.run_walk.proofs.gate.folded.Tie as tie
 
-abbrev invariant-loop : tie.invariant-loop
+abbrev invariant-loop : tie.invariant-loop-i
 invariant-loop fold image from to scratch v₀ i₀ v i =
     (v ≤ 2) × Going 0 image from to scratch i (λ xs. fold_on fold (value v) (map value xs)) (λ xs. folded fold (map value xs))
 
-abbrev decreases-loop : tie.decreases-loop
+abbrev decreases-loop : tie.decreases-loop-i
 decreases-loop fold image from to scratch v₀ i₀ v i = to - i
 
 -- Where the function began, from where both ends are compared.
-abbrev began : tie.After-shared-slice-known2 invariant-loop decreases-loop → tie.Start invariant-loop decreases-loop
+abbrev began : tie.After-shared_slice_known-2-1 invariant-loop decreases-loop → tie.Start invariant-loop decreases-loop
 began c = c.before.before
 
 -- No arguments.
-returns : tie.Need-returns invariant-loop decreases-loop
+returns : tie.Need-returns-then-to-from invariant-loop decreases-loop
 unfolding folded
 returns c =
     let start = began c.before.before in
     let given = start.args in
-    let none : given.from ≡ given.to = omega (arith, start.pre.ordered, c.before.if1.true) in
+    let none : given.from ≡ given.to = omega (arith, start.requires.ordered, c.before.if-to-from.true) in
     c.start.ensures
     ∙ ap (λ (xs : List ℕ). code (folded given.fold (map value xs)))
     (sym (values-end 0 given.image.now given.from given.to 0 given.scratch.now none))
 
 entry-requires : tie.Need-entry-requires invariant-loop decreases-loop
-entry-requires c κs = omega (arith, (began c.before).pre.inside)
+entry-requires c κs = omega (arith, (began c.before).requires.inside)
 
 -- The first slot is one of the scratch.
 first-inside : (c : tie.After-entry invariant-loop decreases-loop) → c.entry.result < length (began c.before.before).args.scratch.now
 first-inside c =
     let start = began c.before.before in
-    omega (arith, start.pre.slots start.args.from (omega arith) (omega (arith, c.before.if1.false)), c.entry.ensures)
+    omega (arith, start.requires.slots start.args.from (omega arith) (omega (arith, c.before.if-to-from.false)), c.entry.ensures)
 
-mul-coded : tie.Need-overflow-mul-coded invariant-loop decreases-loop
+mul-coded : tie.Need-offset_bounds-scratch-entry invariant-loop decreases-loop
 mul-coded c = let h = first-inside c in omega arith
 
-shared-slice-read-coded : tie.Need-shared-slice-read-coded invariant-loop decreases-loop
+shared-slice-read-coded : tie.Need-bounds-scratch-entry invariant-loop decreases-loop
 shared-slice-read-coded c = first-inside c.before
 
 -- Where the function began, from behind its first value.
-abbrev behind : tie.After-coded invariant-loop decreases-loop → tie.Else1 invariant-loop decreases-loop
+abbrev behind : tie.After-coded-v invariant-loop decreases-loop → tie.Else-to-from invariant-loop decreases-loop
 behind c = c.before.before.before
 
-loop-holds : tie.Need-loop-init invariant-loop decreases-loop
+loop-holds : tie.Need-loop-i-init invariant-loop decreases-loop
 unfolding folded
 loop-holds c =
     let some = behind c in
@@ -67,56 +67,56 @@ loop-holds c =
     let read = c.before.before.entry in
     let at : ℕ → Val = λ slot. value (get_or scratch slot 0) in
     let first = at read.result in (
-      is-small first c.coded.ensures,
+      is-small first c.coded-v.ensures,
       going_more
           (going_start 0 given.image.now given.from given.to scratch {rest = λ xs. fold_on fold (known (neutral fold)) (map value xs)}
-          start.pre.ordered (λ xs. refl)) (omega (arith, some.if1.left)) start.pre.inside
+          start.requires.ordered (λ xs. refl)) (omega (arith, some.if-to-from.left)) start.requires.inside
           (λ xs.
           ap (λ (u : Val). fold_on fold u (map value xs))
-          ((neutral-both fold _).0 ∙ sym (stands_for first c.coded.ensures ∙ ap at read.ensures))),
+          ((neutral-both fold _).0 ∙ sym (stands_for first c.coded-v.ensures ∙ ap at read.ensures))),
     )
 
 -- Where the function began, from a turn of its loop.
-abbrev start : tie.At-loop invariant-loop decreases-loop → tie.Start invariant-loop decreases-loop
+abbrev start : tie.At-loop-i invariant-loop decreases-loop → tie.Start invariant-loop decreases-loop
 start c = began (behind c.before).before
 
-entry-requires-2 : tie.Need-entry-requires-2 invariant-loop decreases-loop
-entry-requires-2 c κs = omega (arith, (start c.before).pre.inside)
+entry-requires-2 : tie.Need-entry-requires-in-loop-i invariant-loop decreases-loop
+entry-requires-2 c κs = omega (arith, (start c.before).requires.inside)
 
 -- The slot that was read is one of the scratch.
-slot-inside : (c : tie.After-entry2 invariant-loop decreases-loop) → c.entry2.result < length (start c.before.before).args.scratch.now
+slot-inside : (c : tie.After-entry-in-loop-i invariant-loop decreases-loop) → c.entry-in-loop-i.result < length (start c.before.before).args.scratch.now
 slot-inside c =
     let head = c.before.before in
-    going-slot head.loop.invariant.1 (start head).requires c.before.loop-test.true c.entry2.ensures
+    going-slot head.loop-i.invariant.1 (start head).requires c.before.loop-i-test.true c.entry-in-loop-i.ensures
 
-mul-step : tie.Need-overflow-mul-step invariant-loop decreases-loop
+mul-step : tie.Need-offset_bounds-scratch-entry-in-loop-i invariant-loop decreases-loop
 mul-step c = let h = slot-inside c in omega arith
 
-shared-slice-read-step : tie.Need-shared-slice-read-step invariant-loop decreases-loop
+shared-slice-read-step : tie.Need-bounds-scratch-entry-in-loop-i invariant-loop decreases-loop
 shared-slice-read-step c = slot-inside c.before
 
-loop-again : tie.Need-loop-preserved invariant-loop decreases-loop
+loop-again : tie.Need-loop-i-preserved invariant-loop decreases-loop
 loop-again c =
     let head = c.before.before.before.before in
     let fold = (start head).args.fold in
-    let so_far = value head.loop.v in
+    let so_far = value head.loop-i.v in
     let scratch = (start head).args.scratch.now in
-    let read = c.before.before.entry2 in
+    let read = c.before.before.entry-in-loop-i in
     let found = step fold so_far (value (get_or scratch read.result 0)) in (
-      is-small found c.step.ensures,
-      going_more head.loop.invariant.1 c.before.before.before.loop-test.true (start head).requires.inside
+      is-small found c.step-v.ensures,
+      going_more head.loop-i.invariant.1 c.before.before.before.loop-i-test.true (start head).requires.inside
           (λ xs.
           ap (λ (u : Val). fold_on fold u (map value xs))
-          (sym (stands_for found c.step.ensures ∙ ap (λ (slot : ℕ). step fold so_far (value (get_or scratch slot 0))) read.ensures))),
+          (sym (stands_for found c.step-v.ensures ∙ ap (λ (slot : ℕ). step fold so_far (value (get_or scratch slot 0))) read.ensures))),
     )
 
-returns-2 : tie.Need-returns-2 invariant-loop decreases-loop
+returns-2 : tie.Need-returns invariant-loop decreases-loop
 unfolding folded
 returns-2 c =
-    sym (code-of-value _ c.before.loop.invariant.0) ∙ ap code (going-all c.before.loop.invariant.1 c.loop-test.false)
+    sym (code-of-value _ c.before.loop-i.invariant.0) ∙ ap code (going-all c.before.loop-i.invariant.1 c.loop-i-test.false)
 
-pub folded-spec : {M : Type 1} → statement M
-folded-spec =
+pub folded_spec : {M : Type 1} → statement M
+folded_spec =
     tie.close
     (tie.spec
     invariant-loop

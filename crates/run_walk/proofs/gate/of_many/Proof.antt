@@ -16,9 +16,9 @@ found fold start =
     let given = start.args in
     folded fold (map value (values_at 0 given.image.now given.from given.to 0 given.scratch.now))
 
-pub of-many-spec : {M : Type 1} → statement M
+pub of_many_spec : {M : Type 1} → statement M
 unfolding result_of
-of-many-spec =
+of_many_spec =
     tie.close
     (tie.spec
     (λ c. search rules)
@@ -36,15 +36,15 @@ of-many-spec =
     (λ c. search rules)
     (λ c κs. search rules)
     (λ c κs. search rules)
-    (λ c. rw c.before.enum_told.given.1 c.folded.ensures)
+    (λ c. rw c.before.enum_told-1.given.1 c.folded.ensures)
     (λ c.
-    rw c.before.before.enum-told2.given.1
-    (let folded = c.before.before in negated (found All folded.before.before.before.before) c.before.folded2.ensures c.not.ensures))
-    (λ c. rw c.before.enum-told3.given.1 c.folded3.ensures)
+    rw c.before.before.enum_told-in-Nand-1.given.1
+    (let folded = c.before.before in negated (found All folded.before.before.before.before) c.before.folded-in-Nand.ensures c.not.ensures))
+    (λ c. rw c.before.enum_told-in-Or-1.given.1 c.folded-in-Or.ensures)
     (λ c.
-    rw c.before.before.enum-told4.given.1
-    (let folded = c.before.before in negated (found Any folded.before.before.before.before) c.before.folded4.ensures c.not2.ensures))
-    (λ c. rw c.before.enum-told5.given.1 c.folded5.ensures)
+    rw c.before.before.enum_told-in-Nor-1.given.1
+    (let folded = c.before.before in negated (found Any folded.before.before.before.before) c.before.folded-in-Nor.ensures c.not-in-Nor.ensures))
+    (λ c. rw c.before.enum_told-in-Xor-1.given.1 c.folded-in-Xor.ensures)
     (λ c.
-    rw c.before.before.enum-told6.given.1
-    (let folded = c.before.before in negated (found Odd folded.before.before.before.before) c.before.folded6.ensures c.not3.ensures)))
+    rw c.before.before.enum_told-in-Eqv-1.given.1
+    (let folded = c.before.before in negated (found Odd folded.before.before.before.before) c.before.folded-in-Eqv.ensures c.not-in-Eqv.ensures)))

@@ -4,12 +4,12 @@ use borrow.Author.Rules.{rules}
 use Rattle.run_walk.proofs.gate.result.Statement.{statement}
 use Rattle.run_walk.proofs.gate.result.Tie as tie
 
-pub result-spec : {M : Type 1} → statement M
-result-spec =
+pub result_spec : {M : Type 1} → statement M
+result_spec =
     tie.close
     (tie.spec
     (λ c. omega (arith, c.before.before.requires.ordered))
-    (λ c κs. let start = c.before.before.before in (start.requires, omega (arith, start.requires.ordered, c.if1.true)))
+    (λ c κs. let start = c.before.before.before in (start.requires, omega (arith, start.requires.ordered, c.if-to-from-eq2.true)))
     (λ c. c.of_two.ensures)
     (λ c κs. search rules)
-    (λ c. c.of-many.ensures))
+    (λ c. c.of_many.ensures))

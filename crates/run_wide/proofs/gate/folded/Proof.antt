@@ -12,19 +12,19 @@ use Rattle.run_walk.proofs.Reading.{Going, going_start, going-slot, going_more, 
 use Rattle.run_wide.proofs.gate.folded.Statement.{statement}
 use Rattle.run_wide.proofs.gate.folded.Tie as tie
 
-abbrev invariant-loop : tie.invariant-loop
+abbrev invariant-loop : tie.invariant-loop-i
 invariant-loop fold image from to scratch v₀ i₀ v i = Going [] image from to scratch i (rows_on fold v) (rows_fold fold)
 
-abbrev decreases-loop : tie.decreases-loop
+abbrev decreases-loop : tie.decreases-loop-i
 decreases-loop fold image from to scratch v₀ i₀ v i = to - i
 
-loop-holds : tie.Need-loop-init invariant-loop decreases-loop
+loop-holds : tie.Need-loop-i-init invariant-loop decreases-loop
 unfolding rows_fold
 loop-holds c =
     let start = c.before.before in
     let given = start.args in
     going_start [] given.image.now given.from given.to given.scratch.now start.requires.ordered
-    (λ xs. ap (λ (u : List ℕ). rows_on given.fold u xs) c.start.ensures)
+    (λ xs. ap (λ (u : List ℕ). rows_on given.fold u xs) c.start-v.ensures)
 
 entry-requires : tie.Need-entry-requires invariant-loop decreases-loop
 entry-requires c κs = omega (arith, c.before.before.before.before.requires.inside)
@@ -33,28 +33,28 @@ entry-requires c κs = omega (arith, c.before.before.before.before.requires.insi
 slot-inside : (c : tie.After-entry invariant-loop decreases-loop) → c.entry.result < length c.before.before.before.before.before.args.scratch.now
 slot-inside c =
     let head = c.before.before in
-    going-slot head.loop.invariant head.before.before.before.requires c.before.loop-test.true c.entry.ensures
+    going-slot head.loop-i.invariant head.before.before.before.requires c.before.loop-i-test.true c.entry.ensures
 
-mul-step : tie.Need-overflow-mul-step invariant-loop decreases-loop
+mul-step : tie.Need-offset_bounds-scratch-entry invariant-loop decreases-loop
 mul-step c = let h = slot-inside c in omega arith
 
-loop-again : tie.Need-loop-preserved invariant-loop decreases-loop
+loop-again : tie.Need-loop-i-preserved invariant-loop decreases-loop
 loop-again c =
     let head = c.before.before.before.before in
     let start = head.before.before.before in
     let fold = start.args.fold in
     let scratch = start.args.scratch.now in
     let read = c.before.before.entry in
-    going_more head.loop.invariant c.before.before.before.loop-test.true start.requires.inside
+    going_more head.loop-i.invariant c.before.before.before.loop-i-test.true start.requires.inside
     (λ xs.
     ap (λ (u : List ℕ). rows_on fold u xs)
-    (sym (c.step.ensures ∙ ap (λ (slot : ℕ). step_of fold head.loop.v (get_or scratch slot [])) read.ensures)))
+    (sym (c.step-next.ensures ∙ ap (λ (slot : ℕ). step_of fold head.loop-i.v (get_or scratch slot [])) read.ensures)))
 
 returns : tie.Need-returns invariant-loop decreases-loop
-returns c = going-all c.before.loop.invariant c.loop-test.false
+returns c = going-all c.before.loop-i.invariant c.loop-i-test.false
 
-pub folded-spec : {M : Type 1} → statement M
-folded-spec =
+pub folded_spec : {M : Type 1} → statement M
+folded_spec =
     tie.close
     (tie.spec
     invariant-loop

@@ -6,9 +6,9 @@ use Rattle.run_wide.specs.Wide.{rows_result}
 use Rattle.run_wide.proofs.gate.result.Statement.{statement}
 use Rattle.run_wide.proofs.gate.result.Tie as tie
 
-pub result-spec : {M : Type 1} → statement M
+pub result_spec : {M : Type 1} → statement M
 unfolding rows_result
-result-spec =
+result_spec =
     tie.close
     (tie.spec
     (λ c. search rules)
@@ -26,15 +26,15 @@ result-spec =
     (λ c. search rules)
     (λ c κs. search rules)
     (λ c κs. search rules)
-    (λ c. rw c.before.enum_told.given.1 c.folded.ensures)
+    (λ c. rw c.before.enum_told-1.given.1 c.folded.ensures)
     (λ c.
-    rw c.before.before.enum-told2.given.1
-    (c.not.ensures ∙ ap not_of c.before.folded2.ensures))
-    (λ c. rw c.before.enum-told3.given.1 c.folded3.ensures)
+    rw c.before.before.enum_told-in-Nand-1.given.1
+    (c.not.ensures ∙ ap not_of c.before.folded-in-Nand.ensures))
+    (λ c. rw c.before.enum_told-in-Or-1.given.1 c.folded-in-Or.ensures)
     (λ c.
-    rw c.before.before.enum-told4.given.1
-    (c.not2.ensures ∙ ap not_of c.before.folded4.ensures))
-    (λ c. rw c.before.enum-told5.given.1 c.folded5.ensures)
+    rw c.before.before.enum_told-in-Nor-1.given.1
+    (c.not-in-Nor.ensures ∙ ap not_of c.before.folded-in-Nor.ensures))
+    (λ c. rw c.before.enum_told-in-Xor-1.given.1 c.folded-in-Xor.ensures)
     (λ c.
-    rw c.before.before.enum-told6.given.1
-    (c.not3.ensures ∙ ap not_of c.before.folded6.ensures)))
+    rw c.before.before.enum_told-in-Eqv-1.given.1
+    (c.not-in-Eqv.ensures ∙ ap not_of c.before.folded-in-Eqv.ensures)))

@@ -7,18 +7,18 @@ use Rattle.image.specs.Gathering.{Gathering, gathering-start, Within, within, ga
 use Rattle.run_wide.proofs.slots.copy.Statement.{statement}
 use Rattle.run_wide.proofs.slots.copy.Tie as tie
 
-abbrev invariant-loop : tie.invariant-loop
+abbrev invariant-loop : tie.invariant-loop-i
 invariant-loop image from to source target scratch₀ i₀ scratch i = Gathering [] image from to source target scratch₀ i scratch
 
-abbrev decreases-loop : tie.decreases-loop
+abbrev decreases-loop : tie.decreases-loop-i
 decreases-loop image from to source target scratch₀ i₀ scratch i = to - i
 
 -- A turn, once its slot is read.
 abbrev start : tie.After-entry invariant-loop decreases-loop → tie.Start invariant-loop decreases-loop
 start c = c.before.before.before.before
 
-turn : (c : tie.After-entry invariant-loop decreases-loop) → Within [] (start c).requires c.before.before.loop.invariant c.entry.result
-turn c = within [] (start c).requires c.before.before.loop.invariant c.before.loop-test.true c.entry.ensures
+turn : (c : tie.After-entry invariant-loop decreases-loop) → Within [] (start c).requires c.before.before.loop-i.invariant c.entry.result
+turn c = within [] (start c).requires c.before.before.loop-i.invariant c.before.loop-i-test.true c.entry.ensures
 
 pub copy_spec : {M : Type 1} → statement M
 copy_spec =
@@ -37,6 +37,6 @@ copy_spec =
     (λ c. let h = turn c.before in omega arith)
     (λ c. omega arith)
     (λ c. omega arith)
-    (λ c. let read = c.before in gathering-more [] (start read).requires read.before.before.loop.invariant read.before.loop-test.true read.entry.ensures)
-    (λ c. c.before.loop.invariant.size)
-    (λ c. gathering-all [] c.before.before.before.requires c.before.loop.invariant c.loop-test.false))
+    (λ c. let read = c.before in gathering-more [] (start read).requires read.before.before.loop-i.invariant read.before.loop-i-test.true read.entry.ensures)
+    (λ c. c.before.loop-i.invariant.size)
+    (λ c. gathering-all [] c.before.before.before.requires c.before.loop-i.invariant c.loop-i-test.false))

@@ -33,19 +33,19 @@ module _ (t : ℕ) where
   abbrev walkable :
       (c : run-module-lts.After-module-at (run-module-claims t) (run-module-at t) run-module.Post)
       → let a = (began c).args in
-      (s : Runnable a.image.now a.starts.now a.nets.now a.k a.scratch.now)
-      → Walkable a.image.now a.starts.now a.nets.now a.k c.module-at.result a.scratch.now
+      (s : Runnable a.image.now a.starts.now a.nets.now a.k a.scratch-1.now)
+      → Walkable a.image.now a.starts.now a.nets.now a.k c.module-at.result a.scratch-1.now
   walkable c s = record { runnable = s; header = c.module-at.ensures s.scene.m (module_stands s.scene) }
 
 -- `walk`, whose measure is t.
 module _ (t : ℕ) where
-  add_at : walk-lts.Need-overflow-add-at (walk-claims t) (walk_at t) walk.Post Inv-loop μ-loop
+  add_at : walk-lts.Need-overflow_add-at (walk-claims t) (walk_at t) walk.Post Inv-loop μ-loop
   add_at c =
       let known = c.before.before.before in
       let from = known.before.before in
       omega (arith, from.requires.1.header.body.within, from.well-formed)
 
-  add-filled : walk-lts.Need-overflow-add-filled (walk-claims t) (walk_at t) walk.Post Inv-loop μ-loop
+  add-filled : walk-lts.Need-overflow_add-filled (walk-claims t) (walk_at t) walk.Post Inv-loop μ-loop
   add-filled c =
       let now = own t c.before in
       omega (arith, now.turn.fits, turns.enough now, now.progress.size, (start t c.before.before.before).good)
@@ -53,54 +53,54 @@ module _ (t : ℕ) where
   -- The slot that a gate fills is one of scratch.
   slot-there :
       (c : walk-lts.After-result (walk-claims t) (walk_at t) walk.Post Inv-loop μ-loop)
-      → let l = (gate-read t c.before.before.before).before.before.loop in
-      l.filled < length l.scratch
+      → let l = (gate-read t c.before.before.before).before.before.loop-left in
+      l.filled < length l.scratch-1
   slot-there c = let gate = c.before.before.before in turns.gate-room (own t (gate-read t gate)) (gate-kind t gate)
 
-  mul-scratch : walk-lts.Need-overflow-mul-t24 (walk-claims t) (walk_at t) walk.Post Inv-loop μ-loop
+  mul-scratch : walk-lts.Need-offset_bounds-scratch-here (walk-claims t) (walk_at t) walk.Post Inv-loop μ-loop
   mul-scratch c =
       let read = gate-read t c.before.before.before in
       omega (arith, slot-there c, (own t read).progress.size, (start t read.before.before).good)
 
-  loop-again : walk-lts.Need-loop-preserved (walk-claims t) (walk_at t) walk.Post Inv-loop μ-loop
+  loop-again : walk-lts.Need-loop-left-preserved-in-Gate (walk-claims t) (walk_at t) walk.Post Inv-loop μ-loop
   loop-again c s ahead =
       let gate = c.before.before.before in
       turns.turn-gate (here t (gate-read t gate) s ahead) (gate-kind t gate) c.result.ensures
 
   -- At a module, once its arguments are passed: its part of scratch begins within it.
-  lent-inside : walk-lts.Need-overflow-sub-run-module (walk-claims t) (walk_at t) walk.Post Inv-loop μ-loop
+  lent-inside : walk-lts.Need-slice_bounds-run_module-count (walk-claims t) (walk_at t) walk.Post Inv-loop μ-loop
   lent-inside c =
       let passed = c.before in
       let told = passed-from t passed in
       modules.lent-inside (own t (module-read t told)) (module-kind t told) passed.copy.ensures
 
-  mul-run-module : walk-lts.Need-overflow-mul-run-module (walk-claims t) (walk_at t) walk.Post Inv-loop μ-loop
+  mul-run-module : walk-lts.Need-offset_bounds-scratch-frame (walk-claims t) (walk_at t) walk.Post Inv-loop μ-loop
   mul-run-module c =
       let read = module-read t (passed-from t c.before) in
       let from = start t read.before.before in
-      omega (arith, frame_is from.pre.1.runnable.scene, turns.enough (own t read), (own t read).progress.size, from.good)
+      omega (arith, frame_is from.requires.1.runnable.scene, turns.enough (own t read), (own t read).progress.size, from.good)
 
-  run-module-requires : walk-lts.Need-run-module-requires (walk-claims t) (walk_at t) walk.Post Inv-loop μ-loop
+  run-module-requires : walk-lts.Need-run_module-requires (walk-claims t) (walk_at t) walk.Post Inv-loop μ-loop
   run-module-requires c κs =
       let passed = c.before.before in
       let told = passed-from t passed in
       let read = module-read t told in (
-        omega (arith, modules.falls (own t read) (module-kind t told), (start t read.before.before).pre.0),
+        omega (arith, modules.falls (own t read) (module-kind t told), (start t read.before.before).requires.0),
         modules.calls (own t read) (module-kind t told) passed.copy.ensures,
       )
 
-  copy-requires-2 : walk-lts.Need-copy-requires-2 (walk-claims t) (walk_at t) walk.Post Inv-loop μ-loop
+  copy-requires-2 : walk-lts.Need-copy-requires-then-o-gt0 (walk-claims t) (walk_at t) walk.Post Inv-loop μ-loop
   copy-requires-2 c κs =
       let ran = c.before.before in
       let passed = ran.before.before.before in
       let told = passed-from t passed in
       let now = own t (module-read t told) in
       let kind = module-kind t told in
-      modules.fetches now kind passed.copy.ensures ran.run-module.new.1.1.1.1.0
-      ran.run-module.auto.1.1.1.1.0
+      modules.fetches now kind passed.copy.ensures ran.run_module.new.1.1.1.1.0
+      ran.run_module.auto.1.1.1.1.0
       (passed.before.before.module-at.ensures (modules.sub now kind).m (module_stands (modules.sub now kind)))
 
-  loop-again-2 : walk-lts.Need-loop-preserved-2 (walk-claims t) (walk_at t) walk.Post Inv-loop μ-loop
+  loop-again-2 : walk-lts.Need-loop-left-preserved-then-o-gt0 (walk-claims t) (walk_at t) walk.Post Inv-loop μ-loop
   loop-again-2 c s ahead =
       let fetched = c.before in
       let ran = fetched.before.before.before in
@@ -108,21 +108,21 @@ module _ (t : ℕ) where
       let told = passed-from t passed in
       let now = here t (module-read t told) s ahead in
       let kind = module-kind t told in
-      modules.turn_module now kind passed.copy.ensures ran.run-module.new.1.1.1.1.0
-      ran.run-module.auto.1.1.1.1.0
+      modules.turn_module now kind passed.copy.ensures ran.run_module.new.1.1.1.1.0
+      ran.run_module.auto.1.1.1.1.0
       (passed.before.before.module-at.ensures (modules.sub now kind).m (module_stands (modules.sub now kind)))
-      (ran.run-module.ensures (modules.calls now kind passed.copy.ensures))
-      fetched.copy2.ensures
+      (ran.run_module.ensures (modules.calls now kind passed.copy.ensures))
+      fetched.copy-then-o-gt0.ensures
 
-pub +run-module-walk-spec : {M : Type 1} → statement M
-+run-module-walk-spec =
+pub +run_module_walk_spec : {M : Type 1} → statement M
++run_module_walk_spec =
     close μ-run-module μ-walk
     (λ t.
     run-module-lts.spec (run-module-claims t) (run-module-at t) run-module.Post
     (λ c. omega (arith, in_starts c.before.before.before.requires.1.scene))
     (λ c. in_starts c.before.before.before.before.requires.1.scene)
     (λ c κs. module_there c.before.before.before.before.requires.1.scene)
-    (λ c κs. let from = began t c.before in (omega (arith, from.pre.0), walkable t c.before from.pre.1))
+    (λ c κs. let from = began t c.before in (omega (arith, from.requires.0), walkable t c.before from.requires.1))
     (λ c. c.before.walk.auto.1.1.1.1.1.0)
     (λ c s. c.before.walk.ensures (walkable t c.before.before.before s)))
     (λ t.
@@ -133,8 +133,8 @@ pub +run-module-walk-spec : {M : Type 1} → statement M
     (λ c.
     let known = c.before.before.before in
     let a = known.before.before.args in
-    walking_begins rows_work a.scratch.now)
-    (λ c κs. occurrence-there (omega (arith, c.loop-test.true)) (own-progress t c.before).ahead)
+    walking_begins rows_work a.scratch-1.now)
+    (λ c κs. occurrence-there (omega (arith, c.loop-left-test.true)) (own-progress t c.before).ahead)
     (λ c. omega arith)
     (add-filled t)
     (λ c κs. search rules)
@@ -142,7 +142,7 @@ pub +run-module-walk-spec : {M : Type 1} → statement M
     (λ c κs. turns.turn-readable (own t (gate-read t c.before.before)))
     (mul-scratch t)
     (slot-there t)
-    (λ c. omega (arith, (gate-read t c.before.before.before).before.loop-test.taken))
+    (λ c. omega (arith, (gate-read t c.before.before.before).before.loop-left-test.taken))
     (loop-again t)
     (λ c. search rules)
     (λ c. search rules)
@@ -163,9 +163,9 @@ pub +run-module-walk-spec : {M : Type 1} → statement M
     (λ c.
     let ran = c.before.before.before.before in
     let passed = ran.before.before.before in
-    omega (arith, (module-read t (passed-from t passed)).before.loop-test.taken))
+    omega (arith, (module-read t (passed-from t passed)).before.loop-left-test.taken))
     (loop-again-2 t)
-    (λ c. omega (arith, (module-read t c.before.before).before.loop-test.taken))
+    (λ c. omega (arith, (module-read t c.before.before).before.loop-left-test.taken))
     (λ c s ahead. turns.turn-idle (here t (module-read t c.before.before) s ahead) (omega arith))
     (λ c. (own-progress t c.before).size)
-    (λ c s. finish (c.before.loop.invariant s.runnable (enter s)) c.loop-test.false))
+    (λ c s. finish (c.before.loop-left.invariant s.runnable (enter s)) c.loop-left-test.false))

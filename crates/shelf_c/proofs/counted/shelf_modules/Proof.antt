@@ -5,16 +5,16 @@ use Rattle.shelf_c.proofs.counted.shelf_modules.Statement.{statement}
 use Rattle.shelf_c.proofs.counted.shelf_modules.Tie as tie
 use Rattle.meaning.specs.Calls.{module_count}
 
-returns : tie.Need-returns
+returns : tie.Need-returns-in-Modules
 returns c =
     let start : tie.Start = c.before.before.before.before.before in
-    listed-answers (module_count start.args.file.now) start.args.modules.now c.before.count.given.1 c.before.before.before.modules.ensures
+    listed-answers (module_count start.args.file.now) start.args.modules.now c.before.count-1.given.1 c.before.before.before.modules.ensures
 
-returns-2 : tie.Need-returns-2
+returns-2 : tie.Need-returns-in-Refused
 returns-2 c =
     let start : tie.Start = c.before.before.before.before.before in
-    listed-refuses (module_count start.args.file.now) start.args.modules.now c.before.number.given.1 c.before.before.before.modules.ensures
+    listed-refuses (module_count start.args.file.now) start.args.modules.now c.before.number-1.given.1 c.before.before.before.modules.ensures
 
-pub shelf-modules-spec : {M : Type 1} → statement M
-shelf-modules-spec =
+pub shelf_modules_spec : {M : Type 1} → statement M
+shelf_modules_spec =
     tie.close (tie.spec (λ c κs. search rules) (λ c. search rules) (λ c. search rules) returns returns-2)

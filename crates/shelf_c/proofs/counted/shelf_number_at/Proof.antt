@@ -5,18 +5,18 @@ use Rattle.shelf_c.proofs.counted.shelf_number_at.Statement.{statement}
 use Rattle.shelf_c.proofs.counted.shelf_number_at.Tie as tie
 use Rattle.meaning.specs.Calls.{number_at}
 
-returns : tie.Need-returns
+returns : tie.Need-returns-in-Number
 returns c =
     let start : tie.Start = c.before.before.before.before.before in
-    named-answers (number_at start.args.file.now start.args.position) start.args.number.now c.before.found.given.1
+    named-answers (number_at start.args.file.now start.args.position) start.args.number.now c.before.found-1.given.1
     c.before.before.before.number_at.ensures
 
-returns-2 : tie.Need-returns-2
+returns-2 : tie.Need-returns-in-Refused
 returns-2 c =
     let start : tie.Start = c.before.before.before.before.before in
-    named-refuses (number_at start.args.file.now start.args.position) start.args.number.now c.before.refusal.given.1
+    named-refuses (number_at start.args.file.now start.args.position) start.args.number.now c.before.refusal-1.given.1
     c.before.before.before.number_at.ensures
 
-pub shelf-number-at-spec : {M : Type 1} → statement M
-shelf-number-at-spec =
+pub shelf_number_at_spec : {M : Type 1} → statement M
+shelf_number_at_spec =
     tie.close (tie.spec (λ c κs. search rules) (λ c. search rules) (λ c. search rules) returns returns-2)

@@ -4,12 +4,12 @@ use borrow.Author.Rules.{rules}
 use Rattle.shelf_c.proofs.judged.shelf_check.Statement.{statement}
 use Rattle.shelf_c.proofs.judged.shelf_check.Tie as tie
 
-returns : tie.Need-returns
-returns c = rw (← c.before.before.check.ensures, c.enum_told.given.1) (refl, refl)
+returns : tie.Need-returns-in-Good
+returns c = rw (← c.before.before.check.ensures, c.enum_told-1.given.1) (refl, refl)
 
-returns-2 : tie.Need-returns-2
-returns-2 c = rw (← c.before.before.before.check.ensures, c.before.number.given.1) (refl, refl)
+returns-2 : tie.Need-returns-in-Broken
+returns-2 c = rw (← c.before.before.before.check.ensures, c.before.number-1.given.1) (refl, refl)
 
-pub shelf-check-spec : {M : Type 1} → statement M
-shelf-check-spec =
+pub shelf_check_spec : {M : Type 1} → statement M
+shelf_check_spec =
     tie.close (tie.spec (λ c κs. search rules) (λ c. search rules) (λ c. search rules) returns returns-2)

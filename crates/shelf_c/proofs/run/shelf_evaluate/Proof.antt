@@ -8,8 +8,8 @@ returns : tie.Need-returns
 returns c =
     let lent = c.before.before.before.before in
     let a = lent.before.before.before.before.evaluate.ensures in
-    (run-reports a c.report-run.ensures, (a.settled.answered.out, a.settled.scratched))
+    (run-reports a c.report_run.ensures, (a.settled.answered.out-1, a.settled.scratched))
 
-pub shelf-evaluate-spec : {M : Type 1} → statement M
-shelf-evaluate-spec =
+pub shelf_evaluate_spec : {M : Type 1} → statement M
+shelf_evaluate_spec =
     tie.close (tie.spec (λ c κs. search rules) (λ c κs. search rules) (λ c. search rules) (λ c. search rules) returns)

@@ -7,8 +7,8 @@ use Rattle.shelf_c.proofs.run.shelf_flatten.Tie as tie
 returns : tie.Need-returns
 returns c =
     let a = c.before.before.before.before.before.before.before.flatten in
-    (reports a.ensures.answered.is c.report.ensures, (a.ensures.answered.out, a.ensures.scratched))
+    (reports a.ensures.answered.is c.report.ensures, (a.ensures.answered.out-1, a.ensures.scratched))
 
-pub shelf-flatten-spec : {M : Type 1} → statement M
-shelf-flatten-spec =
+pub shelf_flatten_spec : {M : Type 1} → statement M
+shelf_flatten_spec =
     tie.close (tie.spec (λ c κs. search rules) (λ c κs. search rules) (λ c. search rules) (λ c. search rules) returns)

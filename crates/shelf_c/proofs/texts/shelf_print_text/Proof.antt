@@ -6,8 +6,8 @@ use Rattle.shelf_c.proofs.texts.shelf_print_text.Tie as tie
 
 returns : tie.Need-returns
 returns c =
-    let a = c.before.before.before.before.before.print-text in
-    (reports a.ensures.is c.report.ensures, a.ensures.out)
+    let a = c.before.before.before.before.before.print_text in
+    (reports a.ensures.is c.report.ensures, a.ensures.out-1)
 
-pub shelf-print-text-spec : {M : Type 1} → statement M
-shelf-print-text-spec = tie.close (tie.spec (λ c κs. search rules) (λ c κs. search rules) (λ c. search rules) returns)
+pub shelf_print_text_spec : {M : Type 1} → statement M
+shelf_print_text_spec = tie.close (tie.spec (λ c κs. search rules) (λ c κs. search rules) (λ c. search rules) returns)

@@ -5,12 +5,12 @@ use borrow.Author.Rules.{rules}
 use Rattle.shelf_c.proofs.withdrawn.shelf_strict_check.Statement.{statement}
 use Rattle.shelf_c.proofs.withdrawn.shelf_strict_check.Tie as tie
 
-returns : tie.Need-returns
-returns c = rw (← c.before.before.strict-check.ensures, c.enum_told.given.1) (refl, refl)
+returns : tie.Need-returns-in-Good
+returns c = rw (← c.before.before.strict_check.ensures, c.enum_told-1.given.1) (refl, refl)
 
-returns-2 : tie.Need-returns-2
-returns-2 c = rw (← c.before.before.before.strict-check.ensures, c.before.number.given.1) (refl, refl)
+returns-2 : tie.Need-returns-in-Broken
+returns-2 c = rw (← c.before.before.before.strict_check.ensures, c.before.number-1.given.1) (refl, refl)
 
-pub shelf-strict-check-spec : {M : Type 1} → statement M
-shelf-strict-check-spec =
+pub shelf_strict_check_spec : {M : Type 1} → statement M
+shelf_strict_check_spec =
     tie.close (tie.spec (λ c κs. search rules) (λ c. search rules) (λ c. search rules) returns returns-2)

@@ -7,7 +7,7 @@ use Rattle.shelf_c.proofs.written.shelf_adder.Tie as tie
 returns : tie.Need-returns
 returns c =
     let a = c.before.before.before.before.before.adder in
-    (reports a.ensures.is c.report.ensures, a.ensures.out)
+    (reports a.ensures.is c.report.ensures, a.ensures.out-1)
 
-pub shelf-adder-spec : {M : Type 1} → statement M
-shelf-adder-spec = tie.close (tie.spec (λ c κs. search rules) (λ c κs. search rules) (λ c. search rules) returns)
+pub shelf_adder_spec : {M : Type 1} → statement M
+shelf_adder_spec = tie.close (tie.spec (λ c κs. search rules) (λ c κs. search rules) (λ c. search rules) returns)

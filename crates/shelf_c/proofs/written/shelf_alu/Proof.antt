@@ -7,7 +7,7 @@ use Rattle.shelf_c.proofs.written.shelf_alu.Tie as tie
 returns : tie.Need-returns
 returns c =
     let a = c.before.before.before.before.before.alu in
-    (reports a.ensures.is c.report.ensures, a.ensures.out)
+    (reports a.ensures.is c.report.ensures, a.ensures.out-1)
 
-pub shelf-alu-spec : {M : Type 1} → statement M
-shelf-alu-spec = tie.close (tie.spec (λ c κs. search rules) (λ c κs. search rules) (λ c. search rules) returns)
+pub shelf_alu_spec : {M : Type 1} → statement M
+shelf_alu_spec = tie.close (tie.spec (λ c κs. search rules) (λ c κs. search rules) (λ c. search rules) returns)

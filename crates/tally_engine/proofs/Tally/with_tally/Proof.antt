@@ -8,28 +8,28 @@ use Rattle.tally_engine.proofs.Counts.{Partly, partly_none, partly_fits, partly_
 use Rattle.tally_engine.proofs.Tally.with_tally.Statement.{statement}
 use Rattle.tally_engine.proofs.Tally.with_tally.Tie as tie
 
-abbrev invariant-loop : tie.invariant-loop
+abbrev invariant-loop : tie.invariant-loop-kind
 invariant-loop self₀ other kind₀ self kind = Partly self₀.counts (λ each. get_or other.counts each 0) kind self.counts
 
-abbrev decreases-loop : tie.decreases-loop
+abbrev decreases-loop : tie.decreases-loop-kind
 decreases-loop self₀ other kind₀ self kind = 16 - kind
 
-loop-holds : tie.Need-loop-init invariant-loop decreases-loop
+loop-holds : tie.Need-loop-kind-init invariant-loop decreases-loop
 loop-holds c = partly_none _ _ (search rules)
 
-add-self : tie.Need-overflow-add-self invariant-loop decreases-loop
+add-self : tie.Need-overflow_add-self invariant-loop decreases-loop
 add-self c =
     let loop = c.before.before.before in
-    omega (arith, partly_fits (omega arith) loop.before.requires loop.loop.invariant)
+    omega (arith, partly_fits (omega arith) loop.before.requires loop.loop-kind.invariant)
 
-loop-again : tie.Need-loop-preserved invariant-loop decreases-loop
-loop-again c = partly_more (omega arith) c.before.before.before.loop.invariant
+loop-again : tie.Need-loop-kind-preserved invariant-loop decreases-loop
+loop-again c = partly_more (omega arith) c.before.before.before.loop-kind.invariant
 
 returns : tie.Need-returns invariant-loop decreases-loop
-returns c = partly_all (omega arith) c.before.loop.invariant
+returns c = partly_all (omega arith) c.before.loop-kind.invariant
 
-pub with-tally-spec : {M : Type 1} → statement M
-with-tally-spec =
+pub with_tally_spec : {M : Type 1} → statement M
+with_tally_spec =
     tie.close
     (tie.spec
     invariant-loop

@@ -4,24 +4,24 @@ use native.Mathlib.Omega.{arith}
 use borrow.Author.Rules.{rules}
 use lib.ListN.{length}
 use Rattle.tally_engine.proofs.KeptRows.{row_written, none-written-behind}
-use Rattle.tally_engine.proofs.rows.write_row.Statement.{statement}
-use Rattle.tally_engine.proofs.rows.write_row.Tie as tie
+use Rattle.tally_engine.proofs.rows-1.write_row.Statement.{statement}
+use Rattle.tally_engine.proofs.rows-1.write_row.Tie as tie
 
-sixteen : (c : tie.Start) → length c.args.tally.counts ≡ 16
+sixteen : (c : tie.Start) → length c.args.tally.counts-1 ≡ 16
 sixteen c = search rules
 
 copy-requires : tie.Need-copy-requires
 copy-requires c κs = let inside = c.before.before in (omega (arith, sixteen inside.before.before.before), omega arith)
 
-returns : tie.Need-returns
+returns : tie.Need-returns-then-k-count
 returns c =
     let copied = c.before.before in
     let inside = copied.before.before.before.before in
     let start = inside.before.before in
-    rw copied.copy.ensures (row_written _ _ _ _ inside.if1.true start.requires (sixteen start))
+    rw copied.copy.ensures (row_written _ _ _ _ inside.if-k-count.true start.requires (sixteen start))
 
-returns-2 : tie.Need-returns-2
-returns-2 c = none-written-behind _ _ _ _ c.if1.false
+returns-2 : tie.Need-returns-else-k-count
+returns-2 c = none-written-behind _ _ _ _ c.if-k-count.false
 
-pub write-row-spec : {M : Type 1} → statement M
-write-row-spec = tie.close (tie.spec (λ c. search rules) (λ c. search rules) copy-requires (λ c. search rules) returns returns-2)
+pub write_row_spec : {M : Type 1} → statement M
+write_row_spec = tie.close (tie.spec (λ c. search rules) (λ c. search rules) copy-requires (λ c. search rules) returns returns-2)

@@ -11,100 +11,100 @@ use Rattle.text_faults.proofs.walks.fault_in.Statement.{statement}
 use Rattle.text_faults.proofs.walks.fault_in.Tie as tie
 
 -- The start, the occurrence that was read, and where its parts stand.
-abbrev begun : tie.After-occurrence-at → tie.Start
+abbrev begun : tie.After-occurrence_at-o → tie.Start
 begun c = c.before.before.before.before
 
-abbrev read : tie.After-struct-known → tie.After-occurrence-at
+abbrev read : tie.After-struct_known-1 → tie.After-occurrence_at-o
 read c = c.before.before.before.before
 
-abbrev learnt : tie.After-entry-at-fault → tie.After-learn
+abbrev learnt : tie.After-entry_at_fault → tie.After-learn-new
 learnt c = c.before.before.before.before
 
-abbrev seen : tie.After-learn → tie.After-struct-known
+abbrev seen : tie.After-learn-new → tie.After-struct_known-1
 seen c = c.before.before.before
 
-spot : (c : tie.After-occurrence-at) → PlaceOf (begun c).args.numbers.now (begun c).args.at (begun c).requires.1.1.0.o c.occurrence-at.result
-spot c = c.occurrence-at.ensures (begun c).requires.1.1.0.o (begun c).requires.1.1.0.stands
+spot : (c : tie.After-occurrence_at-o) → PlaceOf (begun c).args.numbers.now (begun c).args.at (begun c).requires.1.1.0.o c.occurrence_at-o.result
+spot c = c.occurrence_at-o.ensures (begun c).requires.1.1.0.o (begun c).requires.1.1.0.stands
 
-occurrence-at-requires : tie.Need-occurrence-at-requires
+occurrence-at-requires : tie.Need-occurrence_at-o-requires
 occurrence-at-requires c κs = search rules
 
-mul-count-known : tie.Need-overflow-mul-count-known
+mul-count-known : tie.Need-offset_bounds-numbers-first
 mul-count-known c = omega (arith, (spot c).takes.within, (spot c).to)
 
-sub-count-known : tie.Need-overflow-sub-count-known
+sub-count-known : tie.Need-slice_bounds-count_known-count
 sub-count-known c = omega (arith, (spot c).to)
 
-part-count-known-start : tie.Need-slice-bounds-count-known-start
+part-count-known-start : tie.Need-slice_bounds-count_known-start
 part-count-known-start c = omega (arith, (spot c).to)
 
-part-count-known-end : tie.Need-slice-bounds-count-known-end
+part-count-known-end : tie.Need-slice_bounds-count_known-end
 part-count-known-end c = omega (arith, (spot c).takes.within, (spot c).to)
 
-count-known-requires : tie.Need-count-known-requires
+count-known-requires : tie.Need-count_known-known-requires
 count-known-requires c κs = search rules
 
-add-driven : tie.Need-overflow-add-driven
+add-driven : tie.Need-overflow_add-driven
 add-driven c = search rules
 
-add-behind : tie.Need-overflow-add-behind
+add-behind : tie.Need-overflow_add-behind
 add-behind c = omega (arith, (spot (read c)).driven.within, (spot (read c)).drives)
 
-mul-learn : tie.Need-overflow-mul-learn
+mul-learn : tie.Need-offset_bounds-numbers-driven
 mul-learn c = search rules
 
-sub-learn : tie.Need-overflow-sub-learn
+sub-learn : tie.Need-slice_bounds-learn-count
 sub-learn c = search rules
 
-part-learn-start : tie.Need-slice-bounds-learn-start
+part-learn-start : tie.Need-slice_bounds-learn-start
 part-learn-start c = search rules
 
-part-learn-end : tie.Need-slice-bounds-learn-end
+part-learn-end : tie.Need-slice_bounds-learn-end
 part-learn-end c = omega (arith, (spot (read c)).driven.within, (spot (read c)).drives)
 
-learn-requires : tie.Need-learn-requires
+learn-requires : tie.Need-learn-new-requires
 learn-requires c κs = search rules
 
-sub-taken : tie.Need-overflow-sub-taken
+sub-taken : tie.Need-overflow_sub-taken
 sub-taken c = omega (arith, (spot (read (seen c.before.before))).to)
 
-fits-requires : tie.Need-fits-requires
+fits-requires : tie.Need-fits-fit-requires
 fits-requires c κs = search rules
 
-entry-at-fault-requires : tie.Need-entry-at-fault-requires
+entry-at-fault-requires : tie.Need-entry_at_fault-requires
 entry-at-fault-requires c κs =
     let place = spot (read (seen c.before.before.before)) in
     omega (arith, place.takes.within, place.from, place.to, place.drives, (begun (read (seen c.before.before.before))).well-formed)
 
-same_length : tie.Need-same-length
+same_length : tie.Need-shape_of-marks
 same_length c = search rules
 
 -- How many nets were lent, as the code reckons.
-abbrev taken-count : tie.After-occurrence-at → ℕ
-taken-count c = c.occurrence-at.result.to - c.occurrence-at.result.from
+abbrev taken-count : tie.After-occurrence_at-o → ℕ
+taken-count c = c.occurrence_at-o.result.to - c.occurrence_at-o.result.from
 
-abbrev driven-count : tie.After-occurrence-at → ℕ
-driven-count c = (begun c).args.at + 1 + c.occurrence-at.result.drives - ((begun c).args.at + 1)
+abbrev driven-count : tie.After-occurrence_at-o → ℕ
+driven-count c = (begun c).args.at + 1 + c.occurrence_at-o.result.drives - ((begun c).args.at + 1)
 
 returns : tie.Need-returns
 returns c p o known s m =
     let front = seen (learnt c) in
-    let place = (read front).occurrence-at.ensures o s in
+    let place = (read front).occurrence_at-o.ensures o s in
     let later = drop (begun (read front)).args.from p.ms in
     let taken : taken-count (read front) ≡ length o.takes = omega (arith, place.to) in
     let driven : driven-count (read front) ≡ length o.drives = omega (arith, place.drives) in
     let drives = part-is _ place.driven driven in
-    let new = ((learnt c).learn.ensures known m).0 ∙ ap (λ l. new_front l known) drives in
+    let new = ((learnt c).learn-new.ensures known m).0 ∙ ap (λ l. new_front l known) drives in
     let is =
     fault_is o known later new place.drives
-    (front.before.count-known.ensures known m ∙ ap (λ l. known_front l known) (part-is _ place.takes taken))
+    (front.before.count_known-known.ensures known m ∙ ap (λ l. known_front l known) (part-is _ place.takes taken))
     taken
     (c.before.fits2.ensures p o.takes o.drives taken place.drives ∙ ap (λ n. arity_okp n o.takes o.drives later) place.refers) in
-    let whole = c.entry-at-fault.ensures ∙ is in
-    (whole, λ l. marked_all known _ _ drives new (all_new o known later (omega (arith, whole))) ((learnt c).learn.ensures known m).1)
+    let whole = c.entry_at_fault.ensures ∙ is in
+    (whole, λ l. marked_all known _ _ drives new (all_new o known later (omega (arith, whole))) ((learnt c).learn-new.ensures known m).1)
 
-pub fault-in-spec : {M : Type 1} → statement M
-fault-in-spec =
+pub fault_in_spec : {M : Type 1} → statement M
+fault_in_spec =
     tie.close
     (tie.spec
     occurrence-at-requires

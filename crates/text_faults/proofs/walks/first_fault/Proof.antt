@@ -12,10 +12,10 @@ use Rattle.text_faults.proofs.walks.first_fault.Statement.{statement}
 use Rattle.text_faults.proofs.walks.first_fault.Tie as tie
 
 -- The start, the module that is read there, and its header.
-abbrev begun : tie.After-module-at → tie.Start
+abbrev begun : tie.After-module_at-header → tie.Start
 begun c = c.before.before.before.before.before
 
-abbrev read : tie.After-mark-all → tie.After-module-at
+abbrev read : tie.After-mark_all → tie.After-module_at-header
 read c = c.before.before.before.before
 
 abbrev Asked : tie.Start → Type 0
@@ -24,78 +24,78 @@ Asked c = Placed c.args.numbers.now c.args.starts.now c.args.modules
 first : (c : tie.Start) (p : Asked c) → Beginning c.args.numbers.now (get_or c.args.starts.now c.args.position 0) c.args.position p.ms
 first c p = beginning p c.args.position c.requires.1.0
 
-header : (c : tie.After-module-at) (p : Asked (begun c)) → HeaderOf (begun c).args.numbers.now (get_or (begun c).args.starts.now (begun c).args.position 0) (first (begun c) p).m c.module-at.result
-header c p = c.module-at.ensures (first (begun c) p).m (first (begun c) p).stands
+header : (c : tie.After-module_at-header) (p : Asked (begun c)) → HeaderOf (begun c).args.numbers.now (get_or (begun c).args.starts.now (begun c).args.position 0) (first (begun c) p).m c.module_at-header.result
+header c p = c.module_at-header.ensures (first (begun c) p).m (first (begun c) p).stands
 
 -- The body behind it, once the inputs are marked.
-abbrev input-count : tie.After-module-at → ℕ
+abbrev input-count : tie.After-module_at-header → ℕ
 input-count c =
     let start = get_or (begun c).args.starts.now (begun c).args.position 0 in
-    start + 2 + c.module-at.result.inputs - (start + 2)
+    start + 2 + c.module_at-header.result.inputs - (start + 2)
 
 abbrev bodied :
-    (c : tie.After-mark-all) (p : Asked (begun (read c)))
-    → Body (begun (read c)).args.numbers.now c.mark-all.new.1.0 ((read c).module-at.result.to + 1) (read c).module-at.result.count
+    (c : tie.After-mark_all) (p : Asked (begun (read c)))
+    → Body (begun (read c)).args.numbers.now c.mark_all.new.1.0 ((read c).module_at-header.result.to + 1) (read c).module_at-header.result.count
 bodied c p =
     let all : input-count (read c) ≡ length (first (begun (read c)) p).m.inputs = omega (arith, (header (read c) p).inputs) in
-    begun-body (first (begun (read c)) p) (input-count (read c)) (header (read c) p) all (c.mark-all.ensures [] (begun (read c)).requires.1.1.1)
+    begun-body (first (begun (read c)) p) (input-count (read c)) (header (read c) p) all (c.mark_all.ensures [] (begun (read c)).requires.1.1.1)
 
-abbrev marked : tie.After-walk-arg → tie.After-mark-all
+abbrev marked : tie.After-walk-arg-1 → tie.After-mark_all
 marked c = c.before.before.before.before
 
-mul-start : tie.Need-overflow-mul-start
+mul-start : tie.Need-offset_bounds-starts-position
 mul-start c = search rules
 
-shared-slice-read-start : tie.Need-shared-slice-read-start
+shared-slice-read-start : tie.Need-bounds-starts-position
 shared-slice-read-start c = search rules
 
-module-at-requires : tie.Need-module-at-requires
+module-at-requires : tie.Need-module_at-header-requires
 module-at-requires c κs =
     let start = c.before.before.before.before in
     record { m = (first start start.requires.0).m; stands = (first start start.requires.0).stands }
 
-add-inputs : tie.Need-overflow-add-inputs
+add-inputs : tie.Need-overflow_add-inputs
 add-inputs c = omega (arith, (inputs (first (begun c) (begun c).requires.0)).within, (begun c).well-formed)
 
-add-end : tie.Need-overflow-add-end
+add-end : tie.Need-overflow_add-end
 add-end c =
     let start = begun c.before in
-    omega (arith, (inputs (first start start.pre.0)).within, (header c.before start.pre.0).inputs, start.good)
+    omega (arith, (inputs (first start start.requires.0)).within, (header c.before start.requires.0).inputs, start.good)
 
-mul-mark-all : tie.Need-overflow-mul-mark-all
+mul-mark-all : tie.Need-offset_bounds-numbers-inputs
 mul-mark-all c =
     let start = begun c.before in
-    omega (arith, (inputs (first start start.pre.0)).within, (header c.before start.pre.0).inputs, start.good)
+    omega (arith, (inputs (first start start.requires.0)).within, (header c.before start.requires.0).inputs, start.good)
 
-sub-mark-all : tie.Need-overflow-sub-mark-all
+sub-mark-all : tie.Need-slice_bounds-mark_all-count
 sub-mark-all c = search rules
 
-part-mark-all-start : tie.Need-slice-bounds-mark-all-start
+part-mark-all-start : tie.Need-slice_bounds-mark_all-start
 part-mark-all-start c = search rules
 
-part-mark-all-end : tie.Need-slice-bounds-mark-all-end
+part-mark-all-end : tie.Need-slice_bounds-mark_all-end
 part-mark-all-end c =
     let start = begun c.before in
-    omega (arith, (inputs (first start start.pre.0)).within, (header c.before start.pre.0).inputs)
+    omega (arith, (inputs (first start start.requires.0)).within, (header c.before start.requires.0).inputs)
 
-mark-all-requires : tie.Need-mark-all-requires
+mark-all-requires : tie.Need-mark_all-requires
 mark-all-requires c κs = search rules
 
-add-walk : tie.Need-overflow-add-walk
+add-walk : tie.Need-overflow_add-position
 add-walk c = search rules
 
-add-walk-2 : tie.Need-overflow-add-walk-2
+add-walk-2 : tie.Need-overflow_add-header
 add-walk-2 c =
     let r = read c.before.before.before in
-    omega (arith, (header r (begun r).pre.0).body.within, (begun r).good)
+    omega (arith, (header r (begun r).requires.0).body.within, (begun r).good)
 
 walk-requires : tie.Need-walk-requires
 walk-requires c κs =
     let m = marked c in
     let start = begun (read m) in
-    (start.pre.0, (omega (arith, start.pre.1.0), (bodied m start.pre.0, omega (arith, m.mark-all.kept.1.0, start.pre.1.1.0))))
+    (start.requires.0, (omega (arith, start.requires.1.0), (bodied m start.requires.0, omega (arith, m.mark_all.kept.1.0, start.requires.1.1.0))))
 
-same_length : tie.Need-same-length
+same_length : tie.Need-shape_of-marks
 same_length c = search rules
 
 returns : tie.Need-returns
@@ -103,8 +103,8 @@ returns c p =
     let m = marked c.before.before.before in
     whole_fault (first (begun (read m)) p) (c.before.before.walk.ensures p (bodied m p))
 
-pub first-fault-spec : {M : Type 1} → statement M
-first-fault-spec =
+pub first_fault_spec : {M : Type 1} → statement M
+first_fault_spec =
     tie.close
     (tie.spec
     mul-start

@@ -9,95 +9,95 @@ use Rattle.text_faults.proofs.Walking.{Walking, walking_first, Facing, facing, w
 use Rattle.text_faults.proofs.walks.walk.Statement.{statement}
 use Rattle.text_faults.proofs.walks.walk.Tie as tie
 
-abbrev invariant-loop : tie.invariant-loop
+abbrev invariant-loop : tie.invariant-loop-i
 invariant-loop numbers starts modules from body count marks₀ at₀ i₀ marks at i =
     (length marks ≡ length marks₀)
     × ((p : Placed numbers starts modules) (b : Body numbers marks₀ body count) → Walking numbers marks count at i b.os b.known (drop from p.ms))
 
-abbrev decreases-loop : tie.decreases-loop
+abbrev decreases-loop : tie.decreases-loop-i
 decreases-loop numbers starts modules from body count marks₀ at₀ i₀ marks at i = count - i
 
 -- The start; the occurrence whose turn it is, by the modules and the body that were asked for; and what was read and found of it.
-abbrev begun : tie.In-loop invariant-loop decreases-loop → tie.Start invariant-loop decreases-loop
+abbrev begun : tie.In-loop-i invariant-loop decreases-loop → tie.Start invariant-loop decreases-loop
 begun c = c.before.before.before.before.before
 
-abbrev read : tie.After-struct-known invariant-loop decreases-loop → tie.After-occurrence-at invariant-loop decreases-loop
+abbrev read : tie.After-struct_known-1 invariant-loop decreases-loop → tie.After-occurrence_at-o invariant-loop decreases-loop
 read c = c.before.before.before.before.before
 
-abbrev found : tie.After-struct-known invariant-loop decreases-loop → tie.After-fault-in invariant-loop decreases-loop
+abbrev found : tie.After-struct_known-1 invariant-loop decreases-loop → tie.After-fault_in-atom invariant-loop decreases-loop
 found c = c.before.before.before
 
 turn :
-    (c : tie.In-loop invariant-loop decreases-loop)
-    → Facing (begun c).args.numbers.now c.before.loop.at (c.before.loop.invariant.1 (begun c).requires.0 (begun c).requires.1.1.0).ahead
-turn c = facing (c.before.loop.invariant.1 (begun c).requires.0 (begun c).requires.1.1.0) c.loop-test.true
+    (c : tie.In-loop-i invariant-loop decreases-loop)
+    → Facing (begun c).args.numbers.now c.before.loop-i.at (c.before.loop-i.invariant.1 (begun c).requires.0 (begun c).requires.1.1.0).ahead
+turn c = facing (c.before.loop-i.invariant.1 (begun c).requires.0 (begun c).requires.1.1.0) c.loop-i-test.true
 
 spot :
-    (c : tie.After-occurrence-at invariant-loop decreases-loop)
-    → PlaceOf (begun c.before).args.numbers.now c.before.before.loop.at (turn c.before).o c.occurrence-at.result
-spot c = c.occurrence-at.ensures (turn c.before).o (turn c.before).there
+    (c : tie.After-occurrence_at-o invariant-loop decreases-loop)
+    → PlaceOf (begun c.before).args.numbers.now c.before.before.loop-i.at (turn c.before).o c.occurrence_at-o.result
+spot c = c.occurrence_at-o.ensures (turn c.before).o (turn c.before).there
 
-loop-holds : tie.Need-loop-init invariant-loop decreases-loop
+loop-holds : tie.Need-loop-i-init invariant-loop decreases-loop
 loop-holds c = (refl, λ p b. walking_first b)
 
-occurrence-at-requires : tie.Need-occurrence-at-requires invariant-loop decreases-loop
+occurrence-at-requires : tie.Need-occurrence_at-o-requires invariant-loop decreases-loop
 occurrence-at-requires c κs = record { o = (turn c).o; stands = (turn c).there }
 
-fault-in-requires : tie.Need-fault-in-requires invariant-loop decreases-loop
+fault-in-requires : tie.Need-fault_in-atom-requires invariant-loop decreases-loop
 fault-in-requires c κs =
     let here = c.before.before in
     let start = begun here in
-    (start.pre.0, (start.pre.1.0, (record { o = (turn here).o; stands = (turn here).there }, omega (arith, here.before.loop.invariant.0, start.pre.1.1.1))))
+    (start.requires.0, (start.requires.1.0, (record { o = (turn here).o; stands = (turn here).there }, omega (arith, here.before.loop-i.invariant.0, start.requires.1.1.1))))
 
-add-if1 : tie.Need-overflow-add-if1 invariant-loop decreases-loop
+add-if1 : tie.Need-overflow_add-o invariant-loop decreases-loop
 add-if1 c = omega (arith, (spot (read c)).drives, (spot (read c)).driven.within, (begun (read c).before).good)
 
-sub-if1 : tie.Need-overflow-sub-if1 invariant-loop decreases-loop
+sub-if1 : tie.Need-overflow_sub-o invariant-loop decreases-loop
 sub-if1 c = omega (arith, (spot (read c.before)).to)
 
-add-if1-2 : tie.Need-overflow-add-if1-2 invariant-loop decreases-loop
+add-if1-2 : tie.Need-overflow_add-o-in-loop-i invariant-loop decreases-loop
 add-if1-2 c =
     let place = spot (read c.before) in
     omega (arith, place.drives, place.from, place.to, place.takes.within, (begun (read c.before).before).good)
 
-same_length : tie.Need-same-length invariant-loop decreases-loop
-same_length c = let r = c.before.before in (found r).fault-in.auto.1.1.1.1.1.0 ∙ (read r).before.before.loop.invariant.0
+same_length : tie.Need-shape_of-marks-then-atom-o invariant-loop decreases-loop
+same_length c = let r = c.before.before in (found r).fault_in-atom.auto.1.1.1.1.1.0 ∙ (read r).before.before.loop-i.invariant.0
 
-returns : tie.Need-returns invariant-loop decreases-loop
+returns : tie.Need-returns-then-atom-o invariant-loop decreases-loop
 returns c p b =
     let r = read c.before.before in
-    let w = r.before.before.loop.inv.1 p b in
-    let f = facing w r.before.loop-test.taken in
-    let place = r.occurrence-at.ensures f.o f.there in
-    let a = ((found c.before.before).fault-in.ensures p f.o w.signals f.there w.marked).0 in
-    walking_stops w f _ a _ place.drives (omega (arith, c.if1.true, place.drives, place.to))
+    let w = r.before.before.loop-i.inv.1 p b in
+    let f = facing w r.before.loop-i-test.taken in
+    let place = r.occurrence_at-o.ensures f.o f.there in
+    let a = ((found c.before.before).fault_in-atom.ensures p f.o w.signals f.there w.marked).0 in
+    walking_stops w f _ a _ place.drives (omega (arith, c.if-atom-o.true, place.drives, place.to))
 
-add-i : tie.Need-overflow-add-i invariant-loop decreases-loop
+add-i : tie.Need-overflow_add-i invariant-loop decreases-loop
 add-i c = omega arith
 
-loop-less : tie.Need-loop-smaller invariant-loop decreases-loop
+loop-less : tie.Need-loop-i-smaller invariant-loop decreases-loop
 loop-less c = omega arith
 
-loop-again : tie.Need-loop-preserved invariant-loop decreases-loop
+loop-again : tie.Need-loop-i-preserved invariant-loop decreases-loop
 loop-again c =
     let r = read c.before.before in (
-      (found c.before.before).fault-in.kept.1.1.1.1.1.0 ∙ r.before.before.loop.inv.0,
+      (found c.before.before).fault_in-atom.kept.1.1.1.1.1.0 ∙ r.before.before.loop-i.inv.0,
       λ p b.
-          let w = r.before.before.loop.inv.1 p b in
-          let f = facing w r.before.loop-test.taken in
-          let place = r.occurrence-at.ensures f.o f.there in
-          let a = (found c.before.before).fault-in.ensures p f.o w.signals f.there w.marked in
-          walking_on w f _ a.0 _ place.next (omega (arith, c.if1.false, place.drives, place.to)) a.1,
+          let w = r.before.before.loop-i.inv.1 p b in
+          let f = facing w r.before.loop-i-test.taken in
+          let place = r.occurrence_at-o.ensures f.o f.there in
+          let a = (found c.before.before).fault_in-atom.ensures p f.o w.signals f.there w.marked in
+          walking_on w f _ a.0 _ place.next (omega (arith, c.if-atom-o.false, place.drives, place.to)) a.1,
     )
 
-same-length-2 : tie.Need-same-length-2 invariant-loop decreases-loop
-same-length-2 c = c.before.loop.invariant.0
+same-length-2 : tie.Need-shape_of-marks invariant-loop decreases-loop
+same-length-2 c = c.before.loop-i.invariant.0
 
-returns-2 : tie.Need-returns-2 invariant-loop decreases-loop
-returns-2 c p b = walking_last (c.before.loop.invariant.1 p b) c.loop-test.false
+returns-2 : tie.Need-returns invariant-loop decreases-loop
+returns-2 c p b = walking_last (c.before.loop-i.invariant.1 p b) c.loop-i-test.false
 
-pub walk-spec : {M : Type 1} → statement M
-walk-spec =
+pub walk_spec : {M : Type 1} → statement M
+walk_spec =
     tie.close
     (tie.spec
     invariant-loop

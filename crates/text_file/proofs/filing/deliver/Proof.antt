@@ -12,35 +12,35 @@ use Rattle.write_order.proofs.answer.answer.Reads as answer-reads
 modules-requires : tie.Need-modules-requires
 modules-requires c κs = search rules
 
-enum-known-number : tie.Need-enum-known-number
+enum-known-number : tie.Need-enum_known-number
 enum-known-number c = search rules
 
-enum_told : tie.Need-enum-told
+enum_told : tie.Need-enum_told-1
 enum_told c = search rules
 
 answer-requires : tie.Need-answer-requires
 answer-requires c κs = search rules
 
-returns : tie.Need-returns
+returns : tie.Need-returns-in-Refused
 returns c =
     let at-number = c.before in
     let at-modules = at-number.before.before in
     let start = at-modules.before.before.before in
-    λ w. delivers-refused w (length start.args.out.now) start.args.out.now (sym at-number.number.given.1 ∙ at-modules.modules.ensures)
+    λ w. delivers-refused w (length start.args.out-1.now) start.args.out-1.now (sym at-number.number-1.given.1 ∙ at-modules.modules.ensures)
 
-same_length : tie.Need-same-length
+same_length : tie.Need-shape_of-out
 same_length c = search rules
 
-returns-2 : tie.Need-returns-2
+returns-2 : tie.Need-returns-in-Modules
 returns-2 c =
     let at-answer = c.before.before in
     let at-enum-told = at-answer.before.before in
     let at-modules = at-enum-told.before.before in
     let start = at-modules.before.before.before in
-    λ w. delivers w (length start.args.out.now) start.args.out.now (sym at-enum-told.enum_told.given.1 ∙ at-modules.modules.ensures) at-answer.answer.ensures
+    λ w. delivers w (length start.args.out-1.now) start.args.out-1.now (sym at-enum-told.enum_told-1.given.1 ∙ at-modules.modules.ensures) at-answer.answer.ensures
 
-pub deliver-spec : {M : Type 1} → statement M
-deliver-spec =
+pub deliver_spec : {M : Type 1} → statement M
+deliver_spec =
     tie.close
     (tie.spec
     modules-requires

@@ -8,46 +8,46 @@ use Rattle.text_file.proofs.filing.size.Statement.{statement}
 use Rattle.text_file.proofs.filing.size.Tie as tie
 use Rattle.text_file.proofs.filing.size.Reads as reads
 use Rattle.text_file.proofs.filing.size.Lts as lts
-use Rattle.text_file.proofs.filing.width.Reads as width-reads
+use Rattle.text_file.proofs.filing.width-all.Reads as width-reads
 
-abbrev invariant-loop : tie.invariant-loop
+abbrev invariant-loop : tie.invariant-loop-i
 invariant-loop numbers all₀ i₀ all i = Sizing numbers all i
 
-abbrev decreases-loop : tie.decreases-loop
+abbrev decreases-loop : tie.decreases-loop-i
 decreases-loop numbers all₀ i₀ all i = length numbers - i
 
-loop-holds : tie.Need-loop-init invariant-loop decreases-loop
+loop-holds : tie.Need-loop-i-init invariant-loop decreases-loop
 loop-holds c = sizing_first _
 
-mul-width : tie.Need-overflow-mul-width invariant-loop decreases-loop
+mul-width : tie.Need-offset_bounds-numbers-i invariant-loop decreases-loop
 mul-width c = omega arith
 
-shared-slice-read-width : tie.Need-shared-slice-read-width invariant-loop decreases-loop
+shared-slice-read-width : tie.Need-bounds-numbers-i invariant-loop decreases-loop
 shared-slice-read-width c = omega arith
 
-width-requires : tie.Need-width-requires invariant-loop decreases-loop
+width-requires : tie.Need-width-all-requires invariant-loop decreases-loop
 width-requires c κs = search rules
 
-add-all : tie.Need-overflow-add-all invariant-loop decreases-loop
+add-all : tie.Need-overflow_add-all invariant-loop decreases-loop
 add-all c =
     let turn = c.before.before.before in
     let start = turn.before.before in
-    let w : _ = width_few (get_or start.args.numbers.now turn.loop.i 0) _ c.width.ensures in omega arith
+    let w : _ = width_few (get_or start.args.numbers.now turn.loop-i.i 0) _ c.width-all.ensures in omega arith
 
-add-i : tie.Need-overflow-add-i invariant-loop decreases-loop
+add-i : tie.Need-overflow_add-i invariant-loop decreases-loop
 add-i c = omega arith
 
-loop-less : tie.Need-loop-smaller invariant-loop decreases-loop
+loop-less : tie.Need-loop-i-smaller invariant-loop decreases-loop
 loop-less c = omega arith
 
-loop-again : tie.Need-loop-preserved invariant-loop decreases-loop
-loop-again c = sizing_next _ _ c.before.before.before.loop.i _ (omega arith) c.width.ensures c.before.before.before.loop.invariant
+loop-again : tie.Need-loop-i-preserved invariant-loop decreases-loop
+loop-again c = sizing_next _ _ c.before.before.before.loop-i.i _ (omega arith) c.width-all.ensures c.before.before.before.loop-i.invariant
 
 returns : tie.Need-returns invariant-loop decreases-loop
-returns c = sizing_last _ _ c.before.loop.i (omega arith) c.before.loop.invariant
+returns c = sizing_last _ _ c.before.loop-i.i (omega arith) c.before.loop-i.invariant
 
-pub size-spec : {M : Type 1} → statement M
-size-spec =
+pub size_spec : {M : Type 1} → statement M
+size_spec =
     tie.close
     (tie.spec
     invariant-loop

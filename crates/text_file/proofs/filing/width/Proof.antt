@@ -6,12 +6,12 @@ use Rattle.text_file.proofs.filing.width.Reads as reads
 use Rattle.text_file.proofs.filing.width.Lts as lts
 
 -- src/filing.rt:15:1
-returns : tie.Need-returns
-returns c = rw (lt-ltb _ 128 c.if1.true)
+returns : tie.Need-returns-then-number-lt128
+returns c = rw (lt-ltb _ 128 c.if-number-lt128.true)
 
 -- src/filing.rt:15:1
-returns-2 : tie.Need-returns-2
-returns-2 c = rw (le-ltb _ 128 c.if1.false)
+returns-2 : tie.Need-returns-else-number-lt128
+returns-2 c = rw (le-ltb _ 128 c.if-number-lt128.false)
 
 pub width_spec : {M : Type 1} → statement M
 width_spec = tie.close (tie.spec returns returns-2)

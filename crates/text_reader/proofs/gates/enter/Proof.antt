@@ -11,11 +11,11 @@ use Rattle.text_reader.proofs.gates.enter_all.Reads as enter-all-reads
 slice-aggregate-enter-all : tie.Need-slice-aggregate-enter-all
 slice-aggregate-enter-all c = search rules
 
-enter-all-requires : tie.Need-enter-all-requires
+enter-all-requires : tie.Need-enter_all-requires
 unfolding gate_bytes spelling
 enter-all-requires c κs = (refl, search rules)
 
-same_length : tie.Need-same-length
+same_length : tie.Need-shape_of-tree
 same_length c = search rules
 
 returns : tie.Need-returns

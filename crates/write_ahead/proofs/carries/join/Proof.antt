@@ -11,17 +11,17 @@ use Rattle.write_ahead.proofs.carries.join.Tie as tie
 
 room : (c : tie.Start)
     → (let a = c.args in
-    Room (pass_bytes a.p a.x a.y a.z ++ make_bytes a.width a.p a.x a.y a.z) a.bytes.now a.at)
+    Room (pass_bytes a.p a.x a.y a.z ++ make_bytes a.width a.p a.x a.y a.z) a.bytes-1.now a.at)
 room c = let a = c.args in rw (bytes-of-join a.width a.p a.x a.y a.z) at c.requires.5
 
-put-list-requires : tie.Need-put-list-requires
+put-list-requires : tie.Need-put_list-makes-requires
 put-list-requires c κs =
     let start = c.before.before.before in (
       all_small _ (omega arith, (omega arith, (omega arith, (omega arith, (omega arith, (omega arith, (omega arith, tt))))))),
       room-first _ (room start),
     )
 
-over-two-requires : tie.Need-over-two-requires
+over-two-requires : tie.Need-over_two-requires
 over-two-requires c κs =
     let first = c.before.before.before in
     let start = first.before.before.before.before in (
@@ -30,7 +30,7 @@ over-two-requires c κs =
       omega arith,
       omega arith,
       omega arith,
-      laying-left (laying-put first.put-list.ensures (laying-start (room start))),
+      laying-left (laying-put first.put_list-makes.ensures (laying-start (room start))),
     )
 
 returns : tie.Need-returns
@@ -40,10 +40,10 @@ returns c =
     let start = first.before.before.before.before in
     let a = start.args in
     rw (bytes-of-join a.width a.p a.x a.y a.z)
-    (laying-last second.over-two.ensures (laying-put first.put-list.ensures (laying-start (room start))))
+    (laying-last second.over_two.ensures (laying-put first.put_list-makes.ensures (laying-start (room start))))
 
-pub join-spec : {M : Type 1} → statement M
-join-spec =
+pub join_spec : {M : Type 1} → statement M
+join_spec =
     tie.close
     (tie.spec
     (λ c. search rules)

@@ -6,7 +6,7 @@ use Rattle.write_ahead.proofs.Smalls.{all_small}
 use Rattle.write_ahead.proofs.carries.over_one.Statement.{statement}
 use Rattle.write_ahead.proofs.carries.over_one.Tie as tie
 
-put-list-requires : tie.Need-put-list-requires
+put-list-requires : tie.Need-put_list-requires
 unfolding occurrence_numbers
 put-list-requires c κs =
     let p = c.before.before.before.requires in
@@ -14,8 +14,8 @@ put-list-requires c κs =
 
 returns : tie.Need-returns
 unfolding occurrence_numbers
-returns c = c.before.before.put-list.ensures
+returns c = c.before.before.put_list.ensures
 
-pub over-one-spec : {M : Type 1} → statement M
-over-one-spec =
+pub over_one_spec : {M : Type 1} → statement M
+over_one_spec =
     tie.close (tie.spec (λ c. search rules) (λ c. search rules) put-list-requires (λ c. search rules) returns)

@@ -13,14 +13,14 @@ use Rattle.write_ahead.proofs.rows.carries.Tie as tie
 
 room : (c : tie.Start)
     → (let a = c.args in
-    Room (each number_bytes (a.width ∷ []) ++ each number_bytes (up_from 1 a.width)) a.bytes.now a.at)
+    Room (each number_bytes (a.width ∷ []) ++ each number_bytes (up_from 1 a.width)) a.bytes-1.now a.at)
 room c = rw (bytes-of-carries c.args.width) at c.requires.1
 
-put-run-requires : tie.Need-put-run-requires
+put-run-requires : tie.Need-put_run-requires
 put-run-requires c κs =
     let first = c.before.before.before in
     let start = first.before.before.before.before in
-    (omega arith, laying-left (laying-put first.put-list.ensures (laying-start (room start))))
+    (omega arith, laying-left (laying-put first.put_list-first.ensures (laying-start (room start))))
 
 returns : tie.Need-returns
 returns c =
@@ -28,10 +28,10 @@ returns c =
     let first = second.before.before.before.before in
     let start = first.before.before.before.before in
     rw (bytes-of-carries start.args.width)
-    (laying-last second.put-run.ensures (laying-put first.put-list.ensures (laying-start (room start))))
+    (laying-last second.put_run.ensures (laying-put first.put_list-first.ensures (laying-start (room start))))
 
-pub carries-spec : {M : Type 1} → statement M
-carries-spec =
+pub carries_spec : {M : Type 1} → statement M
+carries_spec =
     tie.close
     (tie.spec
     (λ c. search rules)

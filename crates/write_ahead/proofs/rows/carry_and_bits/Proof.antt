@@ -15,15 +15,15 @@ use Rattle.write_ahead.proofs.rows.carry_and_bits.Tie as tie
 room : (c : tie.Start)
     → (let a = c.args in
     Room (each number_bytes (a.number ∷ (2 * a.width + 1) ∷ 0 ∷ []) ++ each number_bytes (up_from a.first (2 * a.width)))
-    a.bytes.now
+    a.bytes-1.now
     a.at)
 room c = let a = c.args in rw (bytes-of-carry-and-bits a.number a.width a.first) at c.requires.3
 
-put-run-requires : tie.Need-put-run-requires
+put-run-requires : tie.Need-put_run-requires
 put-run-requires c κs =
     let first = c.before.before.before in
     let start = first.before.before.before.before in
-    (omega arith, laying-left (laying-put first.put-list.ensures (laying-start (room start))))
+    (omega arith, laying-left (laying-put first.put_list-bits.ensures (laying-start (room start))))
 
 returns : tie.Need-returns
 returns c =
@@ -32,10 +32,10 @@ returns c =
     let start = first.before.before.before.before in
     let a = start.args in
     rw (bytes-of-carry-and-bits a.number a.width a.first)
-    (laying-last second.put-run.ensures (laying-put first.put-list.ensures (laying-start (room start))))
+    (laying-last second.put_run.ensures (laying-put first.put_list-bits.ensures (laying-start (room start))))
 
-pub carry-and-bits-spec : {M : Type 1} → statement M
-carry-and-bits-spec =
+pub carry_and_bits_spec : {M : Type 1} → statement M
+carry_and_bits_spec =
     tie.close
     (tie.spec
     (λ c. search rules)

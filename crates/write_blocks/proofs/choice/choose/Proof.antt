@@ -12,55 +12,55 @@ use Rattle.write_blocks.specs.Choices.{choice_numbers, choice_from, bit_at, whol
 use Rattle.write_blocks.proofs.choice.choose.Statement.{statement}
 use Rattle.write_blocks.proofs.choice.choose.Tie as tie
 
-abbrev invariant-loop : tie.invariant-loop
+abbrev invariant-loop : tie.invariant-loop-i
 invariant-loop empty high low ands ors count bytes₀ at at₀ i₀ bytes at' i =
     Laying (choice_numbers empty high low ands ors count) (choice_from empty high low ands ors count i) bytes₀ at bytes at'
 
-abbrev decreases-loop : tie.decreases-loop
+abbrev decreases-loop : tie.decreases-loop-i
 decreases-loop empty high low ands ors count bytes₀ at at₀ i₀ bytes at' i = count - i
 
-loop-holds : tie.Need-loop-init invariant-loop decreases-loop
+loop-holds : tie.Need-loop-i-init invariant-loop decreases-loop
 loop-holds c =
     let a = c.before.args in
-    laying-none a.bytes.now a.at
+    laying-none a.bytes-1.now a.at
     (whole_choice a.empty a.high a.low a.ands a.ors a.count)
     c.before.requires.4.fits
 
 -- In a turn the two gates of a bit are left, and there is room for them.
-room : (c : tie.In-loop invariant-loop decreases-loop)
-    → (length c.before.loop.bytes ≡ length c.before.before.before.args.bytes.now)
-    × (c.before.loop.at + 12 ≤ length c.before.before.before.args.bytes.now)
+room : (c : tie.In-loop-i invariant-loop decreases-loop)
+    → (length c.before.loop-i.bytes-1 ≡ length c.before.before.before.args.bytes-1.now)
+    × (c.before.loop-i.at + 12 ≤ length c.before.before.before.args.bytes-1.now)
 unfolding occurrence_numbers
 room c =
     let a = c.before.before.before.args in
-    let i = c.before.loop.i in
-    laying-room c.before.loop.invariant (bit_at a.empty a.high a.low a.ands a.ors i) _
-    (rest-of_choice a.empty a.high a.low a.ands a.ors a.count i c.loop-test.true)
+    let i = c.before.loop-i.i in
+    laying-room c.before.loop-i.invariant (bit_at a.empty a.high a.low a.ands a.ors i) _
+    (rest-of_choice a.empty a.high a.low a.ands a.ors a.count i c.loop-i-test.true)
 
-gate-requires : tie.Need-gate-requires invariant-loop decreases-loop
+gate-requires : tie.Need-gate-or-requires invariant-loop decreases-loop
 unfolding occurrence_numbers
 gate-requires c κs = omega (arith, room c.before)
 
-gate-requires-2 : tie.Need-gate-requires-2 invariant-loop decreases-loop
+gate-requires-2 : tie.Need-gate-at-requires invariant-loop decreases-loop
 unfolding occurrence_numbers
 gate-requires-2 c κs = omega (arith, room c.before.before.before.before.before)
 
-loop-again : tie.Need-loop-preserved invariant-loop decreases-loop
+loop-again : tie.Need-loop-i-preserved invariant-loop decreases-loop
 loop-again c =
     let or = c.before.before in
     let and = or.before.before.before.before in
     let turn = and.before.before in
     let a = turn.before.before.before.args in
-    let i = turn.before.loop.i in
-    laying-more turn.before.loop.invariant (bit_at a.empty a.high a.low a.ands a.ors i) _
-    (rest-of_choice a.empty a.high a.low a.ands a.ors a.count i turn.loop-test.true)
-    (put-more and.gate.ensures (omega (arith, room turn)) or.gate2.ensures)
+    let i = turn.before.loop-i.i in
+    laying-more turn.before.loop-i.invariant (bit_at a.empty a.high a.low a.ands a.ors i) _
+    (rest-of_choice a.empty a.high a.low a.ands a.ors a.count i turn.loop-i-test.true)
+    (put-more and.gate-or.ensures (omega (arith, room turn)) or.gate-at.ensures)
 
 returns : tie.Need-returns invariant-loop decreases-loop
 returns c =
     let a = c.before.before.before.args in
-    laying-all c.before.loop.invariant
-    (no_choice a.empty a.high a.low a.ands a.ors a.count c.before.loop.i c.loop-test.false)
+    laying-all c.before.loop-i.invariant
+    (no_choice a.empty a.high a.low a.ands a.ors a.count c.before.loop-i.i c.loop-i-test.false)
 
 pub choose_spec : {M : Type 1} → statement M
 choose_spec =
@@ -79,5 +79,5 @@ choose_spec =
     (λ c. omega arith)
     (λ c. omega arith)
     loop-again
-    (λ c. laying-length c.before.loop.invariant)
+    (λ c. laying-length c.before.loop-i.invariant)
     returns)

@@ -23,13 +23,13 @@ module _ (n copied i lines : ℕ) (found : lines ≡ lines_of n copied i) where
       → Put (each number_bytes (cell_list n copied i)) before at after next
   put-with {before} {after} {at} {next} = subst (λ (l : ℕ). Put (each number_bytes (cell_with n i l)) before at after next) found
 
-put-list-requires : tie.Need-put-list-requires
+put-list-requires : tie.Need-put_list-requires
 put-list-requires c κs =
     let found = c.before.before in
     let start = found.before.before in
     let a = start.args in (
-      all_small _ (omega (arith, found.lines_of.ensures)),
-      room-with a.width a.copied a.i _ found.lines_of.ensures start.requires.3,
+      all_small _ (omega (arith, found.lines_of-l.ensures)),
+      room-with a.width a.copied a.i _ found.lines_of-l.ensures start.requires.3,
     )
 
 returns : tie.Need-returns
@@ -37,10 +37,10 @@ returns c =
     let put = c.before.before in
     let found = put.before.before.before in
     let a = found.before.before.args in
-    put-with a.width a.copied a.i _ found.lines_of.ensures put.put-list.ensures
+    put-with a.width a.copied a.i _ found.lines_of-l.ensures put.put_list.ensures
 
-pub cell-at-spec : {M : Type 1} → statement M
-cell-at-spec =
+pub cell_at_spec : {M : Type 1} → statement M
+cell_at_spec =
     tie.close
     (tie.spec
     (λ c κs. search rules)

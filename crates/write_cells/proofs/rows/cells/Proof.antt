@@ -13,56 +13,56 @@ use Rattle.write_cells.proofs.Occurrences.{cells_from, whole_cells, rest-of-cell
 use Rattle.write_cells.proofs.rows.cells.Statement.{statement}
 use Rattle.write_cells.proofs.rows.cells.Tie as tie
 
-abbrev invariant-loop : tie.invariant-loop
+abbrev invariant-loop : tie.invariant-loop-i
 invariant-loop width copied bytes₀ at at₀ i₀ bytes at' i =
     Laying (each number_bytes (each occurrence_numbers (cells width copied 0 width)))
     (each number_bytes (cells_from width copied i))
     bytes₀ at bytes at'
 
-abbrev decreases-loop : tie.decreases-loop
+abbrev decreases-loop : tie.decreases-loop-i
 decreases-loop width copied bytes₀ at at₀ i₀ bytes at' i = width - i
 
-loop-holds : tie.Need-loop-init invariant-loop decreases-loop
+loop-holds : tie.Need-loop-i-init invariant-loop decreases-loop
 loop-holds c =
     let start = c.before in
     let a = start.args in
-    laying-none a.bytes.now a.at (ap (each number_bytes) (whole_cells a.width a.copied)) start.requires.2.fits
+    laying-none a.bytes-1.now a.at (ap (each number_bytes) (whole_cells a.width a.copied)) start.requires.2.fits
 
 -- In a turn the bytes of a cell come first of those left.
-next : (c : tie.In-loop invariant-loop decreases-loop)
+next : (c : tie.In-loop-i invariant-loop decreases-loop)
     → (let a = c.before.before.before.args in
-    let i = c.before.loop.i in
+    let i = c.before.loop-i.i in
     each number_bytes (cells_from a.width a.copied i)
     ≡ each number_bytes (cell_list a.width a.copied i) ++ each number_bytes (cells_from a.width a.copied (i + 1)))
 next c =
     let a = c.before.before.before.args in
-    bytes-of-piece _ _ (rest-of-cells a.width a.copied c.before.loop.i c.loop-test.true)
+    bytes-of-piece _ _ (rest-of-cells a.width a.copied c.before.loop-i.i c.loop-i-test.true)
 
-cell-at-requires : tie.Need-cell-at-requires invariant-loop decreases-loop
+cell-at-requires : tie.Need-cell_at-at-requires invariant-loop decreases-loop
 cell-at-requires c κs =
     let turn = c.before in
-    let loop = turn.before.loop in
+    let loop = turn.before.loop-i in
     let start = turn.before.before.before in
     let a = start.args in (
       start.requires.0,
       start.requires.1,
-      omega (arith, start.requires.0, turn.loop-test.true),
+      omega (arith, start.requires.0, turn.loop-i-test.true),
       omega (arith, laying-room loop.invariant (each number_bytes (cell_list a.width a.copied loop.i)) _ (next turn)),
     )
 
-loop-again : tie.Need-loop-preserved invariant-loop decreases-loop
+loop-again : tie.Need-loop-i-preserved invariant-loop decreases-loop
 loop-again c =
     let put = c.before.before in
     let turn = put.before.before in
-    laying-more turn.before.loop.invariant _ _ (next turn) put.Cell-at.ensures
+    laying-more turn.before.loop-i.invariant _ _ (next turn) put.Cell-at.ensures
 
 returns : tie.Need-returns invariant-loop decreases-loop
 returns c =
     let a = c.before.before.before.args in
-    laying-all c.before.loop.invariant (no_bytes (no_cells a.width a.copied c.before.loop.i c.loop-test.false))
+    laying-all c.before.loop-i.invariant (no_bytes (no_cells a.width a.copied c.before.loop-i.i c.loop-i-test.false))
 
-pub cells-spec : {M : Type 1} → statement M
-cells-spec =
+pub cells_spec : {M : Type 1} → statement M
+cells_spec =
     tie.close
     (tie.spec
     invariant-loop
@@ -72,5 +72,5 @@ cells-spec =
     (λ c. omega arith)
     (λ c. omega arith)
     loop-again
-    (λ c. laying-length c.before.loop.invariant)
+    (λ c. laying-length c.before.loop-i.invariant)
     returns)

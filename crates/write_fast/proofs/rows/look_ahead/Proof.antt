@@ -7,14 +7,14 @@ use Rattle.write_fast.proofs.FastBytes.{ahead_pieces, bytes-of-ahead}
 use Rattle.write_fast.proofs.rows.look_ahead.Statement.{statement}
 use Rattle.write_fast.proofs.rows.look_ahead.Tie as tie
 
-room : (c : tie.Start) → Room (ahead_pieces c.args.width) c.args.bytes.now c.args.at
+room : (c : tie.Start) → Room (ahead_pieces c.args.width) c.args.bytes-1.now c.args.at
 room c = rw (bytes-of-ahead c.args.width) at c.requires.1
 
-carry-and-bits-requires : tie.Need-carry-and-bits-requires
+carry-and-bits-requires : tie.Need-carry_and_bits-requires
 carry-and-bits-requires c κs =
     let first = c.before.before.before in
     let start = first.before.before.before in
-    (omega arith, start.requires.0, omega arith, laying-left (laying-put first.carries.ensures (laying-start (room start))))
+    (omega arith, start.requires.0, omega arith, laying-left (laying-put first.carries-number.ensures (laying-start (room start))))
 
 returns : tie.Need-returns
 returns c =
@@ -22,10 +22,10 @@ returns c =
     let first = second.before.before.before.before in
     let start = first.before.before.before in
     rw (bytes-of-ahead start.args.width)
-    (laying-last second.carry-and-bits.ensures (laying-put first.carries.ensures (laying-start (room start))))
+    (laying-last second.carry_and_bits.ensures (laying-put first.carries-number.ensures (laying-start (room start))))
 
-pub look-ahead-spec : {M : Type 1} → statement M
-look-ahead-spec =
+pub look_ahead_spec : {M : Type 1} → statement M
+look_ahead_spec =
     tie.close
     (tie.spec
     (λ c κs. let start = c.before.before in (start.requires.0, room-first _ (room start)))

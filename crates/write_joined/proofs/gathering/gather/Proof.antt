@@ -9,36 +9,36 @@ use Rattle.write_joined.proofs.Going.{Going, going-none, going-room, going_more,
 use Rattle.write_joined.proofs.gathering.gather.Statement.{statement}
 use Rattle.write_joined.proofs.gathering.gather.Tie as tie
 
-abbrev invariant-loop : tie.invariant-loop
+abbrev invariant-loop : tie.invariant-loop-k
 invariant-loop house names places modules marks bytes₀ done k₀ bytes all k =
     (length bytes ≡ length bytes₀)
     × (k ≤ modules)
     × ((g : Gathering house names places modules marks bytes₀ done) → Going g.own g.shelved.ms bytes₀ bytes done all k)
 
-abbrev decreases-loop : tie.decreases-loop
+abbrev decreases-loop : tie.decreases-loop-k
 decreases-loop house names places modules marks bytes₀ done k₀ bytes all k = modules - k
 
 -- The function's entry from a turn.
-abbrev entered : tie.In-loop invariant-loop decreases-loop → tie.Start invariant-loop decreases-loop
+abbrev entered : tie.In-loop-k invariant-loop decreases-loop → tie.Start invariant-loop decreases-loop
 entered c = c.before.before.before.before.before.before.before
 
 -- What a turn asks of any file that is gathered from: its module at the position.
 here :
-    (c : tie.In-loop invariant-loop decreases-loop)
+    (c : tie.In-loop-k invariant-loop decreases-loop)
     → (let a = (entered c).args in
-    (g : Gathering a.house.now a.names.now a.places.now a.modules a.marks.now a.bytes.now a.done)
-    → Here g.shelved.ms c.before.loop.k)
-here c g = here-at g.shelved.ms c.before.loop.k (omega (arith, c.loop-test.true, g.shelved.all))
+    (g : Gathering a.house.now a.names.now a.places.now a.modules a.marks.now a.bytes-1.now a.done)
+    → Here g.shelved.ms c.before.loop-k.k)
+here c g = here-at g.shelved.ms c.before.loop-k.k (omega (arith, c.loop-k-test.true, g.shelved.all))
 
 at :
-    (c : tie.In-loop invariant-loop decreases-loop)
+    (c : tie.In-loop-k invariant-loop decreases-loop)
     → (let a = (entered c).args in
-    let l = c.before.loop in
-    (g : Gathering a.house.now a.names.now a.places.now a.modules a.marks.now a.bytes.now a.done)
-    → At a.house.now a.names.now a.places.now l.k a.marks.now l.bytes l.all)
+    let l = c.before.loop-k in
+    (g : Gathering a.house.now a.names.now a.places.now a.modules a.marks.now a.bytes-1.now a.done)
+    → At a.house.now a.names.now a.places.now l.k a.marks.now l.bytes-1 l.all)
 unfolding here
 at c g =
-    let l = c.before.loop in
+    let l = c.before.loop-k in
     let h = here c g in
     let going = l.invariant.2 g in
     record {
@@ -49,24 +49,24 @@ at c g =
       m = h.m;
       later = h.later;
       here = h.here;
-      index = g.indexed l.k c.loop-test.true;
-      few = omega (arith, going.few, g.few, c.loop-test.true, g.shelved.all, g.shelved.encodes.within.modules.count);
+      index = g.indexed l.k c.loop-k-test.true;
+      few = omega (arith, going.few, g.few, c.loop-k-test.true, g.shelved.all, g.shelved.encodes.within.modules.count);
       room = going-room going h;
     }
 
-loop-again : tie.Need-loop-preserved invariant-loop decreases-loop
+loop-again : tie.Need-loop-k-preserved invariant-loop decreases-loop
 unfolding at
 loop-again c =
     let t = c.before.before.before.before in
-    let l = t.before.loop in
-    let one = c.before.before.gather-one in (
+    let l = t.before.loop-k in
+    let one = c.before.before.gather_one-all in (
       one.auto.1.1.1.1.1.0 ∙ l.invariant.0,
-      omega (arith, t.loop-test.true),
+      omega (arith, t.loop-k-test.true),
       λ g. going_more (l.invariant.2 g) (here t g) (one.ensures (at t g)),
     )
 
-pub gather-spec : {M : Type 1} → statement M
-gather-spec =
+pub gather_spec : {M : Type 1} → statement M
+gather_spec =
     tie.close
     (tie.spec
     invariant-loop
@@ -75,11 +75,11 @@ gather-spec =
     let s = c.before.before.before.before.before in (
       refl,
       omega arith,
-      λ g. going-none g.own g.shelved.ms s.args.bytes.now s.args.done g.room,
+      λ g. going-none g.own g.shelved.ms s.args.bytes-1.now s.args.done g.room,
     ))
-    (λ c κs. at c.before (entered c.before).pre)
-    (λ c. omega (arith, c.before.before.before.before.loop-test.true))
-    (λ c. omega (arith, c.before.before.before.before.loop-test.true))
+    (λ c κs. at c.before (entered c.before).requires)
+    (λ c. omega (arith, c.before.before.before.before.loop-k-test.true))
+    (λ c. omega (arith, c.before.before.before.before.loop-k-test.true))
     loop-again
-    (λ c. c.before.loop.invariant.0)
-    (λ c g. going-all (c.before.loop.invariant.2 g) (omega (arith, c.loop-test.false, g.shelved.all))))
+    (λ c. c.before.loop-k.invariant.0)
+    (λ c g. going-all (c.before.loop-k.invariant.2 g) (omega (arith, c.loop-k-test.false, g.shelved.all))))

@@ -10,52 +10,52 @@ use Rattle.write_joined.proofs.gathering.gather_one.Statement.{statement}
 use Rattle.write_joined.proofs.gathering.gather_one.Tie as tie
 
 -- The function's entry, and the place where the module's number has been read.
-abbrev entered : tie.After-slice-known → tie.Start
+abbrev entered : tie.After-slice_known-1 → tie.Start
 entered s = s.before.before.before.before.before
 
-abbrev numbered : tie.After-shared-slice-known5 → tie.After-entry
+abbrev numbered : tie.After-shared_slice_known-5-1 → tie.After-entry
 numbered c = c.before
 
 -- From where the places are known, and from where the part is copied, to that place.
-abbrev placed : tie.After-shared-slice-known7 → tie.After-shared-slice-known5
+abbrev placed : tie.After-shared_slice_known-7-1 → tie.After-shared_slice_known-5-1
 placed c = c.before.before.before
 
-abbrev lacked : tie.After-copy-arg2 → tie.Else1
+abbrev lacked : tie.After-copy-arg-2-1 → tie.Else-marks-entry-ne0
 lacked c = c.before.before.before.before.before
 
 index : (n : tie.After-entry) → n.entry.result < length (entered n.before).args.marks.now
 index n = omega (arith, n.entry.ensures, (entered n.before).requires.index)
 
-returns : tie.Need-returns
+returns : tie.Need-returns-then-marks-entry-ne0
 returns c a =
     let n = numbered c.before in
     let s = entered n.before in
-    takes_none s.args.bytes.now s.args.done
-    (marked-lacks a.m a.marked (n.entry.ensures ∙ a.shelved.named.name s.args.k a.here) c.if1.true)
+    takes_none s.args.bytes-1.now s.args.done
+    (marked-lacks a.m a.marked (n.entry.ensures ∙ a.shelved.named.name s.args.k a.here) c.if-marks-entry-ne0.true)
 
-returns-2 : tie.Need-returns-2
+returns-2 : tie.Need-returns
 returns-2 c a =
     let p = c.before.before.before in
     let n = numbered (lacked p).before in
     let s = entered n.before in
     takes_one s.args.done.modules s.args.done.at _
-    (unmarked-lacks a.m a.marked (n.entry.ensures ∙ a.shelved.named.name s.args.k a.here) (lacked p).if1.false)
+    (unmarked-lacks a.m a.marked (n.entry.ensures ∙ a.shelved.named.name s.args.k a.here) (lacked p).if-marks-entry-ne0.false)
     (part-is a)
     c.before.before.copy.ensures
 
 -- At the copy, what the module at the position asks.
-abbrev asked : tie.After-struct-known → tie.Start
+abbrev asked : tie.After-struct_known-1 → tie.Start
 asked c = entered (numbered (placed c.before)).before
 
 copy-requires : tie.Need-copy-requires
 copy-requires c κs =
     let n = numbered (lacked c).before in
     let s = entered n.before in
-    let a = s.pre in
-    part-fits a (unmarked-lacks a.m a.marked (n.entry.ensures ∙ a.shelved.named.name s.args.k a.here) (lacked c).if1.false)
+    let a = s.requires in
+    part-fits a (unmarked-lacks a.m a.marked (n.entry.ensures ∙ a.shelved.named.name s.args.k a.here) (lacked c).if-marks-entry-ne0.false)
 
-pub gather-one-spec : {M : Type 1} → statement M
-gather-one-spec =
+pub gather_one_spec : {M : Type 1} → statement M
+gather_one_spec =
     tie.close
     (tie.spec
     (λ c κs. name-listed (entered c).requires)

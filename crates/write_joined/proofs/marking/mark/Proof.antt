@@ -10,38 +10,38 @@ use Rattle.write_joined.proofs.Marked.{marks-none, marks-more}
 use Rattle.write_joined.proofs.marking.mark.Statement.{statement}
 use Rattle.write_joined.proofs.marking.mark.Tie as tie
 
-abbrev invariant-loop : tie.invariant-loop
+abbrev invariant-loop : tie.invariant-loop-k
 invariant-loop names modules marks₀ k₀ marks k =
     (length marks ≡ length marks₀) × (k ≤ modules) × ((s : Searchable names modules) → Marks marks (drop k s.ms))
 
-abbrev decreases-loop : tie.decreases-loop
+abbrev decreases-loop : tie.decreases-loop-k
 decreases-loop names modules marks₀ k₀ marks k = k
 
 -- In a turn the module's number is listed, and is an index of the table.
-abbrev entered : tie.In-loop invariant-loop decreases-loop → tie.Start invariant-loop decreases-loop
+abbrev entered : tie.In-loop-k invariant-loop decreases-loop → tie.Start invariant-loop decreases-loop
 entered c = c.before.before.before.before
 
-listed : (c : tie.In-loop invariant-loop decreases-loop) → c.before.loop.k - 1 < length (entered c).args.names.now
-listed c = let p = (entered c).requires.search in omega (arith, c.loop-test.true, c.before.loop.invariant.1, p.all, p.listed)
+listed : (c : tie.In-loop-k invariant-loop decreases-loop) → c.before.loop-k.k - 1 < length (entered c).args.names.now
+listed c = let p = (entered c).requires.search in omega (arith, c.loop-k-test.true, c.before.loop-k.invariant.1, p.all, p.listed)
 
-index : (c : tie.In-loop invariant-loop decreases-loop) → get_or (entered c).args.names.now (c.before.loop.k - 1) 0 < length c.before.loop.marks
+index : (c : tie.In-loop-k invariant-loop decreases-loop) → get_or (entered c).args.names.now (c.before.loop-k.k - 1) 0 < length c.before.loop-k.marks
 index c =
-    let l = c.before.loop in
-    omega (arith, (entered c).requires.indexed (l.k - 1) (omega (arith, c.loop-test.true, l.invariant.1)), l.invariant.0)
+    let l = c.before.loop-k in
+    omega (arith, (entered c).requires.indexed (l.k - 1) (omega (arith, c.loop-k-test.true, l.invariant.1)), l.invariant.0)
 
-loop-again : tie.Need-loop-preserved invariant-loop decreases-loop
+loop-again : tie.Need-loop-k-preserved invariant-loop decreases-loop
 loop-again c =
     let t = c.before in
-    let l = t.before.loop in
-    let back : l.k ≡ l.k - 1 + 1 = omega (arith, t.loop-test.true) in (
+    let l = t.before.loop-k in
+    let back : l.k ≡ l.k - 1 + 1 = omega (arith, t.loop-k-test.true) in (
       length-set l.marks _ 1 ∙ l.invariant.0,
       omega (arith, l.invariant.1),
       λ s.
-          let h = here-at s.ms (l.k - 1) (omega (arith, t.loop-test.true, l.invariant.1, s.all)) in
+          let h = here-at s.ms (l.k - 1) (omega (arith, t.loop-k-test.true, l.invariant.1, s.all)) in
           let later : Marks l.marks h.later
           = subst (Marks l.marks) h.after (subst (λ (n : ℕ). Marks l.marks (drop n s.ms)) back (l.invariant.2 s)) in
           subst (Marks _) (sym h.here)
-          (marks-more h.m later (c.entry.ensures ∙ s.name (l.k - 1) h.here) (omega (arith, index t, c.entry.ensures))),
+          (marks-more h.m later (c.entry-x.ensures ∙ s.name (l.k - 1) h.here) (omega (arith, index t, c.entry-x.ensures))),
     )
 
 pub mark_spec : {M : Type 1} → statement M
@@ -56,10 +56,10 @@ mark_spec =
       omega arith,
       λ m. subst (Marks _) (sym (drop_of_length-le m.ms {i = s.args.modules} (omega (arith, m.all)))) (marks-none s.requires.clear),
     ))
-    (λ c. omega (arith, c.loop-test.true))
+    (λ c. omega (arith, c.loop-k-test.true))
     (λ c κs. listed c)
-    (λ c. omega (arith, index c.before, c.entry.ensures))
-    (λ c. omega (arith, c.before.loop-test.true))
+    (λ c. omega (arith, index c.before, c.entry-x.ensures))
+    (λ c. omega (arith, c.before.loop-k-test.true))
     loop-again
-    (λ c. c.before.loop.invariant.0)
-    (λ c s. let done : c.before.loop.k ≡ 0 = omega (arith, c.loop-test.false) in subst (λ (n : ℕ). Marks c.before.loop.marks (drop n s.ms)) done (c.before.loop.invariant.2 s)))
+    (λ c. c.before.loop-k.invariant.0)
+    (λ c s. let done : c.before.loop-k.k ≡ 0 = omega (arith, c.loop-k-test.false) in subst (λ (n : ℕ). Marks c.before.loop-k.marks (drop n s.ms)) done (c.before.loop-k.invariant.2 s)))

@@ -6,16 +6,16 @@ use Rattle.write_order.proofs.Answering.{answers-short, answers-file}
 use Rattle.write_order.proofs.answer.answer.Statement.{statement}
 use Rattle.write_order.proofs.answer.answer.Tie as tie
 
-returns : tie.Need-returns
+returns : tie.Need-returns-then-bytes-out
 returns c =
     let branch = c.before.before.before.before in
     let args = branch.before.before.before.args in
-    answers-file args.bytes.now args.out.now branch.if1.true (put_front c.before.before.copy.ensures)
+    answers-file args.bytes.now args.out-1.now branch.if-bytes-out.true (put_front c.before.before.copy.ensures)
 
-returns-2 : tie.Need-returns-2
+returns-2 : tie.Need-returns-else-bytes-out
 returns-2 c =
     let args = c.before.before.before.args in
-    answers-short args.bytes.now args.out.now (omega arith)
+    answers-short args.bytes.now args.out-1.now (omega arith)
 
-pub answer-spec : {M : Type 1} → statement M
-answer-spec = tie.close (tie.spec (λ c κs. search rules) (λ c. search rules) returns returns-2)
+pub answer_spec : {M : Type 1} → statement M
+answer_spec = tie.close (tie.spec (λ c κs. search rules) (λ c. search rules) returns returns-2)

@@ -14,15 +14,15 @@ returns c =
     let answered = c.before.before in
     let filled = answered.before.before.before.before.before in
     let args = filled.before.before.before.before.args in
-    answers-laid (encode (modules_of args.order args.width)) args.out.now filled.file.ensures answered.answer.ensures
+    answers-laid (encode (modules_of args.order args.width)) args.out-1.now filled.file-count.ensures answered.answer.ensures
 
-pub by-list-spec : {M : Type 1} → statement M
-by-list-spec =
+pub by_list_spec : {M : Type 1} → statement M
+by_list_spec =
     tie.close
     (tie.spec
     (λ c κs. search rules)
-    (λ c. front-within c.before.before.file.ensures)
-    (λ c. sym (length-take-le _ _ (front-within c.before.before.before.file.ensures)))
+    (λ c. front-within c.before.before.file-count.ensures)
+    (λ c. sym (length-take-le _ _ (front-within c.before.before.before.file-count.ensures)))
     (λ c κs. search rules)
     (λ c. search rules)
     (λ c. search rules)

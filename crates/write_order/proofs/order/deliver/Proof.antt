@@ -19,23 +19,23 @@ long-enough FastAdder width most = omega arith
 long-enough Counter width most = omega arith
 long-enough Alu width most = omega arith
 
-abbrev start : tie.After-enough → tie.Start
+abbrev start : tie.After-enough-bytes → tie.Start
 start c = c.before.before
 
-returns : tie.Need-returns
+returns : tie.Need-returns-then-bytes-out
 returns c =
     let after = c.before.before in
     let args = (start after.before.before.before).args in
-    answers-file (encode (modules_of args.order args.width)) args.out.now (omega (arith, front-within after.file.ensures))
+    answers-file (encode (modules_of args.order args.width)) args.out-1.now (omega (arith, front-within after.file.ensures))
     after.file.ensures
 
-by-list-requires-2 : tie.Need-by-list-requires-2
+by-list-requires-2 : tie.Need-by_list-requires-2
 by-list-requires-2 c κs =
     let begin = start c.before.before.before.before in
-    (begin.pre.0, begin.pre.1, long-enough begin.args.order begin.args.width begin.pre.1)
+    (begin.requires.0, begin.requires.1, long-enough begin.args.order begin.args.width begin.requires.1)
 
-pub deliver-spec : {M : Type 1} → statement M
-deliver-spec =
+pub deliver_spec : {M : Type 1} → statement M
+deliver_spec =
     tie.close
     (tie.spec
     (λ c κs. search rules)

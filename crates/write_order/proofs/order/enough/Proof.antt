@@ -3,8 +3,8 @@ use borrow.Author.Rules.{rules}
 use Rattle.write_order.proofs.order.enough.Statement.{statement}
 use Rattle.write_order.proofs.order.enough.Tie as tie
 
-pub enough-spec : {M : Type 1} → statement M
-enough-spec =
+pub enough_spec : {M : Type 1} → statement M
+enough_spec =
     tie.close
     (tie.spec
     (λ c. search rules)
@@ -15,7 +15,7 @@ enough-spec =
     (λ c. search rules)
     (λ c. search rules)
     (λ c. search rules)
-    (λ c. rw c.enum_told.given.1)
-    (λ c. rw c.enum-told2.given.1)
-    (λ c. rw c.enum-told3.given.1)
-    (λ c. rw c.enum-told4.given.1))
+    (λ c. rw c.enum_told-1.given.1)
+    (λ c. rw c.enum_told-in-FastAdder-1.given.1)
+    (λ c. rw c.enum_told-in-Counter-1.given.1)
+    (λ c. rw c.enum_told-in-Alu-1.given.1))

@@ -8,48 +8,48 @@ use Rattle.write_order.specs.Orders.{enough_for}
 use Rattle.write_order.proofs.order.file.Statement.{statement}
 use Rattle.write_order.proofs.order.file.Tie as tie
 
-returns : tie.Need-returns
-returns c = rw c.before.before.before.before.enum_told.given.1 c.before.before.file.ensures
+returns : tie.Need-returns-in-Adder
+returns c = rw c.before.before.before.before.enum_told-1.given.1 c.before.before.file.ensures
 
-returns-2 : tie.Need-returns-2
-returns-2 c = rw c.before.before.before.before.enum-told2.given.1 c.before.before.file2.ensures
+returns-2 : tie.Need-returns-in-FastAdder
+returns-2 c = rw c.before.before.before.before.enum_told-in-FastAdder-1.given.1 c.before.before.file-in-FastAdder.ensures
 
-returns-3 : tie.Need-returns-3
-returns-3 c = rw c.before.before.before.before.enum-told3.given.1 c.before.before.file3.ensures
+returns-3 : tie.Need-returns-in-Counter
+returns-3 c = rw c.before.before.before.before.enum_told-in-Counter-1.given.1 c.before.before.file-in-Counter.ensures
 
-returns-4 : tie.Need-returns-4
-returns-4 c = rw c.before.before.before.before.enum-told4.given.1 c.before.before.file4.ensures
+returns-4 : tie.Need-returns-in-Alu
+returns-4 c = rw c.before.before.before.before.enum_told-in-Alu-1.given.1 c.before.before.file-in-Alu.ensures
 
 file-requires : tie.Need-file-requires
 file-requires c κs =
     let told = c.before in
     let start = told.before.before.before in
-    let room = subst (λ o. enough_for o start.args.width ≤ length start.args.bytes.now) told.enum_told.given.1 start.requires.2 in
+    let room = subst (λ o. enough_for o start.args.width ≤ length start.args.bytes-1.now) told.enum_told-1.given.1 start.requires.2 in
     (start.requires.0, start.requires.1, room)
 
-file-requires-2 : tie.Need-file-requires-2
+file-requires-2 : tie.Need-file-requires-in-FastAdder
 file-requires-2 c κs =
     let told = c.before in
     let start = told.before.before.before in
-    let room = subst (λ o. enough_for o start.args.width ≤ length start.args.bytes.now) told.enum-told2.given.1 start.requires.2 in
+    let room = subst (λ o. enough_for o start.args.width ≤ length start.args.bytes-1.now) told.enum_told-in-FastAdder-1.given.1 start.requires.2 in
     (start.requires.0, start.requires.1, room)
 
-file-requires-3 : tie.Need-file-requires-3
+file-requires-3 : tie.Need-file-requires-in-Counter
 file-requires-3 c κs =
     let told = c.before in
     let start = told.before.before.before in
-    let room = subst (λ o. enough_for o start.args.width ≤ length start.args.bytes.now) told.enum-told3.given.1 start.requires.2 in
+    let room = subst (λ o. enough_for o start.args.width ≤ length start.args.bytes-1.now) told.enum_told-in-Counter-1.given.1 start.requires.2 in
     (start.requires.0, start.requires.1, omega arith)
 
-file-requires-4 : tie.Need-file-requires-4
+file-requires-4 : tie.Need-file-requires-in-Alu
 file-requires-4 c κs =
     let told = c.before in
     let start = told.before.before.before in
-    let room = subst (λ o. enough_for o start.args.width ≤ length start.args.bytes.now) told.enum-told4.given.1 start.requires.2 in
+    let room = subst (λ o. enough_for o start.args.width ≤ length start.args.bytes-1.now) told.enum_told-in-Alu-1.given.1 start.requires.2 in
     (start.requires.0, start.requires.1, room)
 
-pub file-spec : {M : Type 1} → statement M
-file-spec =
+pub file_spec : {M : Type 1} → statement M
+file_spec =
     tie.close
     (tie.spec
     (λ c. search rules)

@@ -6,21 +6,21 @@ use Rattle.write_order.proofs.Answering.{answers-narrow, answers-wide, writing-f
 use Rattle.write_order.proofs.order.write.Statement.{statement}
 use Rattle.write_order.proofs.order.write.Tie as tie
 
-returns : tie.Need-returns
+returns : tie.Need-returns-in-1-to-64
 returns c =
     let args = c.before.before.before.before.before.before.before.args in
-    rw (writing-fitting (modules_of args.order) args.width args.out.now (omega arith) (omega arith))
+    rw (writing-fitting (modules_of args.order) args.width args.out-1.now (omega arith) (omega arith))
     c.before.before.deliver.ensures
 
-returns-2 : tie.Need-returns-2
+returns-2 : tie.Need-returns-in_default
 returns-2 c =
     let args = c.before.before.args in
-    answers-narrow (modules_of args.order) args.width args.out.now c.if1.true
+    answers-narrow (modules_of args.order) args.width args.out-1.now c.if-width-lt1.true
 
-returns-3 : tie.Need-returns-3
+returns-3 : tie.Need-returns-in_default-2
 returns-3 c =
     let args = c.before.before.before.args in
-    answers-wide (modules_of args.order) args.width args.out.now c.if2.false
+    answers-wide (modules_of args.order) args.width args.out-1.now c.if-width-lt65.false
 
 pub write_spec : {M : Type 1} → statement M
 write_spec =

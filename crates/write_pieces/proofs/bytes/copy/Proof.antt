@@ -10,31 +10,31 @@ use Rattle.write_pieces.specs.Runs.{rest-of-list}
 use Rattle.write_pieces.proofs.bytes.copy.Statement.{statement}
 use Rattle.write_pieces.proofs.bytes.copy.Tie as tie
 
-abbrev invariant-loop : tie.invariant-loop
+abbrev invariant-loop : tie.invariant-loop-i
 invariant-loop piece bytes₀ at at₀ i₀ i-end bytes at' i = Laying piece (drop i piece) bytes₀ at bytes at'
 
-abbrev decreases-loop : tie.decreases-loop
+abbrev decreases-loop : tie.decreases-loop-i
 decreases-loop piece bytes₀ at at₀ i₀ i-end bytes at' i = i-end - i
 
-loop-holds : tie.Need-loop-init invariant-loop decreases-loop
+loop-holds : tie.Need-loop-i-init invariant-loop decreases-loop
 loop-holds c = laying-none c.args.bytes.now c.args.at refl c.requires
 
 -- In a turn an entry is left, and there is room for it.
-room : (c : tie.In-loop invariant-loop decreases-loop)
-    → (length c.before.loop.bytes ≡ length c.before.before.args.bytes.now)
-    × (c.before.loop.at + 1 ≤ length c.before.before.args.bytes.now)
+room : (c : tie.In-loop-i invariant-loop decreases-loop)
+    → (length c.before.loop-i.bytes ≡ length c.before.before.args.bytes.now)
+    × (c.before.loop-i.at + 1 ≤ length c.before.before.args.bytes.now)
 room c =
-    laying-room c.before.loop.invariant (_ ∷ []) _
-    (rest-of-list c.before.before.args.piece.now c.before.loop.i c.loop-test.true)
+    laying-room c.before.loop-i.invariant (_ ∷ []) _
+    (rest-of-list c.before.before.args.piece.now c.before.loop-i.i c.loop-i-test.true)
 
-loop-again : tie.Need-loop-preserved invariant-loop decreases-loop
+loop-again : tie.Need-loop-i-preserved invariant-loop decreases-loop
 loop-again c =
     let turn = c.before in
-    laying_store turn.before.loop.invariant
-    (rest-of-list turn.before.before.args.piece.now turn.before.loop.i turn.loop-test.true)
+    laying_store turn.before.loop-i.invariant
+    (rest-of-list turn.before.before.args.piece.now turn.before.loop-i.i turn.loop-i-test.true)
 
 returns : tie.Need-returns invariant-loop decreases-loop
-returns c = laying-all c.before.loop.invariant (drop_of_length-le c.before.before.args.piece.now c.loop-test.false)
+returns c = laying-all c.before.loop-i.invariant (drop_of_length-le c.before.before.args.piece.now c.loop-i-test.false)
 
 pub copy_spec : {M : Type 1} → statement M
 copy_spec =
@@ -49,5 +49,5 @@ copy_spec =
     (λ c. omega arith)
     (λ c. omega arith)
     loop-again
-    (λ c. laying-length c.before.loop.invariant)
+    (λ c. laying-length c.before.loop-i.invariant)
     returns)

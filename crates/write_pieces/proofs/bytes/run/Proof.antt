@@ -12,37 +12,37 @@ use Rattle.write_pieces.specs.Runs.{whole_run, rest-of-run, no_run}
 use Rattle.write_pieces.proofs.bytes.run.Statement.{statement}
 use Rattle.write_pieces.proofs.bytes.run.Tie as tie
 
-abbrev invariant-loop : tie.invariant-loop
+abbrev invariant-loop : tie.invariant-loop-i
 invariant-loop first count bytes₀ at at₀ i₀ bytes at' i =
     Laying (up_from first count) (up_from (first + i) (count - i)) bytes₀ at bytes at'
 
-abbrev decreases-loop : tie.decreases-loop
+abbrev decreases-loop : tie.decreases-loop-i
 decreases-loop first count bytes₀ at at₀ i₀ bytes at' i = count - i
 
-loop-holds : tie.Need-loop-init invariant-loop decreases-loop
+loop-holds : tie.Need-loop-i-init invariant-loop decreases-loop
 loop-holds c =
     laying-none c.args.bytes.now c.args.at
     (whole_run c.args.first c.args.count)
     (omega (arith, length-up_from c.args.first c.args.count))
 
 -- In a turn a number is left, and there is room for it.
-room : (c : tie.In-loop invariant-loop decreases-loop)
-    → (length c.before.loop.bytes ≡ length c.before.before.args.bytes.now)
-    × (c.before.loop.at + 1 ≤ length c.before.before.args.bytes.now)
+room : (c : tie.In-loop-i invariant-loop decreases-loop)
+    → (length c.before.loop-i.bytes ≡ length c.before.before.args.bytes.now)
+    × (c.before.loop-i.at + 1 ≤ length c.before.before.args.bytes.now)
 room c =
     let args = c.before.before.args in
-    laying-room c.before.loop.invariant (_ ∷ []) _
-    (rest-of-run args.first args.count c.before.loop.i c.loop-test.true)
+    laying-room c.before.loop-i.invariant (_ ∷ []) _
+    (rest-of-run args.first args.count c.before.loop-i.i c.loop-i-test.true)
 
-loop-again : tie.Need-loop-preserved invariant-loop decreases-loop
+loop-again : tie.Need-loop-i-preserved invariant-loop decreases-loop
 loop-again c =
     let args = c.before.before.args in
-    laying_store c.before.loop.invariant (rest-of-run args.first args.count c.before.loop.i c.loop-test.true)
+    laying_store c.before.loop-i.invariant (rest-of-run args.first args.count c.before.loop-i.i c.loop-i-test.true)
 
 returns : tie.Need-returns invariant-loop decreases-loop
 returns c =
     let args = c.before.before.args in
-    laying-all c.before.loop.invariant (no_run args.first args.count c.before.loop.i c.loop-test.false)
+    laying-all c.before.loop-i.invariant (no_run args.first args.count c.before.loop-i.i c.loop-i-test.false)
 
 pub run_spec : {M : Type 1} → statement M
 run_spec =
@@ -57,5 +57,5 @@ run_spec =
     (λ c. omega arith)
     (λ c. omega arith)
     loop-again
-    (λ c. laying-length c.before.loop.invariant)
+    (λ c. laying-length c.before.loop-i.invariant)
     returns)

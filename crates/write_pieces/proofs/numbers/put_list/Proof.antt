@@ -14,43 +14,43 @@ use Rattle.write_pieces.specs.Runs.{rest-of-list}
 use Rattle.write_pieces.proofs.numbers.put_list.Statement.{statement}
 use Rattle.write_pieces.proofs.numbers.put_list.Tie as tie
 
-abbrev invariant-loop : tie.invariant-loop
+abbrev invariant-loop : tie.invariant-loop-i
 invariant-loop numbers bytes₀ at at₀ i₀ i-end bytes at' i =
     Laying (each number_bytes numbers) (each number_bytes (drop i numbers)) bytes₀ at bytes at'
 
-abbrev decreases-loop : tie.decreases-loop
+abbrev decreases-loop : tie.decreases-loop-i
 decreases-loop numbers bytes₀ at at₀ i₀ i-end bytes at' i = i-end - i
 
-abbrev start : tie.In-loop invariant-loop decreases-loop → tie.Start invariant-loop decreases-loop
+abbrev start : tie.In-loop-i invariant-loop decreases-loop → tie.Start invariant-loop decreases-loop
 start c = c.before.before.before.before
 
 -- In a turn the bytes of a number come first of those left.
-next : (c : tie.In-loop invariant-loop decreases-loop)
-    → each number_bytes (drop c.before.loop.i (start c).args.numbers.now)
-    ≡ number_bytes (get_or (start c).args.numbers.now c.before.loop.i 0)
-    ++ each number_bytes (drop (c.before.loop.i + 1) (start c).args.numbers.now)
-next c = bytes-of-next (rest-of-list (start c).args.numbers.now c.before.loop.i c.loop-test.true)
+next : (c : tie.In-loop-i invariant-loop decreases-loop)
+    → each number_bytes (drop c.before.loop-i.i (start c).args.numbers.now)
+    ≡ number_bytes (get_or (start c).args.numbers.now c.before.loop-i.i 0)
+    ++ each number_bytes (drop (c.before.loop-i.i + 1) (start c).args.numbers.now)
+next c = bytes-of-next (rest-of-list (start c).args.numbers.now c.before.loop-i.i c.loop-i-test.true)
 
-put-requires : tie.Need-put-requires invariant-loop decreases-loop
+put-requires : tie.Need-put-at-requires invariant-loop decreases-loop
 put-requires c κs =
     let turn = c.before.before in
-    let loop = turn.before.loop in (
-      all-at (start turn).requires.0 loop.i 0 turn.loop-test.true,
+    let loop = turn.before.loop-i in (
+      all-at (start turn).requires.0 loop.i 0 turn.loop-i-test.true,
       omega (arith, laying-room loop.invariant (number_bytes _) _ (next turn)),
     )
 
-loop-again : tie.Need-loop-preserved invariant-loop decreases-loop
+loop-again : tie.Need-loop-i-preserved invariant-loop decreases-loop
 loop-again c =
     let turn = c.before.before.before.before.before in
-    laying-more turn.before.loop.invariant (number_bytes _) _ (next turn) c.before.before.put.ensures
+    laying-more turn.before.loop-i.invariant (number_bytes _) _ (next turn) c.before.before.put-at.ensures
 
 returns : tie.Need-returns invariant-loop decreases-loop
 returns c =
     let args = c.before.before.before.before.args in
-    laying-all c.before.loop.invariant (no_bytes (drop_of_length-le args.numbers.now c.loop-test.false))
+    laying-all c.before.loop-i.invariant (no_bytes (drop_of_length-le args.numbers.now c.loop-i-test.false))
 
-pub put-list-spec : {M : Type 1} → statement M
-put-list-spec =
+pub put_list_spec : {M : Type 1} → statement M
+put_list_spec =
     tie.close
     (tie.spec
     invariant-loop
@@ -62,5 +62,5 @@ put-list-spec =
     (λ c. omega arith)
     (λ c. omega arith)
     loop-again
-    (λ c. laying-length c.before.loop.invariant)
+    (λ c. laying-length c.before.loop-i.invariant)
     returns)

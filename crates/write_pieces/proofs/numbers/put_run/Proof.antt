@@ -13,49 +13,49 @@ use Rattle.write_pieces.specs.Runs.{whole_run, rest-of-run, no_run}
 use Rattle.write_pieces.proofs.numbers.put_run.Statement.{statement}
 use Rattle.write_pieces.proofs.numbers.put_run.Tie as tie
 
-abbrev invariant-loop : tie.invariant-loop
+abbrev invariant-loop : tie.invariant-loop-i
 invariant-loop first count bytes₀ at at₀ i₀ bytes at' i =
     Laying (each number_bytes (up_from first count)) (each number_bytes (up_from (first + i) (count - i))) bytes₀ at bytes at'
 
-abbrev decreases-loop : tie.decreases-loop
+abbrev decreases-loop : tie.decreases-loop-i
 decreases-loop first count bytes₀ at at₀ i₀ bytes at' i = count - i
 
-loop-holds : tie.Need-loop-init invariant-loop decreases-loop
+loop-holds : tie.Need-loop-i-init invariant-loop decreases-loop
 loop-holds c =
     let start = c.before in
-    laying-none start.args.bytes.now start.args.at
+    laying-none start.args.bytes-1.now start.args.at
     (ap (each number_bytes) (whole_run start.args.first start.args.count))
     start.requires.1.fits
 
-abbrev start : tie.In-loop invariant-loop decreases-loop → tie.Start invariant-loop decreases-loop
+abbrev start : tie.In-loop-i invariant-loop decreases-loop → tie.Start invariant-loop decreases-loop
 start c = c.before.before.before
 
 -- In a turn the bytes of a number come first of those left.
-next : (c : tie.In-loop invariant-loop decreases-loop)
+next : (c : tie.In-loop-i invariant-loop decreases-loop)
     → (let first = (start c).args.first in
     let count = (start c).args.count in
-    let i = c.before.loop.i in
+    let i = c.before.loop-i.i in
     each number_bytes (up_from (first + i) (count - i))
     ≡ number_bytes (first + i) ++ each number_bytes (up_from (first + (i + 1)) (count - (i + 1))))
-next c = bytes-of-next (rest-of-run (start c).args.first (start c).args.count c.before.loop.i c.loop-test.true)
+next c = bytes-of-next (rest-of-run (start c).args.first (start c).args.count c.before.loop-i.i c.loop-i-test.true)
 
-put-requires : tie.Need-put-requires invariant-loop decreases-loop
+put-requires : tie.Need-put-at-requires invariant-loop decreases-loop
 put-requires c κs =
     let turn = c.before in
-    omega (arith, (start turn).requires, laying-room turn.before.loop.invariant (number_bytes _) _ (next turn))
+    omega (arith, (start turn).requires, laying-room turn.before.loop-i.invariant (number_bytes _) _ (next turn))
 
-loop-again : tie.Need-loop-preserved invariant-loop decreases-loop
+loop-again : tie.Need-loop-i-preserved invariant-loop decreases-loop
 loop-again c =
     let turn = c.before.before.before.before in
-    laying-more turn.before.loop.invariant (number_bytes _) _ (next turn) c.before.before.put.ensures
+    laying-more turn.before.loop-i.invariant (number_bytes _) _ (next turn) c.before.before.put-at.ensures
 
 returns : tie.Need-returns invariant-loop decreases-loop
 returns c =
     let args = c.before.before.before.args in
-    laying-all c.before.loop.invariant (no_bytes (no_run args.first args.count c.before.loop.i c.loop-test.false))
+    laying-all c.before.loop-i.invariant (no_bytes (no_run args.first args.count c.before.loop-i.i c.loop-i-test.false))
 
-pub put-run-spec : {M : Type 1} → statement M
-put-run-spec =
+pub put_run_spec : {M : Type 1} → statement M
+put_run_spec =
     tie.close
     (tie.spec
     invariant-loop
@@ -66,5 +66,5 @@ put-run-spec =
     (λ c. omega arith)
     (λ c. omega arith)
     loop-again
-    (λ c. laying-length c.before.loop.invariant)
+    (λ c. laying-length c.before.loop-i.invariant)
     returns)

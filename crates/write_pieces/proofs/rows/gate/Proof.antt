@@ -13,5 +13,5 @@ returns : tie.Need-returns
 unfolding occurrence_numbers
 returns c = c.before.before.copy.ensures
 
-pub gate-spec : {M : Type 1} → statement M
-gate-spec = tie.close (tie.spec (λ c. search rules) copy-requires (λ c. search rules) returns)
+pub gate_spec : {M : Type 1} → statement M
+gate_spec = tie.close (tie.spec (λ c. search rules) copy-requires (λ c. search rules) returns)

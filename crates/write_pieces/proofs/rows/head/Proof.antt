@@ -6,36 +6,36 @@ use Rattle.write_pieces.specs.Laying.{laying-start, laying-left, laying-put, lay
 use Rattle.write_pieces.proofs.rows.head.Statement.{statement}
 use Rattle.write_pieces.proofs.rows.head.Tie as tie
 
-copy-requires : tie.Need-copy-requires
+copy-requires : tie.Need-copy-bits-requires
 unfolding head_numbers
 copy-requires c κs = omega arith
 
-row-requires : tie.Need-row-requires
+row-requires : tie.Need-row-answers-requires
 unfolding head_numbers
 row-requires c κs =
     let first = c.before.before.before in
     let start = first.before.before.before.before in
-    (omega arith, room-first _ (laying-left (laying-put first.copy.ensures (laying-start start.requires.1))))
+    (omega arith, room-first _ (laying-left (laying-put first.copy-bits.ensures (laying-start start.requires.1))))
 
-row-requires-2 : tie.Need-row-requires-2
+row-requires-2 : tie.Need-row-count-requires
 unfolding head_numbers
 row-requires-2 c κs =
     let second = c.before.before.before in
     let first = second.before.before.before.before in
     let start = first.before.before.before.before in
-    let one = laying-put first.copy.ensures (laying-start start.requires.1) in
-    (start.requires.0, room-first _ (laying-left (laying-put second.row.ensures one)))
+    let one = laying-put first.copy-bits.ensures (laying-start start.requires.1) in
+    (start.requires.0, room-first _ (laying-left (laying-put second.row-answers.ensures one)))
 
-copy-requires-2 : tie.Need-copy-requires-2
+copy-requires-2 : tie.Need-copy-requires
 unfolding head_numbers
 copy-requires-2 c κs =
     let third = c.before.before.before.before in
     let second = third.before.before.before.before in
     let first = second.before.before.before.before in
     let start = first.before.before.before.before in
-    let one = laying-put first.copy.ensures (laying-start start.requires.1) in
-    let two = laying-put second.row.ensures one in
-    omega (arith, laying-left (laying-put third.row2.ensures two))
+    let one = laying-put first.copy-bits.ensures (laying-start start.requires.1) in
+    let two = laying-put second.row-answers.ensures one in
+    omega (arith, laying-left (laying-put third.row-count.ensures two))
 
 returns : tie.Need-returns
 unfolding head_numbers
@@ -45,9 +45,9 @@ returns c =
     let second = third.before.before.before.before in
     let first = second.before.before.before.before in
     let start = first.before.before.before.before in
-    let one = laying-put first.copy.ensures (laying-start start.requires.1) in
-    let two = laying-put second.row.ensures one in
-    laying-last fourth.copy2.ensures (laying-put third.row2.ensures two)
+    let one = laying-put first.copy-bits.ensures (laying-start start.requires.1) in
+    let two = laying-put second.row-answers.ensures one in
+    laying-last fourth.copy.ensures (laying-put third.row-count.ensures two)
 
 pub head_spec : {M : Type 1} → statement M
 head_spec =

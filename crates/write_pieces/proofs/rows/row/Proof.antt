@@ -16,8 +16,8 @@ returns c =
     let second = c.before.before in
     let first = second.before.before.before.before in
     let args = first.before.before.before.before.args in
-    rw (length-up_from args.first args.count) (put-more first.copy.ensures (omega arith) second.run.ensures)
+    rw (length-up_from args.first args.count) (put-more first.copy-list.ensures (omega arith) second.run.ensures)
 
-pub row-spec : {M : Type 1} → statement M
-row-spec =
+pub row_spec : {M : Type 1} → statement M
+row_spec =
     tie.close (tie.spec (λ c. search rules) (λ c κs. search rules) run-requires (λ c. search rules) returns)

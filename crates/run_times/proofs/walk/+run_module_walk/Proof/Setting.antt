@@ -26,9 +26,9 @@ use Rattle.run_times.proofs.walk.walk.Reads as walk
 use Rattle.run_times.proofs.walk.walk.Kinds as walk-kinds
 use Rattle.run_times.proofs.walk.+run_module_walk.Lts-walk as walk-lts
 use Rattle.gates.proofs.kind_of.Reads as kind-of-reads
-use Rattle.run_times.proofs.gate.at_gate.Reads as at-gate-reads
+use Rattle.run_times.proofs.gate.at_gate-times.Reads as at-gate-reads
 use Rattle.image.proofs.places.module_at.Reads as module-at-reads
-use Rattle.image.proofs.places.occurrence_at.Reads as occurrence-at-reads
+use Rattle.image.proofs.places.occurrence_at-o.Reads as occurrence-at-reads
 use Rattle.run_walk.proofs.slots.copy.Reads as copy-reads
 
 abbrev pub μ-run-module : Measures 5 run-module-kinds.ps ℕ
@@ -68,12 +68,12 @@ walk-claims t = (
   run-module.Post,
 )
 
-abbrev pub Inv-loop : walk-lts.invariant-loop
+abbrev pub Inv-loop : walk-lts.invariant-loop-left
 Inv-loop family image starts nets k units₀ others₀ frame at₀ left₀ filled₀ units others at left filled =
     Walking (times_work one_each) image starts nets k units₀ at₀ left₀ filled₀ at left filled units
     × Walking (times_work (delay_in family.delays)) image starts nets k others₀ at₀ left₀ filled₀ at left filled others
 
-abbrev pub μ-loop : walk-lts.decreases-loop
+abbrev pub μ-loop : walk-lts.decreases-loop-left
 μ-loop family image starts nets k units₀ others₀ frame at₀ left₀ filled₀ units others at left filled = left
 
 -- The module's own occurrences are all ahead at first.
@@ -94,16 +94,16 @@ come walking w = walking w.runnable (enter w)
 -- to a module.
 module _ (t : ℕ) where
   abbrev pub Looping : Type 0
-  Looping = walk-lts.At-loop (walk-claims t) (walk_at t) walk.Post Inv-loop μ-loop
+  Looping = walk-lts.At-loop-left (walk-claims t) (walk_at t) walk.Post Inv-loop μ-loop
 
   abbrev pub Reading : Type 0
-  Reading = walk-lts.After-occurrence-at (walk-claims t) (walk_at t) walk.Post Inv-loop μ-loop
+  Reading = walk-lts.After-occurrence_at-o (walk-claims t) (walk_at t) walk.Post Inv-loop μ-loop
 
   abbrev pub AtGate : Type 0
-  AtGate = walk-lts.After-enum-told (walk-claims t) (walk_at t) walk.Post Inv-loop μ-loop
+  AtGate = walk-lts.In-Gate (walk-claims t) (walk_at t) walk.Post Inv-loop μ-loop
 
   abbrev pub AtModule : Type 0
-  AtModule = walk-lts.After-enum-told2 (walk-claims t) (walk_at t) walk.Post Inv-loop μ-loop
+  AtModule = walk-lts.In-Module (walk-claims t) (walk_at t) walk.Post Inv-loop μ-loop
 
   -- Where the walk began.
   abbrev pub start : Looping → walk-lts.Start (walk-claims t) (walk_at t) walk.Post Inv-loop μ-loop
@@ -113,44 +113,44 @@ module _ (t : ℕ) where
   pub here :
       (c : Reading) {work : Work ℕ} {scratch₀ scratch : List ℕ}
       → let a = (start c.before.before).args in
-      let l = c.before.before.loop in
+      let l = c.before.before.loop-left in
       Walking work a.image.now a.starts.now a.nets.now a.k scratch₀ (a.header.to + 1) a.header.count a.header.inputs l.at l.left l.filled scratch
       → (s : Runnable a.image.now a.starts.now a.nets.now a.k scratch₀)
       → Ahead a.image.now s.scene.m s.scene.later (a.header.to + 1) a.header.count a.header.inputs s.scene.m.occurrences
-      → Here work s l.at l.left l.filled scratch c.occurrence-at.result
+      → Here work s l.at l.left l.filled scratch c.occurrence_at-o.result
   here c walking s ahead =
       let p = walking s ahead in
-      record { progress = p; turn = turn (omega (arith, c.before.loop-test.true)) p.ahead c.occurrence-at.ensures }
+      record { progress = p; turn = turn (omega (arith, c.before.loop-left-test.true)) p.ahead c.occurrence_at-o.ensures }
 
   -- Of the module that the caller spoke of: its unit arrivals,
   pub units-own :
       (c : Reading)
       → let from = start c.before.before in
-      let l = c.before.before.loop in
-      Here (times_work one_each) from.pre.1.0.runnable l.at l.left l.filled l.units c.occurrence-at.result
-  units-own c = let w = (start c.before.before).pre.1.0 in here c c.before.before.loop.invariant.0 w.runnable (enter w)
+      let l = c.before.before.loop-left in
+      Here (times_work one_each) from.requires.1.0.runnable l.at l.left l.filled l.units-1 c.occurrence_at-o.result
+  units-own c = let w = (start c.before.before).requires.1.0 in here c c.before.before.loop-left.invariant.0 w.runnable (enter w)
 
   -- and those by the family.
   pub others-own :
       (c : Reading)
       → let from = start c.before.before in
-      let l = c.before.before.loop in
-      Here (times_work (delay_in from.args.family.delays)) from.pre.1.1.runnable l.at l.left l.filled l.others c.occurrence-at.result
-  others-own c = let w = (start c.before.before).pre.1.1 in here c c.before.before.loop.invariant.1 w.runnable (enter w)
+      let l = c.before.before.loop-left in
+      Here (times_work (delay_in from.args.family.delays)) from.requires.1.1.runnable l.at l.left l.filled l.others-1 c.occurrence_at-o.result
+  others-own c = let w = (start c.before.before).requires.1.1 in here c c.before.before.loop-left.invariant.1 w.runnable (enter w)
 
   -- In the arm of a gate the number is that of a gate,
   abbrev pub gate-read : AtGate → Reading
   gate-read c = c.before.before.before.before
 
-  pub gate-kind : (c : AtGate) → kind_of (gate-read c).occurrence-at.result.refers ≡ Gate c.enum_told.given.0.0 c.enum_told.given.0.1.0
-  gate-kind c = sym c.before.before.kind-of.ensures ∙ c.enum_told.given.1
+  pub gate-kind : (c : AtGate) → kind_of (gate-read c).occurrence_at-o.result.refers ≡ Gate c.enum_told-1.given.0.0 c.enum_told-1.given.0.1.0
+  gate-kind c = sym c.before.before.kind_of.ensures ∙ c.enum_told-1.given.1
 
   -- in the other that of a module.
   abbrev pub module-read : AtModule → Reading
   module-read c = c.before.before.before.before
 
-  pub module-kind : (c : AtModule) → kind_of (module-read c).occurrence-at.result.refers ≡ Module
-  module-kind c = sym c.before.before.kind-of.ensures ∙ c.enum-told2.given.1
+  pub module-kind : (c : AtModule) → kind_of (module-read c).occurrence_at-o.result.refers ≡ Module
+  module-kind c = sym c.before.before.kind_of.ensures ∙ c.enum_told-in-Module-1.given.1
 
   -- Back from where each is done: the header read of the module that is called, its arguments passed in one list and in both, itself run, and
   -- its outputs fetched in one list.
@@ -161,21 +161,21 @@ module _ (t : ℕ) where
   passed-from c = called-from c.before.before
 
   abbrev pub passed-one :
-      walk-lts.After-copy2 (walk-claims t) (walk_at t) walk.Post Inv-loop μ-loop
+      walk-lts.After-copy-then-o-gt0 (walk-claims t) (walk_at t) walk.Post Inv-loop μ-loop
       → walk-lts.After-copy (walk-claims t) (walk_at t) walk.Post Inv-loop μ-loop
   passed-one c = c.before.before.before.before
 
   abbrev pub passed-both :
-      walk-lts.After-run-module (walk-claims t) (walk_at t) walk.Post Inv-loop μ-loop
-      → walk-lts.After-copy2 (walk-claims t) (walk_at t) walk.Post Inv-loop μ-loop
+      walk-lts.After-run_module (walk-claims t) (walk_at t) walk.Post Inv-loop μ-loop
+      → walk-lts.After-copy-then-o-gt0 (walk-claims t) (walk_at t) walk.Post Inv-loop μ-loop
   passed-both c = let lent = c.before.before in lent.before.before.before
 
   abbrev pub ran-before :
-      walk-lts.After-copy3 (walk-claims t) (walk_at t) walk.Post Inv-loop μ-loop
-      → walk-lts.After-run-module (walk-claims t) (walk_at t) walk.Post Inv-loop μ-loop
+      walk-lts.After-copy-then-o-gt0-2 (walk-claims t) (walk_at t) walk.Post Inv-loop μ-loop
+      → walk-lts.After-run_module (walk-claims t) (walk_at t) walk.Post Inv-loop μ-loop
   ran-before c = let lent = c.before.before in lent.before.before.before.before
 
   abbrev pub fetched_one :
-      walk-lts.After-copy4 (walk-claims t) (walk_at t) walk.Post Inv-loop μ-loop
-      → walk-lts.After-copy3 (walk-claims t) (walk_at t) walk.Post Inv-loop μ-loop
+      walk-lts.After-copy-then-o-gt0-3 (walk-claims t) (walk_at t) walk.Post Inv-loop μ-loop
+      → walk-lts.After-copy-then-o-gt0-2 (walk-claims t) (walk_at t) walk.Post Inv-loop μ-loop
   fetched_one c = c.before.before.before.before

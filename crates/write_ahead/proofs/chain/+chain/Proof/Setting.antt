@@ -7,11 +7,11 @@ use borrow.Fn.Kinds.{In}
 use borrow.Fn.PlainCycle.{Measures, is, falls, and}
 use Rattle.meaning.specs.FastAdder.{leaves}
 use Rattle.write_trees.specs.Trees.{tree_of, Joined, Parted}
-use Rattle.write_trees.proofs.leaves.Reads as counting
+use Rattle.write_trees.proofs.leaves-low.Reads as counting
 use Rattle.write_trees.proofs.split.Reads as split
-use Rattle.write_ahead.proofs.carries.over_one.Reads as over-one
-use Rattle.write_ahead.proofs.carries.over_two.Reads as over-two
-use Rattle.write_ahead.proofs.trees.ahead.Reads as ahead
+use Rattle.write_ahead.proofs.carries.over_one-behind.Reads as over-one
+use Rattle.write_ahead.proofs.carries.over_two-behind.Reads as over-two
+use Rattle.write_ahead.proofs.trees.ahead-x.Reads as ahead
 use Rattle.write_ahead.proofs.chain.chain.Reads as reads
 use Rattle.write_ahead.proofs.chain.chain.Kinds as kinds
 use Rattle.write_ahead.proofs.chain.+chain.Lts-chain as lts
@@ -44,53 +44,53 @@ module _ (t : ℕ) where
   )
 
   -- The start, from where a node is told; the places behind the pieces, each from the one behind the next.
-  abbrev pub entry : lts.After-known-told claims (Given t) reads.Post → lts.Start claims (Given t) reads.Post
+  abbrev pub entry : lts.In-Node claims (Given t) reads.Post → lts.Start claims (Given t) reads.Post
   entry c = let parted = c.before.before.before in parted.before.before
 
-  abbrev pub told : lts.After-leaves2 claims (Given t) reads.Post → lts.After-known-told claims (Given t) reads.Post
+  abbrev pub told : lts.After-leaves claims (Given t) reads.Post → lts.In-Node claims (Given t) reads.Post
   told c = c.before.before.before
 
-  abbrev pub counts : lts.After-ahead claims (Given t) reads.Post → lts.After-leaves2 claims (Given t) reads.Post
+  abbrev pub counts : lts.After-ahead-x claims (Given t) reads.Post → lts.After-leaves claims (Given t) reads.Post
   counts c = c.before.before
 
-  abbrev pub low : lts.After-over-one claims (Given t) reads.Post → lts.After-ahead claims (Given t) reads.Post
+  abbrev pub low : lts.After-over_one-behind claims (Given t) reads.Post → lts.After-ahead-x claims (Given t) reads.Post
   low c = c.before.before.before.before
 
-  abbrev pub within : lts.Then2 claims (Given t) reads.Post → lts.After-over-one claims (Given t) reads.Post
+  abbrev pub within : lts.Then-left-both claims (Given t) reads.Post → lts.After-over_one-behind claims (Given t) reads.Post
   within c = c.before.before.before
 
-  abbrev pub one : lts.Else2 claims (Given t) reads.Post → lts.After-over-one claims (Given t) reads.Post
+  abbrev pub one : lts.Else-left-both claims (Given t) reads.Post → lts.After-over_one-behind claims (Given t) reads.Post
   one c = c.before.before.before
 
-  abbrev pub beyond : lts.After-ahead2 claims (Given t) reads.Post → lts.Else2 claims (Given t) reads.Post
+  abbrev pub beyond : lts.After-ahead-y claims (Given t) reads.Post → lts.Else-left-both claims (Given t) reads.Post
   beyond c = c.before.before
 
-  abbrev pub middle : lts.After-over-two claims (Given t) reads.Post → lts.After-ahead2 claims (Given t) reads.Post
+  abbrev pub middle : lts.After-over_two-behind claims (Given t) reads.Post → lts.After-ahead-y claims (Given t) reads.Post
   middle c = c.before.before.before.before
 
-  pub joined : (c : lts.After-known-told claims (Given t) reads.Post)
-      → (let parts = c.before.x.given.0 in Joined (entry c).args.tree parts.0 parts.1.0 parts.1.1.0)
-  joined c = subst (Parted (entry c).args.tree) c.before.x.given.1 c.before.before.before.split.ensures
+  pub joined : (c : lts.In-Node claims (Given t) reads.Post)
+      → (let parts = c.before.x-1.given.0 in Joined (entry c).args.tree parts.0 parts.1.0 parts.1.1.0)
+  joined c = subst (Parted (entry c).args.tree) c.before.x-1.given.1 c.before.before.before.split.ensures
 
   -- The steps are past the lowest tree.
-  pub past : (c : lts.After-leaves2 claims (Given t) reads.Post)
-      → leaves (tree_of (told c).before.x.given.0.0) ≤ (entry (told c)).args.left
-  past c = omega (arith, c.before.if1.false, c.before.before.leaves.ensures)
+  pub past : (c : lts.After-leaves claims (Given t) reads.Post)
+      → leaves (tree_of (told c).before.x-1.given.0.0) ≤ (entry (told c)).args.left
+  past c = omega (arith, c.before.if-left-low.false, c.before.before.leaves-low.ensures)
 
-  pub both : (c : lts.After-leaves2 claims (Given t) reads.Post)
-      → (let parts = (told c).before.x.given.0 in
-      c.before.before.leaves.result + c.leaves2.result ≡ leaves (tree_of parts.0) + leaves (tree_of parts.1.0))
-  both c = omega (arith, c.leaves2.ensures, c.before.before.leaves.ensures)
+  pub both : (c : lts.After-leaves claims (Given t) reads.Post)
+      → (let parts = (told c).before.x-1.given.0 in
+      c.before.before.leaves-low.result + c.leaves.result ≡ leaves (tree_of parts.0) + leaves (tree_of parts.1.0))
+  both c = omega (arith, c.leaves.ensures, c.before.before.leaves-low.ensures)
 
   -- The rest lies inside the middle tree, or past it.
-  pub inside : (c : lts.Then2 claims (Given t) reads.Post)
+  pub inside : (c : lts.Then-left-both claims (Given t) reads.Post)
       → (let node = told (counts (low (within c))) in
-      let parts = node.before.x.given.0 in
+      let parts = node.before.x-1.given.0 in
       (entry node).args.left < leaves (tree_of parts.0) + leaves (tree_of parts.1.0))
-  inside c = omega (arith, c.if2.true, both (counts (low (within c))))
+  inside c = omega (arith, c.if-left-both.true, both (counts (low (within c))))
 
-  pub outside : (c : lts.Else2 claims (Given t) reads.Post)
+  pub outside : (c : lts.Else-left-both claims (Given t) reads.Post)
       → (let node = told (counts (low (one c))) in
-      let parts = node.before.x.given.0 in
+      let parts = node.before.x-1.given.0 in
       leaves (tree_of parts.0) + leaves (tree_of parts.1.0) ≤ (entry node).args.left)
-  outside c = omega (arith, c.if2.false, both (counts (low (one c))))
+  outside c = omega (arith, c.if-left-both.false, both (counts (low (one c))))
