@@ -1,6 +1,5 @@
 // What calls answer: an enum for each kind of answer. The numbers and places are those of the scope; specs/ says for each case which.
 #![tactic(auto)]
-#![tactic(auto)]
 
 // Of a call that writes: the number of bytes written, or a refusal with its number and place.
 #[derive(Clone, Copy)]

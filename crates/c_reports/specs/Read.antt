@@ -2,7 +2,7 @@
 use Rattle.std.specs.Prelude.{ℕ, List, [], ◌∷◌}
 use Rattle.answers.specs.declared.Writing.{Writing}
 use Rattle.answers.specs.declared.Writing.TheVariants.{Wrote, Refused}
-use Rattle.call_count.specs.declared.answers.Figures.{Figures}
+use Rattle.call_count.specs.declared.counts.Figures.{Figures}
 
 abbrev pub number_in : Writing → ℕ
 number_in (Wrote count) = 0

@@ -5,7 +5,7 @@ ghost use Rattle.std.specs.Prelude.{◌≡◌};
 ghost use Rattle.c_reports.specs.Read.{number_in, written_in, work_in, place_in, figures_of};
 
 use answers::{Run, Writing};
-use call_count::answers::Figures;
+use call_count::counts::Figures;
 
 // The three numbers of an answer; of a refusal only two.
 pub fn report(answer: Writing, written: &mut usize, place: &mut usize) -> u16

@@ -14,8 +14,8 @@ use Rattle.open_finding.specs.Standing.{Standing}
 use Rattle.open_finding.specs.declared.Site.{Site}
 use Rattle.call_count.specs.Answers.{Counts, refused_with, figures_of}
 use Rattle.call_count.specs.Figuring.{Figured}
-use Rattle.call_count.specs.declared.answers.Figures.{Figures}
-use Rattle.call_count.specs.declared.answers.Counted.{Counted}
+use Rattle.call_count.specs.declared.counts.Figures.{Figures}
+use Rattle.call_count.specs.declared.counts.Counted.{Counted}
 
 -- Clearing the same entries twice is clearing them once.
 cleared-twice : (n : ℕ) (scratch : List ℕ) → cleared n (cleared n scratch) ≡ cleared n scratch

@@ -3,8 +3,8 @@ use Rattle.std.specs.Prelude.{ℕ, ◌≡◌, refl, List, replicate}
 use Rattle.std.proofs.Common.{sym, ◌∙◌}
 use Rattle.meaning.specs.Calls.{Decision, refusal, answer, number_of, place_of, scratch_after}
 use Rattle.meaning.specs.Family.{Summary}
-use Rattle.call_count.specs.declared.answers.Figures.{Figures}
-use Rattle.call_count.specs.declared.answers.Counted.{Counted}
+use Rattle.call_count.specs.declared.counts.Figures.{Figures}
+use Rattle.call_count.specs.declared.counts.Counted.{Counted}
 
 -- The figures that are meant, as they are answered.
 abbrev pub figures_of : Summary → Figures

@@ -5,7 +5,7 @@ ghost use Rattle.open_finding.specs.Standing.{Standing};
 ghost use Rattle.call_count.specs.Answers.{Counts};
 ghost use Rattle.call_count.specs.Figuring.{Figured};
 
-use crate::answers::{Counted, Figures, Tally};
+use crate::counts::{Counted, Figures, Tally};
 use families::Family;
 use open_finding::Site;
 
@@ -68,7 +68,7 @@ pub fn count_at(
         → Counts (summary_on family.delays site.number (length scratch.old) s.ms s.found.m) scratch.old scratch.new result }
 {
     if scratch.len() < site.room as usize {
-        return crate::answers::refused(21, 0);
+        return crate::counts::refused(21, 0);
     }
     let figures = figures_at(image, starts, nets, site, family, scratch, loads);
     Counted {

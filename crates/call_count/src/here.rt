@@ -4,7 +4,7 @@ ghost use Rattle.meaning.specs.Family.{summary_on};
 ghost use Rattle.open_finding.specs.Standing.{Standing};
 ghost use Rattle.call_count.specs.Answers.{Counts};
 
-use crate::answers::Counted;
+use crate::counts::Counted;
 use families::Family;
 use open_finding::Site;
 

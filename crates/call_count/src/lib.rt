@@ -2,6 +2,6 @@
 // load and delay by a chip family.
 #![tactic(auto)]
 
-pub mod answers;
+pub mod counts;
 pub mod figuring;
 pub mod here;

@@ -11,7 +11,7 @@ use Rattle.answers.specs.Running.{Runs}
 use Rattle.answers.specs.declared.Run.{Run}
 use Rattle.answers.specs.declared.Writing.{Writing}
 use Rattle.call_count.specs.Answers.{Counts}
-use Rattle.call_count.specs.declared.answers.Counted.{Counted}
+use Rattle.call_count.specs.declared.counts.Counted.{Counted}
 use Rattle.open_finding.specs.Standing.{Standing}
 use Rattle.open_finding.specs.declared.Site.{Site}
 use Rattle.call_door.specs.declared.asks.Task.{Task}

@@ -3,7 +3,7 @@ ghost use Rattle.std.specs.Prelude.{◌≡◌};
 ghost use Rattle.call_door.specs.Asks.{refused_sheet};
 
 use answers::{Listed, Named, Run, Writing};
-use call_count::answers::Counted;
+use call_count::counts::Counted;
 
 // What is asked of a module, and done in lists of its own.
 #[derive(Clone, Copy)]
@@ -44,7 +44,7 @@ pub(crate) fn refused(number: u16, place: usize) -> Sheet
     Sheet {
         writing: Writing::Refused { number, place },
         work: 0,
-        counted: call_count::answers::refused(number, place),
+        counted: call_count::counts::refused(number, place),
         listed: Listed::Refused { number, place },
         named: Named::Refused { number, place },
     }
@@ -56,7 +56,7 @@ pub(crate) fn wrote(writing: Writing) -> Sheet
     Sheet {
         writing,
         work: 0,
-        counted: call_count::answers::refused(0, 0),
+        counted: call_count::counts::refused(0, 0),
         listed: Listed::Modules(0),
         named: Named::Number(0),
     }
@@ -71,7 +71,7 @@ pub(crate) fn ran(run: Run) -> Sheet
     Sheet {
         writing,
         work,
-        counted: call_count::answers::refused(0, 0),
+        counted: call_count::counts::refused(0, 0),
         listed: Listed::Modules(0),
         named: Named::Number(0),
     }
@@ -95,7 +95,7 @@ pub(crate) fn listed(listed: Listed) -> Sheet
     Sheet {
         writing: Writing::Wrote(0),
         work: 0,
-        counted: call_count::answers::refused(0, 0),
+        counted: call_count::counts::refused(0, 0),
         listed,
         named: Named::Number(0),
     }
@@ -107,7 +107,7 @@ pub(crate) fn named(named: Named) -> Sheet
     Sheet {
         writing: Writing::Wrote(0),
         work: 0,
-        counted: call_count::answers::refused(0, 0),
+        counted: call_count::counts::refused(0, 0),
         listed: Listed::Modules(0),
         named,
     }

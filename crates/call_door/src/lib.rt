@@ -16,7 +16,7 @@ ghost use Rattle.answers.specs.Contents.{listed_of, named_of};
 
 use crate::asks::{Ask, Own, Task};
 use answers::{Listed, Named, Run, Writing};
-use call_count::answers::Counted;
+use call_count::counts::Counted;
 use families::Family;
 
 // How many modules a file has.

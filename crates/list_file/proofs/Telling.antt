@@ -11,8 +11,8 @@ use Rattle.meaning.specs.Syntax.{Module}
 use Rattle.meaning.specs.Figures.{room}
 use Rattle.meaning.specs.Listing.{line}
 use Rattle.call_count.specs.Answers.{counted_of}
-use Rattle.call_count.specs.declared.answers.Figures.{Figures}
-use Rattle.call_count.specs.declared.answers.Counted.{Counted}
+use Rattle.call_count.specs.declared.counts.Figures.{Figures}
+use Rattle.call_count.specs.declared.counts.Counted.{Counted}
 use Rattle.list_text.specs.Pieces.{PutDown}
 use Rattle.list_text.specs.Lines.{figures_of}
 use Rattle.list_text.specs.declared.Counts.{Counts}

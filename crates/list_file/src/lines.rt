@@ -9,7 +9,7 @@ ghost use Rattle.list_text.specs.Pieces.{PutDown};
 ghost use Rattle.list_text.specs.Lines.{longest_line};
 ghost use Rattle.list_file.specs.Sheet.{Told, Listable};
 
-use call_count::answers::Counted;
+use call_count::counts::Counted;
 use families::Family;
 use list_text::Counts;
 use open_finding::Site;

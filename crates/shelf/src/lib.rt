@@ -4,7 +4,7 @@
 mod judged; // judged.rt: the check
 
 pub use answers::{Checked, Listed, Named, Run, Writing};
-pub use call_count::answers::{Counted, Figures};
+pub use call_count::counts::{Counted, Figures};
 pub use call_door::{count, evaluate, evaluate_rows, flatten, modules, number_at};
 pub use call_join::{Joining, join};
 pub use call_look_up::{Looked, look_up, which_shelf};

@@ -6,7 +6,7 @@ use Rattle.meaning.specs.Calls.{Decision, refusal, answer, Written, number_of, p
 use Rattle.meaning.specs.Family.{Summary}
 use Rattle.meaning.specs.Work.{Ran, work_after}
 use Rattle.call_count.specs.Answers.{counted_of}
-use Rattle.call_count.specs.declared.answers.Counted.{Counted}
+use Rattle.call_count.specs.declared.counts.Counted.{Counted}
 use Rattle.answers.specs.Contents.{listed_of, named_of}
 use Rattle.answers.specs.declared.Listed.{Listed}
 use Rattle.answers.specs.declared.Listed.TheVariants as listed
