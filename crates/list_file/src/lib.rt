@@ -1,5 +1,7 @@
 // The listing of a file: the text that the listing program prints. The file is read, checked and measured once, and then each module is
 // counted where it stands.
+#![tactic(auto)]
+
 pub mod chip; // chip.rt: the family that a file holds
 mod lines;
 pub mod printing;

@@ -1,5 +1,7 @@
-// A text of rows, read from one descriptor and run on a module in blocks of at most 1,024, and the lines of its outputs, written to another.
+// A text of rows, read from a source and run on a module in blocks of at most 1,024, and the lines of its outputs, written to another.
 // Lines and rows are taken and made by `row_lines`; here they are only read, run, counted and written.
+#![tactic(auto)]
+
 mod blocks; // blocks.rt: a block of rows
 mod reading; // reading.rt: bytes into a buffer, and parts of it
 mod states; // states.rt: what is run, how far it is, and how it ended

@@ -2,7 +2,7 @@
 use row_lines::Line;
 
 // The module that is run: its number, and how many inputs and outputs it has.
-#[derive(Drop)]
+#[derive(Clone, Copy)]
 pub struct Task {
     pub number: u16,
     pub inputs: usize,
@@ -28,7 +28,7 @@ pub enum Ended {
 
 // How far it is. The text that is read and not taken stands in the buffer from a place up to another; the rest of it may be over. So many
 // rows, of so many values, are done, and ran so many occurrences.
-#[derive(Drop)]
+#[derive(Clone, Copy)]
 pub struct Progress {
     pub at: usize,
     pub filled: usize,
