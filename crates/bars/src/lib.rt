@@ -1,48 +1,48 @@
 // A table of counts as lines: number, count, and a bar of at most 50 marks.
 #![tactic(auto)]
 
-use libc::STDOUT_FILENO;
+use std::io;
 use std::num::wrapping_add_u64;
 
 // A line for each entry, then the total.
-pub fn print(table: &[u64], total: u64) {
-    print_entries(table, marks(50, largest(table)));
-    say(b"words ");
-    io::print_decimal(STDOUT_FILENO, total);
-    say(b"\n");
+pub fn print(rt: &impl Print, table: &[u64], total: u64) -> io::Result<()> {
+    print_entries(rt, table, marks(50, largest(table)))?;
+    say(rt, b"words ")?;
+    rt.print(total)?;
+    say(rt, b"\n")
 }
 
-fn say(text: &[u8]) {
-    io::write_all(STDOUT_FILENO, text);
+fn say(rt: &impl Print, text: &[u8]) -> io::Result<()> {
+    rt.write_all(text)
 }
 
-fn print_entries(table: &[u64], unit: u64) {
+fn print_entries(rt: &impl Print, table: &[u64], unit: u64) -> io::Result<()> {
     for i in 0..table.len() {
-        print_entry(i as u64, table[i], unit);
+        print_entry(rt, i as u64, table[i], unit)?;
     }
+    Ok(())
 }
 
-fn print_entry(number: u64, count: u64, unit: u64) {
-    io::print_decimal(STDOUT_FILENO, number);
-    say(b" ");
-    io::print_decimal(STDOUT_FILENO, count);
+fn print_entry(rt: &impl Print, number: u64, count: u64, unit: u64) -> io::Result<()> {
+    rt.print(number)?;
+    say(rt, b" ")?;
+    rt.print(count)?;
     if 0 < count {
-        say(b" ");
-        print_bar(marks(unit, count));
+        say(rt, b" ")?;
+        print_bar(rt, marks(unit, count))?;
     }
-    say(b"\n");
+    say(rt, b"\n")
 }
 
-fn print_bar(marks: u64) {
-    let mut left = marks;
-    while 0 < left {
-        left -= 1;
-        print_mark();
+fn print_bar(rt: &impl Print, marks: u64) -> io::Result<()> {
+    for _ in 0..marks {
+        print_mark(rt)?;
     }
+    Ok(())
 }
 
-fn print_mark() {
-    say(b"#");
+fn print_mark(rt: &impl Print) -> io::Result<()> {
+    say(rt, b"#")
 }
 
 fn largest(table: &[u64]) -> u64 {

@@ -7,15 +7,17 @@ use command_making::making::Order;
 use command_making::{listing, making, placing, printing, shelves};
 use command_words::words::{is, word_at};
 use command_words::{saying, words};
+use std::io;
+use std::rt::Files;
 
 // Performs the command of a line, whose words each end with a byte of 0.
-pub fn perform(line: &[u8]) {
+pub fn perform(rt: &(impl Files + Input + Print + Eprint), line: &[u8]) -> io::Result<()> {
     let many = words::count(line);
     if many == 17 && is(word_at(line, 0), b"family") {
-        chips::write(line);
-        return;
+        return chips::write(rt, line);
     }
     carry_out(
+        rt,
         many,
         word_at(line, 0),
         word_at(line, 1),
@@ -23,11 +25,12 @@ pub fn perform(line: &[u8]) {
         word_at(line, 3),
         word_at(line, 4),
         word_at(line, 5),
-    );
+    )
 }
 
 // The command of a name, by how many words it is asked for in.
 fn carry_out(
+    rt: &(impl Files + Input + Print + Eprint),
     words: usize,
     name: &[u8],
     first: &[u8],
@@ -35,104 +38,130 @@ fn carry_out(
     third: &[u8],
     fourth: &[u8],
     fifth: &[u8],
-) {
+) -> io::Result<()> {
     match words {
-        1 => alone(name),
-        2 => with_one(name, first),
-        3 => with_two(name, first, second),
-        4 => with_three(name, first, second, third),
-        5 => with_four(name, first, second, third, fourth),
-        6 => with_five(name, first, second, third, fourth, fifth),
-        _ => saying::usage(),
+        1 => alone(rt, name),
+        2 => with_one(rt, name, first),
+        3 => with_two(rt, name, first, second),
+        4 => with_three(rt, name, first, second, third),
+        5 => with_four(rt, name, first, second, third, fourth),
+        6 => with_five(rt, name, first, second, third, fourth, fifth),
+        _ => saying::usage(rt),
     }
 }
 
-fn alone(name: &[u8]) {
+fn alone(rt: &impl Print, name: &[u8]) -> io::Result<()> {
     if is(name, b"help") {
-        saying::help();
+        saying::help(rt)
     } else {
-        saying::usage();
+        saying::usage(rt)
     }
 }
 
-fn with_one(name: &[u8], first: &[u8]) {
+fn with_one(rt: &(impl Files + Input + Print), name: &[u8], first: &[u8]) -> io::Result<()> {
     if is(name, b"check") {
-        asking::check(first);
+        asking::check(rt, first)
     } else if is(name, b"strict") {
-        asking::strict(first);
+        asking::strict(rt, first)
     } else if is(name, b"list") {
-        asking::list(first, list_file::chip::here());
+        asking::list(rt, first, list_file::chip::here(rt))
     } else if is(name, b"file") {
-        placing::file(first);
+        placing::file(rt, first)
     } else if is(name, b"print") {
-        printing::print(first);
+        printing::print(rt, first)
     } else {
-        saying::usage();
+        saying::usage(rt)
     }
 }
 
-fn with_two(name: &[u8], first: &[u8], second: &[u8]) {
+fn with_two(
+    rt: &(impl Files + Input + Print),
+    name: &[u8],
+    first: &[u8],
+    second: &[u8],
+) -> io::Result<()> {
     if is(name, b"count") {
-        asking::count(first, second, list_file::chip::here());
+        asking::count(rt, first, second, list_file::chip::here(rt))
     } else if is(name, b"rewrite") {
-        making::rewrite(first, second);
+        making::rewrite(rt, first, second)
     } else if is(name, b"adder") {
-        making::to_order(Order::Adder, first, second);
+        making::to_order(rt, Order::Adder, first, second)
     } else if is(name, b"fast-adder") {
-        making::to_order(Order::FastAdder, first, second);
+        making::to_order(rt, Order::FastAdder, first, second)
     } else if is(name, b"alu") {
-        making::to_order(Order::Alu, first, second);
+        making::to_order(rt, Order::Alu, first, second)
     } else if is(name, b"counter") {
-        making::to_order(Order::Counter, first, second);
+        making::to_order(rt, Order::Counter, first, second)
     } else if is(name, b"ndl") {
-        listing::ndl(first, second, b"");
+        listing::ndl(rt, first, second, b"")
     } else if is(name, b"read") {
-        making::read(first, second);
+        making::read(rt, first, second)
     } else if is(name, b"file-sequence") {
-        placing::file_sequence(first, second);
+        placing::file_sequence(rt, first, second)
     } else if is(name, b"print") {
-        printing::print_module(first, second);
+        printing::print_module(rt, first, second)
     } else {
-        saying::usage();
+        saying::usage(rt)
     }
 }
 
-fn with_three(name: &[u8], first: &[u8], second: &[u8], third: &[u8]) {
+fn with_three(
+    rt: &(impl Files + Input + Print),
+    name: &[u8],
+    first: &[u8],
+    second: &[u8],
+    third: &[u8],
+) -> io::Result<()> {
     if is(name, b"run") {
-        asking::run(false, first, second, third);
+        asking::run(rt, false, first, second, third)
     } else if is(name, b"list") && is(first, b"--family") {
-        chips::list(second, third);
+        chips::list(rt, second, third)
     } else if is(name, b"flatten") {
-        making::flatten(first, second, third);
+        making::flatten(rt, first, second, third)
     } else if is(name, b"find") {
-        shelves::find(first, second, third, b"");
+        shelves::find(rt, first, second, third, b"")
     } else if is(name, b"join") {
-        shelves::join(first, second, third);
+        shelves::join(rt, first, second, third)
     } else if is(name, b"ndl") {
-        listing::ndl(first, second, third);
+        listing::ndl(rt, first, second, third)
     } else {
-        saying::usage();
+        saying::usage(rt)
     }
 }
 
-fn with_four(name: &[u8], first: &[u8], second: &[u8], third: &[u8], fourth: &[u8]) {
+fn with_four(
+    rt: &(impl Files + Input + Print + Eprint),
+    name: &[u8],
+    first: &[u8],
+    second: &[u8],
+    third: &[u8],
+    fourth: &[u8],
+) -> io::Result<()> {
     if is(name, b"find") {
-        shelves::find(first, second, third, fourth);
+        shelves::find(rt, first, second, third, fourth)
     } else if is(name, b"run") && is(first, b"--work") {
-        asking::run(true, second, third, fourth);
+        asking::run(rt, true, second, third, fourth)
     } else if is(name, b"count") && is(first, b"--family") {
-        chips::count(second, third, fourth);
+        chips::count(rt, second, third, fourth)
     } else if is(name, b"rows") {
-        rows::rows(false, first, second, third, fourth);
+        rows::rows(rt, false, first, second, third, fourth)
     } else {
-        saying::usage();
+        saying::usage(rt)
     }
 }
 
-fn with_five(name: &[u8], first: &[u8], second: &[u8], third: &[u8], fourth: &[u8], fifth: &[u8]) {
+fn with_five(
+    rt: &(impl Files + Input + Print + Eprint),
+    name: &[u8],
+    first: &[u8],
+    second: &[u8],
+    third: &[u8],
+    fourth: &[u8],
+    fifth: &[u8],
+) -> io::Result<()> {
     if is(name, b"rows") && is(first, b"--work") {
-        rows::rows(true, second, third, fourth, fifth);
+        rows::rows(rt, true, second, third, fourth, fifth)
     } else {
-        saying::usage();
+        saying::usage(rt)
     }
 }

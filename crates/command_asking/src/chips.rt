@@ -2,6 +2,8 @@
 use command_words::words::{Parsed, word_at};
 use rows_file::{Loaded, front};
 use shelf::Family;
+use std::io;
+use std::rt::Files;
 
 // The family of a file that was named, where it holds one.
 #[derive(Clone, Copy)]
@@ -18,38 +20,45 @@ fn nothing() -> Choice {
 }
 
 // A file that is not there or has another length is told.
-fn named(path: &[u8]) -> Choice {
+fn named(rt: &(impl Files + Input + Print), path: &[u8]) -> io::Result<Choice> {
     let mut bytes = [0u8; 17];
-    match command_files::files::load_bytes(path, &mut bytes) {
+    match command_files::files::load_bytes(rt, path, &mut bytes) {
         Loaded::Failed => {
-            command_files::files::cannot_read(path);
-            nothing()
+            command_files::files::cannot_read(rt, path)?;
+            Ok(nothing())
         }
         Loaded::Bytes(count) => {
             if count != 16 {
-                command_words::saying::fail(b"not a family of sixteen bytes: ", path);
-                return nothing();
+                command_words::saying::fail(rt, b"not a family of sixteen bytes: ", path)?;
+                return Ok(nothing());
             }
-            Choice {
+            Ok(Choice {
                 good: true,
                 family: families::of_bytes(front(count, &bytes)),
-            }
+            })
         }
     }
 }
 
-pub fn list(chip: &[u8], path: &[u8]) {
-    let chosen = named(chip);
+pub fn list(rt: &(impl Files + Input + Print), chip: &[u8], path: &[u8]) -> io::Result<()> {
+    let chosen = named(rt, chip)?;
     if chosen.good {
-        crate::asking::list(path, chosen.family);
+        crate::asking::list(rt, path, chosen.family)?;
     }
+    Ok(())
 }
 
-pub fn count(chip: &[u8], path: &[u8], number: &[u8]) {
-    let chosen = named(chip);
+pub fn count(
+    rt: &(impl Files + Input + Print),
+    chip: &[u8],
+    path: &[u8],
+    number: &[u8],
+) -> io::Result<()> {
+    let chosen = named(rt, chip)?;
     if chosen.good {
-        crate::asking::count(path, number, chosen.family);
+        crate::asking::count(rt, path, number, chosen.family)?;
     }
+    Ok(())
 }
 
 // What a word says of a gate.
@@ -72,19 +81,18 @@ fn delay_in(word: &[u8]) -> Delay {
 }
 
 // Writes the delays that a line has behind its first word to the file `family`.
-pub fn write(line: &[u8]) {
+pub fn write(rt: &(impl Files + Print), line: &[u8]) -> io::Result<()> {
     let mut delays = [0u8; 16];
     for i in 0..16 {
         let word = word_at(line, i + 1);
         match delay_in(word) {
             Delay::Other => {
-                command_words::saying::fail(b"not a delay from 0 to 255: ", word);
-                return;
+                return command_words::saying::fail(rt, b"not a delay from 0 to 255: ", word);
             }
             Delay::Of(delay) => {
                 delays[i] = delay;
             }
         }
     }
-    command_files::files::write(&delays, b"family");
+    command_files::files::write(rt, &delays, b"family")
 }

@@ -1,38 +1,38 @@
 // Bytes from a file, and bytes to a file.
-use libc::STDIN_FILENO;
 use rows_file::{Loaded, load_from};
+use std::io;
+use std::io::Write;
+use std::rt::Files;
+use streams::Source;
 
 // Opens a file for reading, or standard input where it is named `-`.
-pub fn open(path: &[u8]) -> i32 {
+pub fn open<R: Files + Input>(rt: &R, path: &[u8]) -> io::Result<Source<R::Reader, R::File>> {
     if command_words::words::is(path, b"-") {
-        return STDIN_FILENO;
+        return Ok(Source::Input(rt.reader()));
     }
-    os::open_read(path)
+    Ok(Source::File(streams::open(rt, path)?))
 }
 
 // Closes what was opened. Standard input stays open.
-pub fn close(path: &[u8], descriptor: i32) {
-    if !command_words::words::is(path, b"-") {
-        libc::close(descriptor);
-    }
+pub fn close<I: Drop, F: Drop>(source: Source<I, F>) {
+    drop(source);
 }
 
 // Reads a file, or a text of lists as the file that it makes.
-pub fn load(path: &[u8], buffer: &mut [u8]) -> Loaded {
+pub fn load(rt: &(impl Files + Input), path: &[u8], buffer: &mut [u8]) -> Loaded {
     if crate::texts::is_text(path) {
-        return crate::texts::load(path, buffer);
+        return crate::texts::load(rt, path, buffer);
     }
-    load_bytes(path, buffer)
+    load_bytes(rt, path, buffer)
 }
 
 // Reads the bytes of a file as they are.
-pub fn load_bytes(path: &[u8], buffer: &mut [u8]) -> Loaded {
-    let descriptor = open(path);
-    if descriptor < 0 {
+pub fn load_bytes(rt: &(impl Files + Input), path: &[u8], buffer: &mut [u8]) -> Loaded {
+    let Ok(mut source) = open(rt, path) else {
         return Loaded::Failed;
-    }
-    let loaded = load_from(descriptor, buffer);
-    close(path, descriptor);
+    };
+    let loaded = load_from(&mut source, buffer);
+    close(source);
     loaded
 }
 
@@ -47,51 +47,48 @@ pub fn partial(path: &[u8], buffer: &mut [u8]) -> usize {
 
 // Writes a file whole: under another name first, which then takes the place of the file. Answers whether all went well; if not, the
 // file is as it was.
-pub fn save(path: &[u8], bytes: &[u8]) -> bool {
-    let mut name = io::buffer();
+pub fn save(rt: &impl Files, path: &[u8], bytes: &[u8]) -> bool {
+    let mut name = [0u8; 4096];
     let long = partial(path, &mut name);
-    save_through(rows_file::front(long, &name), path, bytes)
+    save_through(rt, rows_file::front(long, &name), path, bytes)
 }
 
-fn save_through(part: &[u8], path: &[u8], bytes: &[u8]) -> bool {
-    let descriptor = os::create(part);
-    if descriptor < 0 {
+fn save_through(rt: &impl Files, part: &[u8], path: &[u8], bytes: &[u8]) -> bool {
+    let Ok(mut file) = streams::create(rt, part) else {
         return false;
-    }
-    let written = io::write_all(descriptor, bytes);
-    let closed = libc::close(descriptor);
+    };
+    let written = file.write_all(bytes).is_ok();
+    drop(file);
     if !written {
-        os::unlink(part);
+        let _ = streams::remove(rt, part);
         return false;
     }
-    take_place(closed, part, path)
+    take_place(rt, part, path)
 }
 
-// A file that was closed well takes the place of another; or it is removed.
-pub fn take_place(closed: i32, part: &[u8], path: &[u8]) -> bool {
-    if closed < 0 || os::rename(part, path) < 0 {
-        os::unlink(part);
+// A file that was written takes the place of another; or it is removed.
+pub fn take_place(rt: &impl Files, part: &[u8], path: &[u8]) -> bool {
+    if streams::rename(rt, part, path).is_err() {
+        let _ = streams::remove(rt, part);
         return false;
     }
     true
 }
 
 // Writes a file, and tells how long it is.
-pub fn write(bytes: &[u8], path: &[u8]) {
-    if !save(path, bytes) {
-        command_words::saying::fail(b"cannot write ", path);
-        return;
+pub fn write(rt: &(impl Files + Print), bytes: &[u8], path: &[u8]) -> io::Result<()> {
+    if !save(rt, path, bytes) {
+        return command_words::saying::fail(rt, b"cannot write ", path);
     }
-    command_words::saying::say(b"written ");
-    command_words::saying::say_number(bytes.len() as u64);
-    command_words::saying::end_line();
+    command_words::saying::say(rt, b"written ")?;
+    command_words::saying::say_number(rt, bytes.len() as u64)?;
+    command_words::saying::end_line(rt)
 }
 
 // A file that was not read; of a text it is said why.
-pub fn cannot_read(path: &[u8]) {
+pub fn cannot_read(rt: &(impl Files + Input + Print), path: &[u8]) -> io::Result<()> {
     if crate::texts::is_text(path) {
-        crate::texts::explain(path);
-        return;
+        return crate::texts::explain(rt, path);
     }
-    command_words::saying::missing(path);
+    command_words::saying::missing(rt, path)
 }

@@ -2,6 +2,8 @@
 use command_words::words::Parsed;
 use rows_file::{Loaded, front};
 use shelf::Writing;
+use std::io;
+use std::rt::Files;
 
 #[derive(Clone, Copy)]
 enum Wanted {
@@ -9,51 +11,59 @@ enum Wanted {
     Module(u16),
 }
 
-pub fn print(path: &[u8]) {
-    print_wanted(path, Wanted::All);
+pub fn print(rt: &(impl Files + Input + Print), path: &[u8]) -> io::Result<()> {
+    print_wanted(rt, path, Wanted::All)
 }
 
-pub fn print_module(path: &[u8], number: &[u8]) {
-    match command_files::texts::module(path, number) {
-        Parsed::Other => command_files::texts::no_module(path, number),
-        Parsed::Number(n) => print_wanted(path, Wanted::Module(n)),
+pub fn print_module(
+    rt: &(impl Files + Input + Print),
+    path: &[u8],
+    number: &[u8],
+) -> io::Result<()> {
+    match command_files::texts::module(rt, path, number) {
+        Parsed::Other => command_files::texts::no_module(rt, path, number),
+        Parsed::Number(n) => print_wanted(rt, path, Wanted::Module(n)),
     }
 }
 
-fn print_wanted(path: &[u8], wanted: Wanted) {
-    let mut file = io::large_buffer();
-    match command_files::files::load(path, &mut file) {
-        Loaded::Failed => command_files::files::cannot_read(path),
-        Loaded::Bytes(count) => print_of(front(count, &file), wanted),
+fn print_wanted(rt: &(impl Files + Input + Print), path: &[u8], wanted: Wanted) -> io::Result<()> {
+    let mut file = [0u8; 65536];
+    match command_files::files::load(rt, path, &mut file) {
+        Loaded::Failed => command_files::files::cannot_read(rt, path),
+        Loaded::Bytes(count) => print_of(rt, front(count, &file), wanted),
     }
 }
 
 // A buffer that has room for any file's text.
-fn print_of(file: &[u8], wanted: Wanted) {
+fn print_of(rt: &impl Print, file: &[u8], wanted: Wanted) -> io::Result<()> {
     let mut text = [0u8; 393210];
-    print_in(file, wanted, &mut text);
+    print_in(rt, file, wanted, &mut text)
 }
 
-fn print_in(file: &[u8], wanted: Wanted, text: &mut [u8; 393210]) {
+fn print_in(
+    rt: &impl Print,
+    file: &[u8],
+    wanted: Wanted,
+    text: &mut [u8; 393210],
+) -> io::Result<()> {
     match shelf::print_text(file, text) {
-        Writing::Refused { number, place } => command_words::refusing::refuse(number, place),
-        Writing::Wrote(count) => show(front(count, text), wanted),
+        Writing::Refused { number, place } => command_words::refusing::refuse(rt, number, place),
+        Writing::Wrote(count) => show(rt, front(count, text), wanted),
     }
 }
 
-fn show(text: &[u8], wanted: Wanted) {
+fn show(rt: &impl Print, text: &[u8], wanted: Wanted) -> io::Result<()> {
     match wanted {
-        Wanted::All => command_words::saying::say(text),
-        Wanted::Module(number) => show_list(print_parts::module_list(text, number)),
+        Wanted::All => command_words::saying::say(rt, text),
+        Wanted::Module(number) => show_list(rt, print_parts::module_list(text, number)),
     }
 }
 
-fn show_list(list: &[u8]) {
+fn show_list(rt: &impl Print, list: &[u8]) -> io::Result<()> {
     if list.len() < 1 {
-        command_words::refusing::refuse(18, 0);
-        return;
+        return command_words::refusing::refuse(rt, 18, 0);
     }
-    command_words::saying::say(b"(");
-    command_words::saying::say(list);
-    command_words::saying::say(b")\n");
+    command_words::saying::say(rt, b"(")?;
+    command_words::saying::say(rt, list)?;
+    command_words::saying::say(rt, b")\n")
 }

@@ -1,50 +1,54 @@
 // What the command says.
-use libc::STDOUT_FILENO;
+use std::io;
 
-pub fn say(text: &[u8]) {
-    io::write_all(STDOUT_FILENO, text);
+pub fn say(rt: &impl Print, text: &[u8]) -> io::Result<()> {
+    rt.write_all(text)
 }
 
-pub fn say_number(number: u64) {
-    io::print_decimal(STDOUT_FILENO, number);
+pub fn say_number(rt: &impl Print, number: u64) -> io::Result<()> {
+    rt.print(number)
 }
 
-pub fn end_line() {
-    say(b"\n");
+pub fn end_line(rt: &impl Print) -> io::Result<()> {
+    say(rt, b"\n")
 }
 
 // A figure with its name in front.
-pub fn say_figure(name: &[u8], figure: u32) {
-    say(name);
-    say_number(figure as u64);
+pub fn say_figure(rt: &impl Print, name: &[u8], figure: u32) -> io::Result<()> {
+    say(rt, name)?;
+    say_number(rt, figure as u64)
 }
 
 // A command that could not be carried out: why, and on what.
-pub fn fail(why: &[u8], what: &[u8]) {
-    say(b"failed: ");
-    say(why);
-    say(what);
-    end_line();
+pub fn fail(rt: &impl Print, why: &[u8], what: &[u8]) -> io::Result<()> {
+    say(rt, b"failed: ")?;
+    say(rt, why)?;
+    say(rt, what)?;
+    end_line(rt)
 }
 
 // A file that should be there.
-pub fn missing(path: &[u8]) {
-    fail(b"cannot read ", path);
+pub fn missing(rt: &impl Print, path: &[u8]) -> io::Result<()> {
+    fail(rt, b"cannot read ", path)
 }
 
 // A word that should be a number.
-pub fn not_a_number(word: &[u8]) {
-    fail(b"not a number from 0 to 65535: ", word);
+pub fn not_a_number(rt: &impl Print, word: &[u8]) -> io::Result<()> {
+    fail(rt, b"not a number from 0 to 65535: ", word)
 }
 
 // A command that is not one of ours.
-pub fn usage() {
-    say(b"failed: no such command, or not its words; see gimlet help\n");
+pub fn usage(rt: &impl Print) -> io::Result<()> {
+    say(
+        rt,
+        b"failed: no such command, or not its words; see gimlet help\n",
+    )
 }
 
 // How each command is asked for.
-pub fn help() {
+pub fn help(rt: &impl Print) -> io::Result<()> {
     say(
+        rt,
         b"\
 gimlet check FILE                whether the file is accepted: ok, or refused and why
 gimlet strict FILE               whether it is accepted and uses no four-input gate
@@ -97,5 +101,5 @@ An answer is one line, and with --work a last one more; a listing and file-seque
 A refusal is a line with its number and place, and lines that say them in words.
 What could not be carried out at all is a line that begins with failed.
 ",
-    );
+    )
 }

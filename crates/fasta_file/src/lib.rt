@@ -1,10 +1,11 @@
-// A file of bases, plain or in FASTA, read from a descriptor and filed. What its bytes come to is worked out by `fasta`; here they are only
+// A file of bases, plain or in FASTA, read from a source and filed. What its bytes come to is worked out by `fasta`; here they are only
 // read.
 #![tactic(auto)]
 
 ghost use Rattle.std.specs.Prelude.{◌≡◌, length};
 
 use fasta::Tally;
+use std::io::Read;
 
 // What became of a file.
 #[derive(Clone, Copy)]
@@ -14,17 +15,17 @@ pub enum Ended {
 }
 
 // Files the words of a length in each record, and adds their counts to a table of 0.
-pub fn file_from(descriptor: i32, letters: usize, table: &mut [u64]) -> Ended
+pub fn file_from(source: &mut impl Read, letters: usize, table: &mut [u64]) -> Ended
     requires { length table.old ≡ 33 }
 {
-    let mut bytes = io::large_buffer();
-    let mut bases = io::large_buffer();
-    read_blocks(descriptor, letters, &mut bytes, &mut bases, table)
+    let mut bytes = [0u8; 65536];
+    let mut bases = [0u8; 65536];
+    read_blocks(source, letters, &mut bytes, &mut bases, table)
 }
 
 // Block after block. No file has so many.
 fn read_blocks(
-    descriptor: i32,
+    source: &mut impl Read,
     letters: usize,
     bytes: &mut [u8],
     bases: &mut [u8],
@@ -33,18 +34,14 @@ fn read_blocks(
     requires { length table.old ≡ 33 }
 {
     let mut reading = fasta::begin();
-    let mut left = u64::MAX;
-    while 0 < left {
-        left -= 1;
-        let got = libc::read(descriptor, bytes);
-        if got < 0 {
-            return Ended::Unread;
+    for _ in 0..u64::MAX {
+        match source.read(bytes) {
+            Ok(0) => return Ended::Filed(fasta::finish(letters, bases, table, reading)),
+            Ok(count) => {
+                reading = fasta::read_block(&bytes[..count], letters, bases, table, reading);
+            }
+            Err(_) => return Ended::Unread,
         }
-        let count = io::count(got, bytes);
-        if count == 0 {
-            return Ended::Filed(fasta::finish(letters, bases, table, reading));
-        }
-        reading = fasta::read_block(&bytes[..count], letters, bases, table, reading);
     }
     Ended::Unread
 }

@@ -3,53 +3,57 @@
 #![tactic(auto)]
 
 use filing::Placed;
-use libc::{STDIN_FILENO, STDOUT_FILENO};
+use std::io;
+use std::io::Read;
 
-fn main() {
-    let mut bytes = io::large_buffer();
+fn main(rt: HostRuntime) -> io::Result<()> {
+    let mut bytes = [0u8; 65536];
     let mut word = [0u8; 17];
-    file_all(&mut bytes, &mut word);
+    file_all(&rt, &mut rt.reader(), &mut bytes, &mut word)
 }
 
 // Block after block; no input has so many. The last line need not be ended. Of a line so much is kept as tells whether it is too long.
-fn file_all(bytes: &mut [u8], word: &mut [u8]) {
+fn file_all(
+    rt: &impl Print,
+    input: &mut impl Read,
+    bytes: &mut [u8],
+    word: &mut [u8],
+) -> io::Result<()> {
     let mut filled = 0;
-    let mut left = u64::MAX;
-    while 0 < left {
-        left -= 1;
-        let got = libc::read(STDIN_FILENO, bytes);
-        let count = io::count(got, bytes);
+    for _ in 0..u64::MAX {
+        let count = input.read(bytes)?;
         if count == 0 {
-            file_last(word, filled);
-            return;
+            return file_last(rt, word, filled);
         }
-        filled = file_block(&bytes[..count], word, filled);
+        filled = file_block(rt, &bytes[..count], word, filled)?;
     }
+    Ok(())
 }
 
-fn file_last(word: &[u8], filled: usize) {
+fn file_last(rt: &impl Print, word: &[u8], filled: usize) -> io::Result<()> {
     if 0 < filled {
-        file_line(word, filled);
+        file_line(rt, word, filled)?;
     }
+    Ok(())
 }
 
-fn file_block(bytes: &[u8], word: &mut [u8], filled: usize) -> usize {
+fn file_block(rt: &impl Print, bytes: &[u8], word: &mut [u8], filled: usize) -> io::Result<usize> {
     let mut now = filled;
     for i in 0..bytes.len() {
-        now = take_byte(bytes[i], word, now);
+        now = take_byte(rt, bytes[i], word, now)?;
     }
-    now
+    Ok(now)
 }
 
 // A byte of a line, or its end. Answers how many bytes of the line are kept.
-fn take_byte(byte: u8, word: &mut [u8], filled: usize) -> usize {
+fn take_byte(rt: &impl Print, byte: u8, word: &mut [u8], filled: usize) -> io::Result<usize> {
     match byte {
-        b'\r' => filled,
+        b'\r' => Ok(filled),
         b'\n' => {
-            file_line(word, filled);
-            0
+            file_line(rt, word, filled)?;
+            Ok(0)
         }
-        _ => keep(byte, word, filled),
+        _ => Ok(keep(byte, word, filled)),
     }
 }
 
@@ -61,24 +65,16 @@ fn keep(byte: u8, word: &mut [u8], filled: usize) -> usize {
     filled + 1
 }
 
-fn file_line(word: &[u8], filled: usize) {
+fn file_line(rt: &impl Print, word: &[u8], filled: usize) -> io::Result<()> {
     if word.len() < filled {
-        return;
+        return Ok(());
     }
-    show(filing::file_word(&word[0..filled]));
+    show(rt, filing::file_word(&word[0..filled]))
 }
 
-fn show(placed: Placed) {
+fn show(rt: &impl Print, placed: Placed) -> io::Result<()> {
     match placed {
-        Placed::Shelf(shelf) => {
-            io::print_decimal(STDOUT_FILENO, shelf as u64);
-        }
-        Placed::Refused { number, place } => {
-            io::write_all(STDOUT_FILENO, b"refused ");
-            io::print_decimal(STDOUT_FILENO, number as u64);
-            io::write_all(STDOUT_FILENO, b" ");
-            io::print_decimal(STDOUT_FILENO, place as u64);
-        }
+        Placed::Shelf(shelf) => println!(rt; "{shelf}"),
+        Placed::Refused { number, place } => println!(rt; "refused {number} {place}"),
     }
-    io::write_all(STDOUT_FILENO, b"\n");
 }

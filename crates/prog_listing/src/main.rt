@@ -2,10 +2,10 @@
 // 65,536 bytes at most, one more than a file may have. Delays by a chip family come last, from the file `family` where it runs.
 #![tactic(auto)]
 
-use libc::STDIN_FILENO;
+use std::io;
 
-fn main() {
-    let mut file = io::large_buffer();
-    let count = io::read_full(STDIN_FILENO, &mut file);
-    list_file::printing::print(&file[..count], list_file::chip::here());
+fn main(rt: HostRuntime) -> io::Result<()> {
+    let mut file = [0u8; 65536];
+    let count = streams::read_full(&mut rt.reader(), &mut file)?;
+    list_file::printing::print(&rt, &file[..count], list_file::chip::here(&rt))
 }

@@ -1,9 +1,9 @@
 // A block of rows: taken from the text, run, and written as lines.
 use crate::reading::{behind, front, space};
 use crate::states::{Ended, Progress, Step, Task};
-use libc::STDERR_FILENO;
 use row_lines::Block;
 use shelf::{Run, Writing};
+use std::io::Write;
 use std::num::{wrapping_add_u64, wrapping_add_usize};
 
 // The whole lines that stand in the buffer, at most 1,024.
@@ -15,12 +15,13 @@ pub(crate) fn take(task: Task, progress: Progress, buffer: &[u8], values: &mut [
 
 // Runs a block, writes its lines, and counts its rows on standard error.
 pub(crate) fn run_block(
+    rt: &impl Eprint,
     file: &[u8],
     task: Task,
     progress: Progress,
     block: Block,
     values: &[u8],
-    out: i32,
+    out: &mut impl Write,
 ) -> Step {
     let mut outputs = space();
     let run = evaluate(file, task.number, block.rows, values, &mut outputs);
@@ -37,7 +38,7 @@ pub(crate) fn run_block(
                 return Step::Over(Ended::Unwritten);
             }
             let next = behind_block(progress, block, run.work);
-            show_count(next.rows);
+            show_count(rt, next.rows);
             Step::On(next)
         }
     }
@@ -59,17 +60,16 @@ fn evaluate_in(
     shelf::evaluate_rows(file, number, rows, values, scratch, outputs)
 }
 
-fn write_lines(task: Task, rows: usize, outputs: &[u8], out: i32) -> bool {
+fn write_lines(task: Task, rows: usize, outputs: &[u8], out: &mut impl Write) -> bool {
     let mut lines = space();
     let long = row_lines::put_lines(outputs, rows, task.outputs, &mut lines);
-    io::write_all(out, front(long, &lines))
+    out.write_all(front(long, &lines)).is_ok()
 }
 
-// The count of rows so far, on standard error. It ends so that what is written next is written over it.
-fn show_count(rows: u64) {
-    io::write_all(STDERR_FILENO, b"rows ");
-    io::print_decimal(STDERR_FILENO, rows);
-    io::write_all(STDERR_FILENO, b"\r");
+// The count of rows so far, on standard error. It ends so that what is written next is written over it. The rows go on where it cannot be
+// shown.
+fn show_count(rt: &impl Eprint, rows: u64) {
+    let _ = eprint!(rt; "rows {rows}\r");
 }
 
 // The text goes on behind a block.

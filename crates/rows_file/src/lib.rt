@@ -1,4 +1,4 @@
-// A text of rows, read from one descriptor and run on a module in blocks of at most 1,024, and the lines of its outputs, written to another.
+// A text of rows, read from a source and run on a module in blocks of at most 1,024, and the lines of its outputs, written to another.
 // Lines and rows are taken and made by `row_lines`; here they are only read, run, counted and written.
 #![tactic(auto)]
 

@@ -1,5 +1,7 @@
-// Bytes from a descriptor into a buffer, and parts of a buffer.
+// Bytes from a source into a buffer, and parts of a buffer.
 ghost use Rattle.std.specs.Prelude.{◌≡◌, length};
+
+use std::io::Read;
 
 // What became of reading.
 #[derive(Clone, Copy)]
@@ -8,15 +10,12 @@ pub enum Loaded {
     Failed,
 }
 
-// Reads from a descriptor until the buffer is full or the input ends.
-pub fn load_from(descriptor: i32, buffer: &mut [u8]) -> Loaded {
-    let got = libc::read(descriptor, buffer);
-    if got < 0 {
-        return Loaded::Failed;
+// Reads from a source until the buffer is full or the input ends.
+pub fn load_from(source: &mut impl Read, buffer: &mut [u8]) -> Loaded {
+    match streams::read_full(source, buffer) {
+        Ok(count) => Loaded::Bytes(count),
+        Err(_) => Loaded::Failed,
     }
-    let first = io::count(got, buffer);
-    let more = io::read_full(descriptor, &mut buffer[first..]);
-    Loaded::Bytes(first + more)
 }
 
 // As many of the bytes as are counted, at most all.

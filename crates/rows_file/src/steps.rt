@@ -3,15 +3,29 @@ use crate::blocks::{run_block, take};
 use crate::reading::{Loaded, front, load_from, space};
 use crate::states::{Ended, Progress, Step, Task};
 use row_lines::Line;
+use std::io::{Read, Write};
 use std::num::wrapping_add_usize;
 
-pub fn run_text(file: &[u8], task: Task, text: i32, out: i32) -> Ended {
+pub fn run_text(
+    rt: &impl Eprint,
+    file: &[u8],
+    task: Task,
+    text: &mut impl Read,
+    out: &mut impl Write,
+) -> Ended {
     let mut buffer = space();
-    run_steps(file, task, text, out, &mut buffer)
+    run_steps(rt, file, task, text, out, &mut buffer)
 }
 
 // Step after step. No text has so many.
-fn run_steps(file: &[u8], task: Task, text: i32, out: i32, buffer: &mut [u8]) -> Ended {
+fn run_steps(
+    rt: &impl Eprint,
+    file: &[u8],
+    task: Task,
+    text: &mut impl Read,
+    out: &mut impl Write,
+    buffer: &mut [u8],
+) -> Ended {
     let mut progress = Progress {
         at: 0,
         filled: 0,
@@ -20,10 +34,8 @@ fn run_steps(file: &[u8], task: Task, text: i32, out: i32, buffer: &mut [u8]) ->
         values: 0,
         work: 0,
     };
-    let mut left = u64::MAX;
-    while 0 < left {
-        left -= 1;
-        match take_step(file, task, progress, text, out, buffer) {
+    for _ in 0..u64::MAX {
+        match take_step(rt, file, task, progress, text, out, buffer) {
             Step::On(next) => {
                 progress = next;
             }
@@ -35,18 +47,19 @@ fn run_steps(file: &[u8], task: Task, text: i32, out: i32, buffer: &mut [u8]) ->
 
 // A block of the rows that stand in the buffer; where there is none, more of the text.
 fn take_step(
+    rt: &impl Eprint,
     file: &[u8],
     task: Task,
     progress: Progress,
-    text: i32,
-    out: i32,
+    text: &mut impl Read,
+    out: &mut impl Write,
     buffer: &mut [u8],
 ) -> Step {
     let mut values = space();
     let block = take(task, progress, buffer, &mut values);
     if 0 < block.rows {
         let given = block.given;
-        return run_block(file, task, progress, block, front(given, &values), out);
+        return run_block(rt, file, task, progress, block, front(given, &values), out);
     }
     let line = block.line;
     match line {
@@ -56,7 +69,7 @@ fn take_step(
 }
 
 // More of the text, behind what is left of it; or the end.
-fn read_on(progress: Progress, text: i32, buffer: &mut [u8]) -> Step {
+fn read_on(progress: Progress, text: &mut impl Read, buffer: &mut [u8]) -> Step {
     if progress.over {
         return Step::Over(Ended::Rows(progress.rows, progress.work));
     }

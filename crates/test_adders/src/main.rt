@@ -2,30 +2,31 @@
 // first, so that what is left as it was can be seen.
 #![tactic(auto)]
 
+use std::io;
 use test_orders::print_line;
 
-fn main() {
+fn main(rt: HostRuntime) -> io::Result<()> {
     let mut few = [255u8; 4];
-    order(0, &mut few);
-    print_line(&few);
-    order(65, &mut few);
-    print_line(&few);
+    order(&rt, 0, &mut few)?;
+    print_line(&rt, &few)?;
+    order(&rt, 65, &mut few)?;
+    print_line(&rt, &few)?;
     let mut short = [255u8; 66];
-    order(1, &mut short);
-    print_line(&short);
+    order(&rt, 1, &mut short)?;
+    print_line(&rt, &short)?;
     let mut exact = [255u8; 67];
-    order(1, &mut exact);
-    print_line(&exact);
+    order(&rt, 1, &mut exact)?;
+    print_line(&rt, &exact)?;
     let mut long = [255u8; 70];
-    order(1, &mut long);
-    print_line(&long);
+    order(&rt, 1, &mut long)?;
+    print_line(&rt, &long)?;
     let mut one_less = [255u8; 1018];
-    order(64, &mut one_less);
+    order(&rt, 64, &mut one_less)?;
     let mut widest = [255u8; 1019];
-    order(64, &mut widest);
+    order(&rt, 64, &mut widest)
 }
 
-fn order(width: usize, out: &mut [u8]) {
-    test_orders::print_order(width, out.len());
-    test_orders::print_answer(write_order::adder(width, out));
+fn order(rt: &impl Print, width: usize, out: &mut [u8]) -> io::Result<()> {
+    test_orders::print_order(rt, width, out.len())?;
+    test_orders::print_answer(rt, write_order::adder(width, out))
 }

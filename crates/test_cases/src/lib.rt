@@ -2,30 +2,31 @@
 // low one first.
 #![tactic(auto)]
 
-ghost use Rattle.std.specs.Prelude.{◌≤◌, ◌<◌, length};
+ghost use Rattle.std.specs.Prelude.{◌≤◌, ◌<◌, length, IfOk};
 
-use libc::STDIN_FILENO;
+use std::io;
+use std::io::Read;
 
 // Reads the next part into the front of `buffer`, and answers how many bytes it has: 0 at the end of the input, and for a part that the
 // buffer is too short for.
-pub fn read_part(buffer: &mut [u8]) -> usize
-    ensures { result ≤ length buffer.new }
+pub fn read_part(input: &mut impl Read, buffer: &mut [u8]) -> io::Result<usize>
+    ensures { IfOk result (λ count. count ≤ length buffer.new) }
 {
-    let count = read_count();
+    let count = read_count(input)?;
     if buffer.len() < count {
-        return 0;
+        return Ok(0);
     }
-    io::read_full(STDIN_FILENO, &mut buffer[..count]);
-    count
+    streams::read_full(input, &mut buffer[..count])?;
+    Ok(count)
 }
 
 // Reads a count; 0 at the end of the input.
-fn read_count() -> usize {
+fn read_count(input: &mut impl Read) -> io::Result<usize> {
     let mut bytes = [0u8; 2];
-    if io::read_full(STDIN_FILENO, &mut bytes) < 2 {
-        return 0;
+    if streams::read_full(input, &mut bytes)? < 2 {
+        return Ok(0);
     }
-    count_of(&bytes)
+    Ok(count_of(&bytes))
 }
 
 // The number in two bytes, the low one first.

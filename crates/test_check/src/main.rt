@@ -2,55 +2,67 @@
 // count of its label's bytes, the label, the count of its file's bytes and the file; a count has two bytes, the low one first.
 #![tactic(auto)]
 
-use libc::{STDIN_FILENO, STDOUT_FILENO};
 use shelf::Checked;
+use std::io;
+use std::io::Read;
 
-fn main() {
-    let mut file = io::large_buffer();
+fn main(rt: HostRuntime) -> io::Result<()> {
+    let mut file = [0u8; 65536];
     let mut label = [0u8; 256];
-    io::write_all(STDOUT_FILENO, b"1 65536 bytes");
-    show(shelf::check(&file));
-    check_all(&mut label, &mut file);
+    rt.write_all(b"1 65536 bytes")?;
+    show(&rt, shelf::check(&file))?;
+    check_all(&rt, &mut rt.reader(), &mut label, &mut file)
 }
 
 // The cases of the input, a thousand at most.
-fn check_all(label: &mut [u8], file: &mut [u8]) {
+fn check_all(
+    rt: &impl Print,
+    input: &mut impl Read,
+    label: &mut [u8],
+    file: &mut [u8],
+) -> io::Result<()> {
     let mut left: u32 = 1000;
     while 0 < left {
-        if !check_case(label, file) {
-            return;
+        if !check_case(rt, input, label, file)? {
+            return Ok(());
         }
         left -= 1;
     }
+    Ok(())
 }
 
 // Reads a case and prints its line, and answers whether there was one.
-fn check_case(label: &mut [u8], file: &mut [u8]) -> bool {
-    let labelled = read_count();
+fn check_case(
+    rt: &impl Print,
+    input: &mut impl Read,
+    label: &mut [u8],
+    file: &mut [u8],
+) -> io::Result<bool> {
+    let labelled = read_count(input)?;
     if labelled == 0 {
-        return false;
+        return Ok(false);
     }
     if label.len() < labelled {
-        return false;
+        return Ok(false);
     }
-    io::read_full(STDIN_FILENO, &mut label[..labelled]);
-    io::write_all(STDOUT_FILENO, &label[..labelled]);
-    let count = read_count();
+    streams::read_full(input, &mut label[..labelled])?;
+    rt.write_all(&label[..labelled])?;
+    let count = read_count(input)?;
     if file.len() < count {
-        return false;
+        return Ok(false);
     }
-    io::read_full(STDIN_FILENO, &mut file[..count]);
-    show(shelf::check(&file[..count]));
-    true
+    streams::read_full(input, &mut file[..count])?;
+    show(rt, shelf::check(&file[..count]))?;
+    Ok(true)
 }
 
 // Reads a count; 0 at the end of the input.
-fn read_count() -> usize {
+fn read_count(input: &mut impl Read) -> io::Result<usize> {
     let mut bytes = [0u8; 2];
-    if io::read_full(STDIN_FILENO, &mut bytes) < 2 {
-        return 0;
+    if streams::read_full(input, &mut bytes)? < 2 {
+        return Ok(0);
     }
-    count_of(&bytes)
+    Ok(count_of(&bytes))
 }
 
 // The number in two bytes, the low one first.
@@ -61,17 +73,9 @@ fn count_of(bytes: &[u8]) -> usize {
     bytes[0] as usize + 256 * bytes[1] as usize
 }
 
-fn show(checked: Checked) {
+fn show(rt: &impl Print, checked: Checked) -> io::Result<()> {
     match checked {
-        Checked::Good => {
-            io::write_all(STDOUT_FILENO, b": good\n");
-        }
-        Checked::Broken { number, place } => {
-            io::write_all(STDOUT_FILENO, b": refused ");
-            io::print_decimal(STDOUT_FILENO, number as u64);
-            io::write_all(STDOUT_FILENO, b" ");
-            io::print_decimal(STDOUT_FILENO, place as u64);
-            io::write_all(STDOUT_FILENO, b"\n");
-        }
+        Checked::Good => println!(rt; ": good"),
+        Checked::Broken { number, place } => println!(rt; ": refused {number} {place}"),
     }
 }

@@ -2,44 +2,45 @@
 // FF at first, so that what is left as it was can be seen.
 #![tactic(auto)]
 
+use std::io;
 use test_orders::print_line;
 
-fn main() {
+fn main(rt: HostRuntime) -> io::Result<()> {
     let mut few = [255u8; 4];
-    order(0, &mut few);
-    print_line(&few);
-    order(65, &mut few);
-    print_line(&few);
+    order(&rt, 0, &mut few)?;
+    print_line(&rt, &few)?;
+    order(&rt, 65, &mut few)?;
+    print_line(&rt, &few)?;
     let mut short = [255u8; 99];
-    order(1, &mut short);
-    print_line(&short);
+    order(&rt, 1, &mut short)?;
+    print_line(&rt, &short)?;
     let mut exact = [255u8; 100];
-    order(1, &mut exact);
-    print_line(&exact);
+    order(&rt, 1, &mut exact)?;
+    print_line(&rt, &exact)?;
     let mut long = [255u8; 103];
-    order(1, &mut long);
-    print_line(&long);
+    order(&rt, 1, &mut long)?;
+    print_line(&rt, &long)?;
     let mut six = [255u8; 300];
-    order(6, &mut six);
-    print_line(&six);
-    widths();
+    order(&rt, 6, &mut six)?;
+    print_line(&rt, &six)?;
+    widths(&rt)
 }
 
 // Widths at which the shape grows, with room for the widest and no more; one byte less is too few for that one.
-fn widths() {
+fn widths(rt: &impl Print) -> io::Result<()> {
     let mut widest = [255u8; 3746];
-    order(2, &mut widest);
-    order(3, &mut widest);
-    order(7, &mut widest);
-    order(15, &mut widest);
-    order(32, &mut widest);
-    order(33, &mut widest);
-    order(64, &mut widest);
+    order(rt, 2, &mut widest)?;
+    order(rt, 3, &mut widest)?;
+    order(rt, 7, &mut widest)?;
+    order(rt, 15, &mut widest)?;
+    order(rt, 32, &mut widest)?;
+    order(rt, 33, &mut widest)?;
+    order(rt, 64, &mut widest)?;
     let mut one_less = [255u8; 3745];
-    order(64, &mut one_less);
+    order(rt, 64, &mut one_less)
 }
 
-fn order(width: usize, out: &mut [u8]) {
-    test_orders::print_order(width, out.len());
-    test_orders::print_answer(write_order::fast_adder(width, out));
+fn order(rt: &impl Print, width: usize, out: &mut [u8]) -> io::Result<()> {
+    test_orders::print_order(rt, width, out.len())?;
+    test_orders::print_answer(rt, write_order::fast_adder(width, out))
 }

@@ -5,88 +5,107 @@
 #![tactic(auto)]
 
 use answers::Writing;
-use libc::{STDIN_FILENO, STDOUT_FILENO};
+use std::io;
+use std::io::Read;
 
-fn main() {
+fn main(rt: HostRuntime) -> io::Result<()> {
     let mut label = [0u8; 256];
-    let mut file = io::large_buffer();
-    flatten_all(&mut label, &mut file);
+    let mut file = [0u8; 65536];
+    flatten_all(&rt, &mut rt.reader(), &mut label, &mut file)
 }
 
 // The cases of the input, a thousand at most.
-fn flatten_all(label: &mut [u8], file: &mut [u8]) {
+fn flatten_all(
+    rt: &impl Print,
+    input: &mut impl Read,
+    label: &mut [u8],
+    file: &mut [u8],
+) -> io::Result<()> {
     let mut left: u32 = 1000;
     while 0 < left {
-        if !flatten_case(label, file) {
-            return;
+        if !flatten_case(rt, input, label, file)? {
+            return Ok(());
         }
         left -= 1;
     }
+    Ok(())
 }
 
 // Reads a case and prints its lines, and answers whether there was one.
-fn flatten_case(label: &mut [u8], file: &mut [u8]) -> bool {
-    let labelled = read_number() as usize;
+fn flatten_case(
+    rt: &impl Print,
+    input: &mut impl Read,
+    label: &mut [u8],
+    file: &mut [u8],
+) -> io::Result<bool> {
+    let labelled = read_number(input)? as usize;
     if labelled == 0 {
-        return false;
+        return Ok(false);
     }
     if label.len() < labelled {
-        return false;
+        return Ok(false);
     }
-    io::read_full(STDIN_FILENO, &mut label[..labelled]);
-    io::write_all(STDOUT_FILENO, &label[..labelled]);
-    let count = read_number() as usize;
+    streams::read_full(input, &mut label[..labelled])?;
+    rt.write_all(&label[..labelled])?;
+    let count = read_number(input)? as usize;
     if file.len() < count {
-        return false;
+        return Ok(false);
     }
-    io::read_full(STDIN_FILENO, &mut file[..count]);
-    let number = read_number();
-    let entries = read_number() as usize;
-    let bytes = read_number() as usize;
-    flatten_in(&file[..count], number, entries, bytes);
-    true
+    streams::read_full(input, &mut file[..count])?;
+    let number = read_number(input)?;
+    let entries = read_number(input)? as usize;
+    let bytes = read_number(input)? as usize;
+    flatten_in(rt, &file[..count], number, entries, bytes)?;
+    Ok(true)
 }
 
 // Each entry of scratch is 7 at first and each byte of the buffer FF, so that what is left as it was can be seen.
-fn flatten_in(file: &[u8], number: u16, entries: usize, bytes: usize) {
+fn flatten_in(
+    rt: &impl Print,
+    file: &[u8],
+    number: u16,
+    entries: usize,
+    bytes: usize,
+) -> io::Result<()> {
     let mut scratch = [7u32; 8192];
     let mut out = [255u8; 32768];
-    flatten_lent(file, number, entries, bytes, &mut scratch, &mut out);
+    flatten_lent(rt, file, number, entries, bytes, &mut scratch, &mut out)
 }
 
 // The call in the first entries and bytes of what is lent.
 fn flatten_lent(
+    rt: &impl Print,
     file: &[u8],
     number: u16,
     entries: usize,
     bytes: usize,
     scratch: &mut [u32],
     out: &mut [u8],
-) {
+) -> io::Result<()> {
     if scratch.len() < entries {
-        return;
+        return Ok(());
     }
     if out.len() < bytes {
-        return;
+        return Ok(());
     }
     let answer = call_door::flatten(file, number, &mut scratch[..entries], &mut out[..bytes]);
-    io::write_all(STDOUT_FILENO, b": cleared ");
-    io::print_decimal(STDOUT_FILENO, changed_entries(scratch) as u64);
-    io::write_all(STDOUT_FILENO, b" filled ");
-    io::print_decimal(STDOUT_FILENO, changed_bytes(out) as u64);
-    test_orders::print_answer(answer);
+    let cleared = changed_entries(scratch);
+    let filled = changed_bytes(out);
+    print!(rt; ": cleared {cleared} filled {filled}")?;
+    test_orders::print_answer(rt, answer)?;
     if let Writing::Wrote(count) = answer {
-        show(count, out);
+        show(rt, count, out)?;
     }
+    Ok(())
 }
 
 // The first bytes of the answer, 256 at most.
-fn show(count: usize, out: &[u8]) {
+fn show(rt: &impl Print, count: usize, out: &[u8]) -> io::Result<()> {
     let shown = if count < 256 { count } else { 256 };
     if out.len() < shown {
-        return;
+        return Ok(());
     }
-    test_orders::print_line(&out[..shown]);
+    test_orders::print_line(rt, &out[..shown])
 }
 
 fn changed_entries(scratch: &[u32]) -> usize {
@@ -110,12 +129,12 @@ fn changed_bytes(out: &[u8]) -> usize {
 }
 
 // Reads a number; 0 at the end of the input.
-fn read_number() -> u16 {
+fn read_number(input: &mut impl Read) -> io::Result<u16> {
     let mut bytes = [0u8; 2];
-    if io::read_full(STDIN_FILENO, &mut bytes) < 2 {
-        return 0;
+    if streams::read_full(input, &mut bytes)? < 2 {
+        return Ok(0);
     }
-    number_of(&bytes)
+    Ok(number_of(&bytes))
 }
 
 // The number in two bytes, the low one first.

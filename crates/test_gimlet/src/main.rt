@@ -4,38 +4,39 @@
 
 ghost use Rattle.std.specs.Prelude.{◌≤◌, length};
 
-use libc::{STDIN_FILENO, STDOUT_FILENO};
+use std::io;
+use std::rt::Files;
 
-fn main() {
-    let mut lines = io::large_buffer();
-    let long = io::read_full(STDIN_FILENO, &mut lines);
-    perform_all(&mut lines[..long]);
+fn main(rt: HostRuntime) -> io::Result<()> {
+    let mut lines = [0u8; 65536];
+    let long = streams::read_full(&mut rt.reader(), &mut lines)?;
+    perform_all(&rt, &mut lines[..long])
 }
 
 // Line after line. A line that does not end is not performed.
-fn perform_all(lines: &mut [u8]) {
+fn perform_all(rt: &(impl Files + Input + Print + Eprint), lines: &mut [u8]) -> io::Result<()> {
     let mut from = 0;
     while from < lines.len() {
         let to = line_end(lines, from);
         if to == lines.len() {
-            return;
+            return Ok(());
         }
         let next = to + 1;
-        perform_line(&mut lines[from..next]);
+        perform_line(rt, &mut lines[from..next])?;
         from = next;
     }
+    Ok(())
 }
 
-fn perform_line(line: &mut [u8]) {
-    io::write_all(STDOUT_FILENO, b"> ");
-    io::write_all(STDOUT_FILENO, line);
+fn perform_line(rt: &(impl Files + Input + Print + Eprint), line: &mut [u8]) -> io::Result<()> {
+    rt.write_all(b"> ")?;
+    rt.write_all(line)?;
     end_words(line);
     if line.len() < 6 || !is_show(line) {
-        command::perform(line);
-        return;
+        return command::perform(rt, line);
     }
     let end = line.len() - 1;
-    show(&line[5..end]);
+    show(rt, &line[5..end])
 }
 
 fn is_show(line: &[u8]) -> bool
@@ -44,16 +45,14 @@ fn is_show(line: &[u8]) -> bool
     line[0] == b's' && line[1] == b'h' && line[2] == b'o' && line[3] == b'w' && line[4] == 0
 }
 
-fn show(path: &[u8]) {
-    let descriptor = os::open_read(path);
-    if descriptor < 0 {
-        io::write_all(STDOUT_FILENO, b"no such file\n");
-        return;
-    }
-    let mut bytes = io::large_buffer();
-    let long = io::read_full(descriptor, &mut bytes);
-    libc::close(descriptor);
-    io::write_all(STDOUT_FILENO, &bytes[..long]);
+fn show(rt: &(impl Files + Print), path: &[u8]) -> io::Result<()> {
+    let Ok(mut file) = streams::open(rt, path) else {
+        return rt.write_all(b"no such file\n");
+    };
+    let mut bytes = [0u8; 65536];
+    let long = streams::read_full(&mut file, &mut bytes)?;
+    drop(file);
+    rt.write_all(&bytes[..long])
 }
 
 // Where the line that begins at a place has its line feed; the end of all lines where it has none.

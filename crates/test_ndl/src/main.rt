@@ -4,75 +4,74 @@
 #![tactic(auto)]
 
 use answers::Writing;
-use libc::{STDIN_FILENO, STDOUT_FILENO};
+use std::io;
+use std::io::Read;
 
-fn main() {
+fn main(rt: HostRuntime) -> io::Result<()> {
     let mut file = [0u8; 67];
     shelf::adder(1, &mut file);
     let mut names = [0u8; 129];
-    io::read_full(STDIN_FILENO, &mut names);
-    first(&file, &names);
-    list_all(&file, &mut names);
+    let mut input = rt.reader();
+    streams::read_full(&mut input, &mut names)?;
+    first(&rt, &file, &names)?;
+    list_all(&rt, &mut input, &file, &mut names)
 }
 
-fn first(file: &[u8], line: &[u8]) {
+fn first(rt: &impl Print, file: &[u8], line: &[u8]) -> io::Result<()> {
     if line.len() < 129 {
-        return;
+        return Ok(());
     }
-    show(file, &line[0..128]);
-    fit(file, &line[0..128]);
+    show(rt, file, &line[0..128])?;
+    fit(rt, file, &line[0..128])?;
     let mut text = [0u8; 420];
-    print_answer(shelf::write_ndl(file, &line[0..127], &mut text));
+    print_answer(rt, shelf::write_ndl(file, &line[0..127], &mut text))
 }
 
-fn show(file: &[u8], names: &[u8]) {
+fn show(rt: &impl Print, file: &[u8], names: &[u8]) -> io::Result<()> {
     let mut text = [0u8; 5190];
     let made = shelf::write_ndl(file, names, &mut text);
-    io::write_all(STDOUT_FILENO, &text[0..420]);
-    print_answer(made);
+    rt.write_all(&text[0..420])?;
+    print_answer(rt, made)
 }
 
-fn fit(file: &[u8], names: &[u8]) {
+fn fit(rt: &impl Print, file: &[u8], names: &[u8]) -> io::Result<()> {
     let mut fitting = [0u8; 420];
-    print_answer(shelf::write_ndl(file, names, &mut fitting));
+    print_answer(rt, shelf::write_ndl(file, names, &mut fitting))?;
     let mut short = [0u8; 419];
-    print_answer(shelf::write_ndl(file, names, &mut short));
+    print_answer(rt, shelf::write_ndl(file, names, &mut short))
 }
 
 // The other lines, a hundred at most.
-fn list_all(file: &[u8], names: &mut [u8]) {
+fn list_all(
+    rt: &impl Print,
+    input: &mut impl Read,
+    file: &[u8],
+    names: &mut [u8],
+) -> io::Result<()> {
     let mut left: u32 = 100;
     while 0 < left {
-        if io::read_full(STDIN_FILENO, names) < 129 {
-            return;
+        if streams::read_full(input, names)? < 129 {
+            return Ok(());
         }
-        list(file, names);
+        list(rt, file, names)?;
         left -= 1;
     }
+    Ok(())
 }
 
 // The line's last byte is its end.
-fn list(file: &[u8], line: &[u8]) {
+fn list(rt: &impl Print, file: &[u8], line: &[u8]) -> io::Result<()> {
     if line.len() < 129 {
-        return;
+        return Ok(());
     }
-    io::write_all(STDOUT_FILENO, line);
+    rt.write_all(line)?;
     let mut text = [0u8; 5190];
-    print_answer(shelf::write_ndl(file, &line[0..128], &mut text));
+    print_answer(rt, shelf::write_ndl(file, &line[0..128], &mut text))
 }
 
-fn print_answer(answer: Writing) {
+fn print_answer(rt: &impl Print, answer: Writing) -> io::Result<()> {
     match answer {
-        Writing::Wrote(count) => {
-            io::write_all(STDOUT_FILENO, b"wrote ");
-            io::print_decimal(STDOUT_FILENO, count as u64);
-        }
-        Writing::Refused { number, place } => {
-            io::write_all(STDOUT_FILENO, b"refused ");
-            io::print_decimal(STDOUT_FILENO, number as u64);
-            io::write_all(STDOUT_FILENO, b" ");
-            io::print_decimal(STDOUT_FILENO, place as u64);
-        }
+        Writing::Wrote(count) => println!(rt; "wrote {count}"),
+        Writing::Refused { number, place } => println!(rt; "refused {number} {place}"),
     }
-    io::write_all(STDOUT_FILENO, b"\n");
 }

@@ -4,47 +4,36 @@
 ghost use Rattle.std.specs.Prelude.{◌<◌};
 
 use answers::Writing;
-use libc::STDOUT_FILENO;
+use std::io;
 
 // The width and the buffer's length.
-pub fn print_order(width: usize, buffer: usize) {
-    io::write_all(STDOUT_FILENO, b"width ");
-    io::print_decimal(STDOUT_FILENO, width as u64);
-    io::write_all(STDOUT_FILENO, b" buffer ");
-    io::print_decimal(STDOUT_FILENO, buffer as u64);
+pub fn print_order(rt: &impl Print, width: usize, buffer: usize) -> io::Result<()> {
+    print!(rt; "width {width} buffer {buffer}")
 }
 
 // The answer, which ends the line.
-pub fn print_answer(answer: Writing) {
+pub fn print_answer(rt: &impl Print, answer: Writing) -> io::Result<()> {
     match answer {
-        Writing::Wrote(count) => {
-            io::write_all(STDOUT_FILENO, b" wrote ");
-            io::print_decimal(STDOUT_FILENO, count as u64);
-        }
-        Writing::Refused { number, place } => {
-            io::write_all(STDOUT_FILENO, b" refused ");
-            io::print_decimal(STDOUT_FILENO, number as u64);
-            io::write_all(STDOUT_FILENO, b" ");
-            io::print_decimal(STDOUT_FILENO, place as u64);
-        }
+        Writing::Wrote(count) => println!(rt; " wrote {count}"),
+        Writing::Refused { number, place } => println!(rt; " refused {number} {place}"),
     }
-    io::write_all(STDOUT_FILENO, b"\n");
 }
 
 // A line of bytes in hexadecimal.
-pub fn print_line(bytes: &[u8]) {
-    print_bytes(bytes);
-    io::write_all(STDOUT_FILENO, b"\n");
+pub fn print_line(rt: &impl Print, bytes: &[u8]) -> io::Result<()> {
+    print_bytes(rt, bytes)?;
+    println!(rt)
 }
 
-fn print_bytes(bytes: &[u8]) {
+fn print_bytes(rt: &impl Print, bytes: &[u8]) -> io::Result<()> {
     for i in 0..bytes.len() {
-        print_byte(bytes[i]);
+        print_byte(rt, bytes[i])?;
     }
+    Ok(())
 }
 
-fn print_byte(b: u8) {
-    io::write_all(STDOUT_FILENO, &[b' ', digit(b / 16), digit(b % 16)]);
+fn print_byte(rt: &impl Print, b: u8) -> io::Result<()> {
+    rt.write_all(&[b' ', digit(b / 16), digit(b % 16)])
 }
 
 fn digit(d: u8) -> u8

@@ -2,8 +2,8 @@
 // bytes, and the same with one byte more.
 #![tactic(auto)]
 
-use libc::STDOUT_FILENO;
 use read_file::Reading;
+use std::io;
 
 // Puts a byte at a place, where there is one, and gives the place behind it.
 fn put(at: usize, byte: u8, out: &mut [u8]) -> usize {
@@ -48,43 +48,34 @@ fn put_file(out: &mut [u8]) -> usize {
 }
 
 // Prints an answer as a line.
-fn show(reading: Reading) {
+fn show(rt: &impl Print, reading: Reading) -> io::Result<()> {
     match reading {
-        Reading::Read { modules, numbers } => {
-            io::write_all(STDOUT_FILENO, b"read ");
-            io::print_decimal(STDOUT_FILENO, modules as u64);
-            io::write_all(STDOUT_FILENO, b" ");
-            io::print_decimal(STDOUT_FILENO, numbers as u64);
-        }
-        Reading::Refused { number, place } => {
-            io::write_all(STDOUT_FILENO, b"refused ");
-            io::print_decimal(STDOUT_FILENO, number as u64);
-            io::write_all(STDOUT_FILENO, b" ");
-            io::print_decimal(STDOUT_FILENO, place as u64);
-        }
+        Reading::Read { modules, numbers } => println!(rt; "read {modules} {numbers}"),
+        Reading::Refused { number, place } => println!(rt; "refused {number} {place}"),
     }
-    io::write_all(STDOUT_FILENO, b"\n");
 }
 
 // Reads a file into lists that have room for any, and prints the answer.
-fn read(bytes: &[u8], numbers: &mut [u16; 65535]) {
+fn read(rt: &impl Print, bytes: &[u8], numbers: &mut [u16; 65535]) -> io::Result<()> {
     let mut starts = [0usize; 128];
     let mut offsets = [0usize; 128];
-    show(read_file::read(bytes, numbers, &mut starts, &mut offsets));
+    show(
+        rt,
+        read_file::read(bytes, numbers, &mut starts, &mut offsets),
+    )
 }
 
-fn main() {
+fn main(rt: HostRuntime) -> io::Result<()> {
     let mut numbers = [0u16; 65535];
-    read(b"", &mut numbers);
-    read(b"\x00", &mut numbers);
-    read(b"\x80\x00", &mut numbers);
-    read(b"\x80", &mut numbers);
-    read(b"\x00\x00", &mut numbers);
-    read(b"\x81\x01", &mut numbers);
-    let mut bytes = io::large_buffer();
+    read(&rt, b"", &mut numbers)?;
+    read(&rt, b"\x00", &mut numbers)?;
+    read(&rt, b"\x80\x00", &mut numbers)?;
+    read(&rt, b"\x80", &mut numbers)?;
+    read(&rt, b"\x00\x00", &mut numbers)?;
+    read(&rt, b"\x81\x01", &mut numbers)?;
+    let mut bytes = [0u8; 65536];
     let end = put_file(&mut bytes);
-    io::print_decimal(STDOUT_FILENO, end as u64);
-    io::write_all(STDOUT_FILENO, b"\n");
-    read(&bytes[..65535], &mut numbers);
-    read(&bytes, &mut numbers);
+    println!(rt; "{end}")?;
+    read(&rt, &bytes[..65535], &mut numbers)?;
+    read(&rt, &bytes, &mut numbers)
 }

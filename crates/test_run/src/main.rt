@@ -4,47 +4,66 @@
 // count of their bytes in front.
 #![tactic(auto)]
 
-ghost use Rattle.std.specs.Prelude.{◌≤◌, length};
+ghost use Rattle.std.specs.Prelude.{◌≤◌, length, IfOk};
 
 use answers::Writing;
-use libc::{STDIN_FILENO, STDOUT_FILENO};
+use std::io;
+use std::io::Read;
 
-fn main() {
+fn main(rt: HostRuntime) -> io::Result<()> {
     let mut label = [0u8; 256];
-    let mut file = io::large_buffer();
+    let mut file = [0u8; 65536];
     let mut values = [0u8; 256];
     let mut scratch = [0u32; 1024];
     let mut out = [0u8; 256];
-    run_all(&mut label, &mut file, &mut values, &mut scratch, &mut out);
+    run_all(
+        &rt,
+        &mut rt.reader(),
+        &mut label,
+        &mut file,
+        &mut values,
+        &mut scratch,
+        &mut out,
+    )
 }
 
 // The cases of the input, a thousand at most.
 fn run_all(
+    rt: &impl Print,
+    input: &mut impl Read,
     label: &mut [u8],
     file: &mut [u8],
     values: &mut [u8],
     scratch: &mut [u32],
     out: &mut [u8],
-) {
+) -> io::Result<()> {
     let mut left: u32 = 1000;
     while 0 < left {
-        let labelled = read_part(label);
+        let labelled = read_part(input, label)?;
         if labelled == 0 {
-            return;
+            return Ok(());
         }
-        io::write_all(STDOUT_FILENO, &label[..labelled]);
-        run_case(file, values, scratch, out);
+        rt.write_all(&label[..labelled])?;
+        run_case(rt, input, file, values, scratch, out)?;
         left -= 1;
     }
+    Ok(())
 }
 
 // Reads the rest of a case and prints the rest of its line.
-fn run_case(file: &mut [u8], values: &mut [u8], scratch: &mut [u32], out: &mut [u8]) {
-    let long = read_file(file);
-    let number = read_number();
-    let fed = read_part(values);
-    let entries = within(read_number() as usize, scratch.len());
-    let room = within(read_number() as usize, out.len());
+fn run_case(
+    rt: &impl Print,
+    input: &mut impl Read,
+    file: &mut [u8],
+    values: &mut [u8],
+    scratch: &mut [u32],
+    out: &mut [u8],
+) -> io::Result<()> {
+    let long = read_file(input, file)?;
+    let number = read_number(input)?;
+    let fed = read_part(input, values)?;
+    let entries = within(read_number(input)? as usize, scratch.len());
+    let room = within(read_number(input)? as usize, out.len());
     let run = call_door::evaluate(
         &file[..long],
         number,
@@ -53,22 +72,22 @@ fn run_case(file: &mut [u8], values: &mut [u8], scratch: &mut [u32], out: &mut [
         &mut out[..room],
     );
     let writing = run.writing;
-    show(writing, out);
+    show(rt, writing, out)
 }
 
 // Reads or writes the file of a case into the front of the buffer, and answers its length.
-fn read_file(file: &mut [u8]) -> usize
-    ensures { result ≤ length file.old }
+fn read_file(input: &mut impl Read, file: &mut [u8]) -> io::Result<usize>
+    ensures { IfOk result (λ long. long ≤ length file.old) }
 {
-    let source = read_number();
+    let source = read_number(input)?;
     if source == 0 {
-        return read_part(file);
+        return read_part(input, file);
     }
-    let width = read_number() as usize;
+    let width = read_number(input)? as usize;
     if source == 1 {
-        written(write_order::adder(width, file), file.len())
+        Ok(written(write_order::adder(width, file), file.len()))
     } else {
-        written(write_order::counter(width, file), file.len())
+        Ok(written(write_order::counter(width, file), file.len()))
     }
 }
 
@@ -86,12 +105,12 @@ fn written(answer: Writing, most: usize) -> usize
 }
 
 // Reads a count and so many bytes into the front of the buffer, and answers the count; 0 at the end of the input.
-fn read_part(buffer: &mut [u8]) -> usize
-    ensures { result ≤ length buffer.old }
+fn read_part(input: &mut impl Read, buffer: &mut [u8]) -> io::Result<usize>
+    ensures { IfOk result (λ count. count ≤ length buffer.old) }
 {
-    let count = within(read_number() as usize, buffer.len());
-    io::read_full(STDIN_FILENO, &mut buffer[..count]);
-    count
+    let count = within(read_number(input)? as usize, buffer.len());
+    streams::read_full(input, &mut buffer[..count])?;
+    Ok(count)
 }
 
 // A count, or 0 where it is more than there is room for.
@@ -102,12 +121,12 @@ fn within(count: usize, most: usize) -> usize
 }
 
 // Reads a number; 0 at the end of the input.
-fn read_number() -> u16 {
+fn read_number(input: &mut impl Read) -> io::Result<u16> {
     let mut bytes = [0u8; 2];
-    if io::read_full(STDIN_FILENO, &mut bytes) < 2 {
-        return 0;
+    if streams::read_full(input, &mut bytes)? < 2 {
+        return Ok(0);
     }
-    number_of(&bytes)
+    Ok(number_of(&bytes))
 }
 
 // The number in two bytes, the low one first.
@@ -119,28 +138,24 @@ fn number_of(bytes: &[u8]) -> u16 {
 }
 
 // The values of the outputs as a word, or the refusal.
-fn show(answer: Writing, out: &[u8]) {
+fn show(rt: &impl Print, answer: Writing, out: &[u8]) -> io::Result<()> {
     match answer {
         Writing::Wrote(count) => {
-            io::write_all(STDOUT_FILENO, b":");
-            show_word(&out[..within(count, out.len())]);
+            rt.write_all(b":")?;
+            show_word(rt, &out[..within(count, out.len())])?;
+            rt.write_all(b"\n")
         }
-        Writing::Refused { number, place } => {
-            io::write_all(STDOUT_FILENO, b": refused ");
-            io::print_decimal(STDOUT_FILENO, number as u64);
-            io::write_all(STDOUT_FILENO, b" ");
-            io::print_decimal(STDOUT_FILENO, place as u64);
-        }
+        Writing::Refused { number, place } => println!(rt; ": refused {number} {place}"),
     }
-    io::write_all(STDOUT_FILENO, b"\n");
 }
 
 // Nothing where there are no values.
-fn show_word(values: &[u8]) {
+fn show_word(rt: &impl Print, values: &[u8]) -> io::Result<()> {
     if 0 < values.len() {
-        io::write_all(STDOUT_FILENO, b" ");
+        rt.write_all(b" ")?;
     }
     for i in 0..values.len() {
-        io::print_decimal(STDOUT_FILENO, values[i] as u64);
+        rt.print(values[i])?;
     }
+    Ok(())
 }
