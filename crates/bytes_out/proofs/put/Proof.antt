@@ -13,18 +13,18 @@ use Rattle.bytes_out.proofs.put.Statement.{statement}
 use Rattle.bytes_out.proofs.put.Tie as tie
 
 -- The bytes of the number in each arm, and that there is room for them.
-low-bytes : (c : tie.Then-n-lt128) → number_bytes c.before.args.n ≡ c.before.args.n ∷ []
-low-bytes c = bytes-of-low c.before.args.n (omega arith)
+low-bytes : (c : tie.Then-n-lt128) → number_bytes c.args.n ≡ c.args.n ∷ []
+low-bytes c = bytes-of-low c.args.n (omega arith)
 
-low-room : (c : tie.Then-n-lt128) → c.before.args.at + 1 ≤ length c.before.args.out.now
-low-room c = rw (low-bytes c) at c.before.requires.1
+low-room : (c : tie.Then-n-lt128) → c.args.at + 1 ≤ length c.args.out.now
+low-room c = rw (low-bytes c) at c.requires.1
 
 high-bytes : (c : tie.Else-n-lt128)
-    → number_bytes c.before.args.n ≡ (128 + c.before.args.n % 128) ∷ (c.before.args.n / 128) ∷ []
-high-bytes c = bytes-of-high c.before.args.n (omega arith)
+    → number_bytes c.args.n ≡ (128 + c.args.n % 128) ∷ (c.args.n / 128) ∷ []
+high-bytes c = bytes-of-high c.args.n (omega arith)
 
-high-room : (c : tie.Else-n-lt128) → c.before.args.at + 2 ≤ length c.before.args.out.now
-high-room c = rw (high-bytes c) at c.before.requires.1
+high-room : (c : tie.Else-n-lt128) → c.args.at + 2 ≤ length c.args.out.now
+high-room c = rw (high-bytes c) at c.requires.1
 
 slice-write-out : tie.Need-bounds-out-at
 slice-write-out c = omega (arith, low-room c)
@@ -38,14 +38,14 @@ slice-write-out-3 c = simp length-set (omega (arith, high-room c))
 returns : tie.Need-returns-then-n-lt128
 returns c =
     rw (low-bytes c)
-    (put_stores (c.before.args.n ∷ []) c.before.args.out.now c.before.args.at (low-room c))
+    (put_stores (c.args.n ∷ []) c.args.out.now c.args.at (low-room c))
 
 returns-2 : tie.Need-returns-else-n-lt128
 returns-2 c =
     rw (high-bytes c, add-one)
-    (put_stores ((128 + c.before.args.n % 128) ∷ (c.before.args.n / 128) ∷ [])
-    c.before.args.out.now
-    c.before.args.at
+    (put_stores ((128 + c.args.n % 128) ∷ (c.args.n / 128) ∷ [])
+    c.args.out.now
+    c.args.at
     (high-room c))
 
 pub put_spec : {M : Type 1} → statement M

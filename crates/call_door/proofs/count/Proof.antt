@@ -5,7 +5,7 @@ use Rattle.call_door.proofs.count.Tie as tie
 
 returns : tie.Need-returns
 unfolding summary
-returns c = c.before.before.before.before.answer-sheet.ensures.met
+returns c = c.answer-sheet.ensures.met
 
 pub count_spec : {M : Type 1} → statement M
 count_spec = tie.close (tie.spec (λ c. search rules) (λ c κs. search rules) (λ c. search rules) returns)

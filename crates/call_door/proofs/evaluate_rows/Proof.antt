@@ -7,7 +7,7 @@ use Rattle.call_door.proofs.evaluate_rows.Tie as tie
 
 returns : tie.Need-returns
 unfolding rows_running
-returns c = runs_as (rows-running-writes _ _ _ _ _ _) c.before.before.before.before.answer-sheet.ensures.met
+returns c = runs_as (rows-running-writes _ _ _ _ _ _) c.answer-sheet.ensures.met
 
 pub evaluate_rows_spec : {M : Type 1} → statement M
 evaluate_rows_spec = tie.close (tie.spec (λ c κs. search rules) (λ c κs. search rules) (λ c. search rules) (λ c. search rules) returns)

@@ -5,7 +5,7 @@ use Rattle.call_door.proofs.flatten.Tie as tie
 
 returns : tie.Need-returns
 unfolding flattening
-returns c = c.before.before.before.before.answer-sheet.ensures.met
+returns c = c.answer-sheet.ensures.met
 
 pub flatten_spec : {M : Type 1} → statement M
 flatten_spec = tie.close (tie.spec (λ c κs. search rules) (λ c κs. search rules) (λ c. search rules) (λ c. search rules) returns)

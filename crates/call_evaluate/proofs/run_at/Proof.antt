@@ -8,10 +8,8 @@ use Rattle.call_evaluate.proofs.run_at.Tie as tie
 
 returns : tie.Need-returns
 returns c s =
-    let lent = c.before.before.before in
-    let ran = lent.before.before in
     rw c.work_with-work.ensures
-    (runs-beside _ (ran.evaluate_at-writing.ensures s) (λ _ _. s.size_is ∙ sym (work-is-size s.ms _ _)))
+    (runs-beside _ (c.evaluate_at-writing.ensures s) (λ _ _. s.size_is ∙ sym (work-is-size s.ms _ _)))
 
 pub run_at_spec : {M : Type 1} → statement M
 run_at_spec =

@@ -6,32 +6,25 @@ use borrow.Author.Rules.{rules}
 use Rattle.call_fault.proofs.in_numbers.Statement.{statement}
 use Rattle.call_fault.proofs.in_numbers.Tie as tie
 
--- The start, and where the modules are placed.
-abbrev begun : tie.After-entry-modules → tie.Start
-begun c = c.before.before
-
-abbrev asked : tie.After-place_modules → tie.After-entry-modules
-asked c = c.before.before.before
-
 abbrev placed :
-    (c : tie.After-place_modules) (w : Whole (begun (asked c)).args.numbers.now)
-    → Placed (begun (asked c)).args.numbers.now c.place_modules.new.1.1.0 (asked c).entry-modules.result
-placed c w = record { ms = w.ms; filed = c.place_modules.ensures w; counted = (asked c).entry-modules.ensures ∙ counted w }
+    (c : tie.After-place_modules) (w : Whole c.args.numbers.now)
+    → Placed c.args.numbers.now c.place_modules.new.1.1.0 c.entry-modules.result
+placed c w = record { ms = w.ms; filed = c.place_modules.ensures w; counted = c.entry-modules.ensures ∙ counted w }
 
 entry-requires : tie.Need-entry-modules-requires
-entry-requires c κs = some_number c.before.requires
+entry-requires c κs = some_number c.requires
 
 none-requires : tie.Need-none-requires
 none-requires c κs = search rules
 
 returns : tie.Need-returns-then-modules-position
-returns c w = let read = c.before.before in c.none.ensures ∙ none-there w _ _ read.entry-modules.ensures c.before.if-modules-position.true
+returns c w = c.none.ensures ∙ none-there w _ _ c.entry-modules.ensures c.if-modules-position.true
 
 slice-aggregate-place-modules : tie.Need-slice_bounds-place_modules-end
 slice-aggregate-place-modules c = search rules
 
 place-modules-requires : tie.Need-place_modules-requires
-place-modules-requires c κs = let read = c.before.before in ((λ w. let e = read.entry-modules.ensures ∙ counted w in (e, omega (arith, w.few))), (begun read).requires)
+place-modules-requires c κs = ((λ w. let e = c.entry-modules.ensures ∙ counted w in (e, omega (arith, w.few))), c.requires)
 
 slice-aggregate-first-fault : tie.Need-slice_bounds-first_fault-end
 slice-aggregate-first-fault c = search rules
@@ -41,11 +34,10 @@ slice-aggregate-first-fault-2 c = search rules
 
 first-fault-requires : tie.Need-first_fault-requires
 first-fault-requires c κs =
-    let at = c.before.before.before in
-    (placed at (begun (asked at)).requires, (at.before.before.if-modules-position.false, (wide 65536 (omega arith), fresh 65536)))
+    (placed c.before.before.before c.requires, (c.if-modules-position.false, (wide 65536 (omega arith), fresh 65536)))
 
 returns-2 : tie.Need-returns
-returns-2 c w = let found = c.before in found.first_fault.ensures (placed found.before.before.before.before w)
+returns-2 c w = c.first_fault.ensures (placed c.before.before.before.before.before w)
 
 pub in_numbers_spec : {M : Type 1} → statement M
 in_numbers_spec =

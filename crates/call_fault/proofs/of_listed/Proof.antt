@@ -10,7 +10,7 @@ slice-aggregate-read-long : tie.Need-slice_bounds-read_long-end
 slice-aggregate-read-long c = sym (length-replicate {A = ℕ} 524290 0)
 
 read-long-requires : tie.Need-read_long-extent-requires
-read-long-requires c κs = long-numbers _ c.before.before.requires
+read-long-requires c κs = long-numbers _ c.requires
 
 slice-aggregate-after-reading : tie.Need-slice_bounds-after_reading-end
 slice-aggregate-after-reading c = search rules

@@ -11,42 +11,34 @@ use Rattle.call_flatten.proofs.flatten_at.Tie as tie
 
 -- The function's entry from where 24 is decided.
 abbrev start : tie.After-many_nets → tie.Start
-start c = let lists = c.before.before in lists.before.before.before.before.before.before
+start c = c.before.before.before.before.before.before.before.before
 
 abbrev Given : tie.After-many_nets → Type 0
 Given c = let args = (start c).args in Standing args.image.now args.starts.now args.nets.now args.site
 
 -- Where it is not given there are few enough nets.
 few : (c : tie.Else-many_nets) (s : Given c.before) → flat_nets s ≤ 4096
-few c s = ltb-false 4096 (flat_nets s) (sym (c.before.many_nets.ensures s) ∙ c.if-many_nets.false)
+few c s = ltb-false 4096 (flat_nets s) (sym (c.many_nets.ensures s) ∙ c.if-many_nets.false)
 
 place-middle-requires : tie.Need-place_middle-requires
 place-middle-requires c κs =
-    let passed = c.before.before.before.before in
-    let s = (start passed.before).requires in
-    (long_placeable s c.before.before.if-room-le4096.true (few passed s), search rules)
+    let s = (start c.before.before.before.before.before).requires in
+    (long_placeable s c.if-room-le4096.true (few c.before.before.before.before s), search rules)
 
 returns-4 : tie.Need-returns-then-room-le4096
 returns-4 c s =
-    let placed = c.before.before.before.before in
-    let narrow = placed.before.before.before in
-    let passed = narrow.before.before in
-    asks-on s _ _ (few passed s) narrow.before.if-scratch-room.false
-    (placed.place_middle.ensures (long_placeable s narrow.if-room-le4096.true (few passed s)))
+    asks-on s _ _ (few c.before.before.before.before.before.before.before.before.before s) c.if-scratch-room.false
+    (c.place_middle.ensures (long_placeable s c.if-room-le4096.true (few c.before.before.before.before.before.before.before.before.before s)))
 
 place-large-requires : tie.Need-place_large-requires
 place-large-requires c κs =
-    let passed = c.before.before.before.before in
-    let s = (start passed.before).requires in
-    (long_placeable s (room-low s) (few passed s), search rules)
+    let s = (start c.before.before.before.before.before).requires in
+    (long_placeable s (room-low s) (few c.before.before.before.before s), search rules)
 
 returns-5 : tie.Need-returns
 returns-5 c s =
-    let placed = c.before.before.before.before in
-    let wide = placed.before.before.before in
-    let passed = wide.before.before in
-    asks-on s _ _ (few passed s) wide.before.if-scratch-room.false
-    (placed.place_large.ensures (long_placeable s (room-low s) (few passed s)))
+    asks-on s _ _ (few c.before.before.before.before.before.before.before.before.before s) c.if-scratch-room.false
+    (c.place_large.ensures (long_placeable s (room-low s) (few c.before.before.before.before.before.before.before.before.before s)))
 
 pub flatten_at_spec : {M : Type 1} → statement M
 flatten_at_spec =
@@ -58,7 +50,7 @@ flatten_at_spec =
     (λ c. search rules)
     (λ c. search rules)
     (λ c κs. search rules)
-    (λ c s. asks-many s _ _ (ltb-true 4096 (flat_nets s) (sym (c.before.many_nets.ensures s) ∙ c.if-many_nets.true)))
+    (λ c s. asks-many s _ _ (ltb-true 4096 (flat_nets s) (sym (c.many_nets.ensures s) ∙ c.if-many_nets.true)))
     (λ c s. asks-narrow s _ _ (few c.before s) c.if-scratch-room.true)
     place-middle-requires
     (λ c. search rules)

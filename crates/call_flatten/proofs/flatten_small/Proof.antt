@@ -6,26 +6,21 @@ use Rattle.call_flatten.proofs.Measured.{few-small, small_placeable}
 use Rattle.call_flatten.proofs.flatten_small.Statement.{statement}
 use Rattle.call_flatten.proofs.flatten_small.Tie as tie
 
-abbrev start : tie.After-struct_known-1 → tie.Start
-start c = c.before.before.before.before.before.before
-
 returns : tie.Need-returns-then-scratch-site
 returns c s =
-    let small = (start c.before).requires.1.0 in
+    let small = c.requires.1.0 in
     asks-narrow s _ _ (omega (arith, few-small s small)) c.if-scratch-site.true
 
 place-small-requires : tie.Need-place_small-requires
 place-small-requires c κs =
-    let pre = (start c.before.before.before).requires in
+    let pre = c.requires in
     (small_placeable pre.0 pre.1.0 pre.1.1, search rules)
 
 returns-2 : tie.Need-returns
 returns-2 c s =
-    let placed = c.before.before.before.before in
-    let wide = placed.before.before.before in
-    let pre = (start wide.before).requires in
-    asks-on s _ _ (omega (arith, few-small s pre.1.0)) wide.if-scratch-site.false
-    (placed.place_small.ensures (small_placeable s pre.1.0 pre.1.1))
+    let pre = c.requires in
+    asks-on s _ _ (omega (arith, few-small s pre.1.0)) c.if-scratch-site.false
+    (c.place_small.ensures (small_placeable s pre.1.0 pre.1.1))
 
 pub flatten_small_spec : {M : Type 1} → statement M
 flatten_small_spec =

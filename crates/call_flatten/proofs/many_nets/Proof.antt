@@ -12,54 +12,44 @@ use Rattle.call_flatten.proofs.Measured.{flat_nets, gates-low, size_low, inputs-
 use Rattle.call_flatten.proofs.many_nets.Statement.{statement}
 use Rattle.call_flatten.proofs.many_nets.Tie as tie
 
--- The function's entry from where the header is read, and that from where the expanded size leaves the question open.
-abbrev start : tie.After-module_at-header → tie.Start
-start c = c.before.before.before.before.before
-
-abbrev headed : tie.Else-header-site-le4096 → tie.After-module_at-header
-headed c = c.before.before.before
-
 add-if1 : tie.Need-overflow_add-header
 add-if1 c =
-    let s = (start c.before.before).requires in
-    omega (arith, inputs_are s c.before.before.module_at-header.ensures, inputs-low s, size_low s)
+    let s = c.requires in
+    omega (arith, inputs_are s c.module_at-header.ensures, inputs-low s, size_low s)
 
 returns : tie.Need-returns-then-header-site-le4096
 returns c s =
-    sym (le-ltb 4096 (flat_nets s) (omega (arith, inputs_are s c.before.before.before.module_at-header.ensures, gates-low s, c.if-header-site-le4096.true)))
+    sym (le-ltb 4096 (flat_nets s) (omega (arith, inputs_are s c.module_at-header.ensures, gates-low s, c.if-header-site-le4096.true)))
 
 add-result : tie.Need-overflow_add-result
 add-result c =
-    let counted = c.before.before in
-    let header = headed counted.before in
-    let s = (start header).requires in
+    let s = c.requires in
     omega (
       arith,
-      inputs_are s header.module_at-header.ensures,
+      inputs_are s c.module_at-header.ensures,
       inputs-low s,
-      gates-are s (tally-is s counted.tally_module.ensures) c.before.gates_of-gates.ensures,
+      gates-are s (tally-is s c.tally_module.ensures) c.gates_of-gates.ensures,
       gates-low s,
       size_low s,
     )
 
 returns-2 : tie.Need-returns
 returns-2 c s =
-    let counted = c.before.before in
     ap (ltb 4096)
-    (ap₂ ◌+◌ (inputs_are s (headed counted.before).module_at-header.ensures) (gates-are s (tally-is s counted.tally_module.ensures) c.before.gates_of-gates.ensures))
+    (ap₂ ◌+◌ (inputs_are s c.module_at-header.ensures) (gates-are s (tally-is s c.tally_module.ensures) c.gates_of-gates.ensures))
 
 pub many_nets_spec : {M : Type 1} → statement M
 many_nets_spec =
     tie.close
     (tie.spec
-    (λ c. omega (arith, in_starts (scene c.before.before.before.requires)))
-    (λ c. in_starts (scene c.before.before.before.before.requires))
-    (λ c κs. module_there (scene c.before.before.before.before.requires))
+    (λ c. omega (arith, in_starts (scene c.requires)))
+    (λ c. in_starts (scene c.requires))
+    (λ c κs. module_there (scene c.requires))
     (λ c. search rules)
     add-if1
     returns
-    (λ c κs. countable (start (headed c)).requires)
-    (λ c κs. let s = (start (headed c.before)).requires in tally-fits s (tally-is s c.tally_module.ensures))
+    (λ c κs. countable c.requires)
+    (λ c κs. let s = c.requires in tally-fits s (tally-is s c.tally_module.ensures))
     (λ c. search rules)
     add-result
     returns-2)

@@ -9,15 +9,13 @@ use Rattle.call_join.proofs.join.Tie as tie
 
 join-with-requires : tie.Need-join_with-requires
 join-with-requires c κs =
-    let taken = c.before.before.before in
     let numbers = length-replicate {A = ℕ} 1024 0 in
     let bytes = length-replicate {A = ℕ} 2050 0 in
-    let entry = taken.before.before.before.before.before in
-    let short = leb-true (length entry.args.house.now) 1024 taken.if-house-le1024.true in
+    let short = leb-true (length c.args.house.now) 1024 c.if-house-le1024.true in
     record {
-      group_fits = omega (arith, taken.before.if-group-le1024.true);
+      group_fits = omega (arith, c.if-group-le1024.true);
       house_fits = omega (arith, short);
-      bytes_fit = omega (arith, taken.before.if-group-le1024.true, short);
+      bytes_fit = omega (arith, c.if-group-le1024.true, short);
     }
 
 join-with-requires-2 : tie.Need-join_with-requires-2
@@ -34,9 +32,9 @@ join_spec =
     (λ c. search rules)
     join-with-requires
     (λ c. search rules)
-    (λ c. c.before.before.before.before.join_with.ensures)
+    (λ c. c.join_with.ensures)
     (λ c. search rules)
     (λ c. search rules)
     join-with-requires-2
     (λ c. search rules)
-    (λ c. c.before.before.before.before.join_with-2.ensures))
+    (λ c. c.join_with-2.ensures))

@@ -8,22 +8,17 @@ use Rattle.call_join.proofs.join_house.Tie as tie
 
 -- Back from where the file's modules are noted to the noting, and to the function's entry.
 abbrev noted : tie.In-Modules → tie.After-note
-noted k = k.before.before.before.before.before.before.before
-
-abbrev listed : tie.After-note → tie.After-slice_known-1
-listed n = n.before.before.before.before.before.before
+noted k = k.before.before.before.before.before
 
 abbrev entered : tie.After-note → tie.Start
-entered n = (listed n).before.before.before
+entered n = n.before.before.before.before.before.before.before.before.before
 
 shelf :
     (k : tie.In-Modules)
-    → (let n = noted k in
-    Shelved (entered n).args.house.now k.before.modules-1.given.0.0 n.note.last.1.1.0 n.note.last.1.1.1.0)
+    → (Shelved (entered k.before.before.before.before.before).args.house.now k.in-Modules.modules k.note.last.1.1.0 k.note.last.1.1.1.0)
 shelf k =
-    let n = noted k in
-    noted-shelved (entered n).args.house.now n.note.last.1.1.0 n.note.last.1.1.1.0 n.note.result n.note.ensures
-    k.before.modules-1.given.0.0 k.before.modules-1.given.1
+    noted-shelved (entered k.before.before.before.before.before).args.house.now k.note.last.1.1.0 k.note.last.1.1.1.0 k.note.result k.note.ensures
+    k.in-Modules.modules k.in-Modules.is
 
 -- From the gathering, and from the assembling, to where the modules are noted.
 abbrev known : tie.After-gather-all → tie.In-Modules
@@ -34,19 +29,16 @@ gathered c = c.before.before.before.before
 
 returns : tie.Need-returns-in-Refused
 returns c b =
-    let n = c.before.before.before.before.before.before.before in
-    let s = entered n in
-    refused_house b (length s.args.out-1.now) s.args.out-1.now
-    (noted-fails s.args.house.now n.note.new.1.1.0 n.note.new.1.1.1.0 n.note.result n.note.ensures
-    c.before.number-1.given.0.0 c.before.number-1.given.0.1.0 c.before.number-1.given.1)
+    let s = entered c.before.before.before.before.before in
+    refused_house b (length s.args.out.now) s.args.out.now
+    (noted-fails s.args.house.now c.note.new.1.1.0 c.note.new.1.1.1.0 c.note.result c.note.ensures
+    c.in-Refused.number c.in-Refused.place c.in-Refused.is)
 
 returns-2 : tie.Need-returns-in-Modules
 returns-2 c b =
-    let a = c.before.before.before.before in
-    let g = gathered a.before in
-    let s = shelf (known g) in
-    joins_house b s (g.gather-all.ensures (gathering b s)) (length (entered (noted (known g))).args.out-1.now)
-    (a.assemble.ensures (assembled b s (g.gather-all.ensures (gathering b s))))
+    let s = shelf c.before.before.before.before.before.before.before.before.before.before.before.before.before in
+    joins_house b s (c.gather-all.ensures (gathering b s)) (length (entered c.before.before.before.before.before.before.before.before.before.before.before.before.before.before.before.before.before.before).args.out.now)
+    (c.assemble.ensures (assembled b s (c.gather-all.ensures (gathering b s))))
 
 pub join_house_spec : {M : Type 1} → statement M
 join_house_spec =
@@ -59,12 +51,12 @@ join_house_spec =
     (λ c. search rules)
     (λ c. search rules)
     (λ c. search rules)
-    (λ c κs. let k = c.before.before.before in gathering (entered (noted k)).requires (shelf k))
+    (λ c κs. gathering (entered c.before.before.before.before.before.before.before.before).requires (shelf c.before.before.before))
     (λ c κs.
     let g = gathered c in
     let s = shelf (known g) in
     let b = (entered (noted (known g))).requires in
-    assembled b s (g.gather-all.ensures (gathering b s)))
+    assembled b s (g.gather.ensures (gathering b s)))
     (λ c. search rules)
     returns
     (λ c. search rules)

@@ -10,22 +10,17 @@ use Rattle.call_join.proofs.join_with.Tie as tie
 
 -- Back from where the file's modules are noted to the noting, and to the function's entry.
 abbrev noted : tie.In-Modules → tie.After-note
-noted k = k.before.before.before.before.before.before.before
-
-abbrev listed : tie.After-note → tie.After-slice_known-1
-listed n = n.before.before.before.before.before.before
+noted k = k.before.before.before.before.before
 
 abbrev entered : tie.After-note → tie.Start
-entered n = (listed n).before.before.before
+entered n = n.before.before.before.before.before.before.before.before.before
 
 shelf :
     (k : tie.In-Modules)
-    → (let n = noted k in
-    Shelved (entered n).args.group.now k.before.modules-1.given.0.0 n.note.last.1.1.0 n.note.last.1.1.1.0)
+    → (Shelved (entered k.before.before.before.before.before).args.group.now k.in-Modules.modules k.note.last.1.1.0 k.note.last.1.1.1.0)
 shelf k =
-    let n = noted k in
-    noted-shelved (entered n).args.group.now n.note.last.1.1.0 n.note.last.1.1.1.0 n.note.result n.note.ensures
-    k.before.modules-1.given.0.0 k.before.modules-1.given.1
+    noted-shelved (entered k.before.before.before.before.before).args.group.now k.note.last.1.1.0 k.note.last.1.1.1.0 k.note.result k.note.ensures
+    k.in-Modules.modules k.in-Modules.is
 
 -- From behind the marks, and from behind the copy, to where the modules are noted.
 abbrev marked : tie.After-mark → tie.In-Modules
@@ -34,38 +29,24 @@ marked m = m.before.before.before
 abbrev copied : tie.After-copy-at → tie.After-mark
 copied c = c.before.before.before.before
 
-abbrev handing : tie.After-join_house-arg-in-Modules-2-1 → tie.After-copy-at
-handing c = c.before.before.before.before.before.before
-
 returns : tie.Need-returns-in-Refused
 returns c =
-    let n = c.before.before.before.before.before.before.before in
-    let s = entered n in
-    refused-group s.requires (length s.args.out-1.now) s.args.out-1.now
-    (noted-fails s.args.group.now n.note.new.1.1.0 n.note.new.1.1.1.0 n.note.result n.note.ensures
-    c.before.number-1.given.0.0 c.before.number-1.given.0.1.0 c.before.number-1.given.1)
+    let s = entered c.before.before.before.before.before in
+    refused-group s.pre (length s.args.out.now) s.args.out.now
+    (noted-fails s.args.group.now c.note.new.1.1.0 c.note.new.1.1.1.0 c.note.result c.note.ensures
+    c.in-Refused.number c.in-Refused.place c.in-Refused.is)
 
 join-house-requires : tie.Need-join_house-requires
 join-house-requires c κs =
-    let p = handing c in
-    let m = copied p in
-    let k = marked m in
-    let n = noted k in
-    begun (entered n).requires (shelf k) n.note.kept.1.0 p.copy-at.kept.1.0
-    (omega (arith, m.mark.kept.1.1.0, length-replicate {A = ℕ} 16384 0))
-    (m.mark.ensures (searchable (shelf k)))
-    p.copy-at.ensures
-
--- Back from the answer to the call on the house's file.
-abbrev answered : tie.After-slice_known-in-Modules-4-1 → tie.After-join_house
-answered c = c.before.before.before.before.before.before
+    begun (entered c.before.before.before.before.before.before.before.before.before.before.before.before.before.before.before.before.before.before).pre (shelf c.before.before.before.before.before.before.before.before.before.before.before.before.before) c.note.kept.1.0 c.copy-at.kept.1.0
+    (omega (arith, c.mark.kept.1.1.0, length-replicate {A = ℕ} 16384 0))
+    (c.mark.ensures (searchable (shelf c.before.before.before.before.before.before.before.before.before.before.before.before.before)))
+    c.copy-at.ensures
 
 returns-2 : tie.Need-returns-in-Modules
 unfolding join-house-requires
 returns-2 c =
-    let h = answered c in
-    let k = marked (copied (handing h.before)) in
-    joins_both (entered (noted k)).requires (shelf k) (length (entered (noted k)).args.out-1.now) (h.join_house.ensures (join-house-requires h.before h.join_house.lifetimes))
+    joins_both (entered c.before.before.before.before.before.before.before.before.before.before.before.before.before.before.before.before.before.before.before.before.before.before.before.before.before).requires (shelf c.before.before.before.before.before.before.before.before.before.before.before.before.before.before.before.before.before.before.before.before) (length (entered c.before.before.before.before.before.before.before.before.before.before.before.before.before.before.before.before.before.before.before.before.before.before.before.before.before).args.out.now) (c.join_house.ensures (join-house-requires c.before.before.before.before.before.before.before c.join_house.lifetimes))
 
 pub join_with_spec : {M : Type 1} → statement M
 join_with_spec =
@@ -80,10 +61,10 @@ join_with_spec =
     (λ c. search rules)
     (λ c κs. markable (shelf c.before.before))
     (λ c. search rules)
-    (λ c. first-within (shelf (marked c.before)))
-    (λ c. first-within (shelf (marked c.before)))
+    (λ c. first-within (shelf c.before.before.before.before))
+    (λ c. first-within (shelf c.before.before.before.before))
     (λ c. search rules)
-    (λ c κs. let k = marked c.before.before.before in rest-fits (entered (noted k)).requires (shelf k))
+    (λ c κs. rest-fits (entered c.before.before.before.before.before.before.before.before.before.before.before).requires (shelf c.before.before.before.before.before.before))
     (λ c. search rules)
     join-house-requires
     (λ c. search rules)

@@ -11,59 +11,52 @@ use Rattle.call_look_up.proofs.Looks.{Handed, out-of-group, out-of_house, handed
 use Rattle.call_look_up.proofs.look_up.Statement.{statement}
 use Rattle.call_look_up.proofs.look_up.Tie as tie
 
--- Back from the answer to the function's entry; both files' entries are bytes.
-abbrev entered : tie.After-which_shelf → tie.Start
-entered w = w.before.before.before
+group-bytes : (w : tie.After-which_shelf) → Bytes w.args.group.now
+group-bytes w = bytes-all w.args.group.now (λ i. (w.shared_slice_known-1.given i).fits)
 
-group-bytes : (w : tie.After-which_shelf) → Bytes (entered w).args.group.now
-group-bytes w = bytes-all (entered w).args.group.now (λ i. (w.before.before.shared_slice_known-1.given i).fits)
-
-house-bytes : (w : tie.After-which_shelf) → Bytes (entered w).args.house.now
-house-bytes w = bytes-all (entered w).args.house.now (λ i. (w.before.shared_slice_known-2-1.given i).fits)
+house-bytes : (w : tie.After-which_shelf) → Bytes w.args.house.now
+house-bytes w = bytes-all w.args.house.now (λ i. (w.shared_slice_known-2-1.given i).fits)
 
 in_group :
     (c : tie.In-Group)
-    → (let a = (entered c.before.before.before).args in
-    Handed a.group.now c.before.start-1.given.0.0 c.before.start-1.given.0.1.0
+    → (let a = c.args in
+    Handed a.group.now c.in-Group.start c.in-Group.length
     (handed (look_up a.group.now a.house.now a.number).decision))
 in_group c =
-    let w = c.before.before.before in
-    let a = (entered w).args in
-    out-of-group a.group.now a.house.now a.number (group-bytes w) (house-bytes w)
-    c.before.start-1.given.0.0 c.before.start-1.given.0.1.0
-    (sym c.before.start-1.given.1 ∙ w.which_shelf.ensures)
+    let a = c.args in
+    out-of-group a.group.now a.house.now a.number (group-bytes c.before) (house-bytes c.before)
+    c.in-Group.start c.in-Group.length
+    (sym c.in-Group.is ∙ c.which_shelf.ensures)
 
 in_house :
     (c : tie.In-House)
-    → (let a = (entered c.before.before.before).args in
-    Handed a.house.now c.before.start-in-House-1.given.0.0 c.before.start-in-House-1.given.0.1.0
+    → (let a = c.args in
+    Handed a.house.now c.in-House.start c.in-House.length
     (handed (look_up a.group.now a.house.now a.number).decision))
 in_house c =
-    let w = c.before.before.before in
-    let a = (entered w).args in
-    out-of_house a.group.now a.house.now a.number (group-bytes w) (house-bytes w)
-    c.before.start-in-House-1.given.0.0 c.before.start-in-House-1.given.0.1.0
-    (sym c.before.start-in-House-1.given.1 ∙ w.which_shelf.ensures)
+    let a = c.args in
+    out-of_house a.group.now a.house.now a.number (group-bytes c.before) (house-bytes c.before)
+    c.in-House.start c.in-House.length
+    (sym c.in-House.is ∙ c.which_shelf.ensures)
 
 returns : tie.Need-returns-in-Group
 returns c =
-    let start = c.before.before.start-1.given.0.0 in
-    let count = c.before.before.start-1.given.0.1.0 in
+    let start = c.in-Group.start in
+    let count = c.in-Group.length in
     let whole : start + count - start ≡ count = omega arith in
-    ap (λ (n : ℕ). take n (drop start (entered c.before.before.before.before).args.group.now)) whole ∙ (in_group c.before).is
+    ap (λ (n : ℕ). take n (drop start c.args.group.now)) whole ∙ (in_group c.before).is
 
 returns-2 : tie.Need-returns-in-House
 returns-2 c =
-    let start = c.before.before.start-in-House-1.given.0.0 in
-    let count = c.before.before.start-in-House-1.given.0.1.0 in
+    let start = c.in-House.start in
+    let count = c.in-House.length in
     let whole : start + count - start ≡ count = omega arith in
-    ap (λ (n : ℕ). take n (drop start (entered c.before.before.before.before).args.house.now)) whole ∙ (in_house c.before).is
+    ap (λ (n : ℕ). take n (drop start c.args.house.now)) whole ∙ (in_house c.before).is
 
 returns-3 : tie.Need-returns-in-Refused
 returns-3 c =
-    let w = c.before.before.before in
-    let a = (entered w).args in
-    handed-nothing (look_up a.group.now a.house.now a.number) _ _ _ (sym c.before.enum_told-1.given.1 ∙ w.which_shelf.ensures)
+    let a = c.args in
+    handed-nothing (look_up a.group.now a.house.now a.number) _ _ _ (sym c.in-Refused.is ∙ c.which_shelf.ensures)
 
 pub look_up_spec : {M : Type 1} → statement M
 look_up_spec =

@@ -7,8 +7,8 @@ use Rattle.call_look_up.proofs.which_shelf.Tie as tie
 
 returns : tie.Need-returns
 returns c =
-    let a = c.before.before.before.before.before.args in
-    c.choose.ensures ∙ looks a.group.now a.house.now a.number c.before.before.seek.ensures c.before.seek-2.ensures
+    let a = c.args in
+    c.choose.ensures ∙ looks a.group.now a.house.now a.number c.seek.ensures c.seek-2.ensures
 
 pub which_shelf_spec : {M : Type 1} → statement M
 which_shelf_spec = tie.close (tie.spec (λ c κs. search rules) (λ c κs. search rules) (λ c κs. search rules) returns)

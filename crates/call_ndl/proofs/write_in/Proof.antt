@@ -12,49 +12,45 @@ use Rattle.call_ndl.proofs.write_in.Tie as tie
 
 -- The preparing from where the lists are back, and from there where the bytes are known and the function's entry.
 abbrev prepared : tie.After-slice_known-9-1 → tie.After-prepare
-prepared c = let half = c.before.before.before.before.before.before.before in half.before.before.before.before.before.before.before
+prepared c = c.before.before.before.before.before.before.before.before.before.before.before.before.before.before
 
 abbrev known : tie.After-prepare → tie.After-shared_slice_known-1
 known p =
-    let lists = p.before.before.before.before.before.before.before.before in
-    let slices = lists.before.before.before.before in
-    slices.before.before.before.before.before
+    p.before.before.before.before.before.before.before.before.before.before.before.before.before.before.before.before.before
 
 abbrev entered : tie.After-prepare → tie.Start
 entered p = (known p).before
 
 bytes : (p : tie.After-prepare) → Bytes (entered p).args.file.now
-bytes p = bytes-all (entered p).args.file.now (λ i. ((known p).shared_slice_known-1.given i).fits)
+bytes p = bytes-all (entered p).args.file.now (λ i. ((known p).shared-slice-known.given i).fits)
 
 -- From where the file is known to be ready.
 abbrev preparing : tie.In-Ready → tie.After-prepare
-preparing k = prepared k.before.before.before
+preparing k = prepared k.before
 
 abbrev modules : tie.In-Ready → ℕ
-modules k = k.before.count-1.given.0.0
+modules k = k.in-Ready.modules
 
 abbrev count : tie.In-Ready → ℕ
-count k = k.before.count-1.given.0.1.0
+count k = k.in-Ready.count
 
 open-file : (k : tie.In-Ready)
     → (let lists = (preparing k).prepare.new.1 in
     let by_position = lists.1.1.1 in
     OpenedBeside (entered (preparing k)).args.file.now (modules k) (count k) lists.0 lists.1.0 lists.1.1.0 by_position.0 by_position.1.0 by_position.1.1.0 by_position.1.1.1.0 by_position.1.1.1.1.0)
-open-file k = let p = (preparing k).prepare in opened-beside _ _ _ _ _ _ _ _ _ p.result p.ensures _ _ k.before.count-1.given.1
+open-file k = let p = (preparing k).prepare in opened-beside _ _ _ _ _ _ _ _ _ p.result p.ensures _ _ k.in-Ready.is
 
 returns : tie.Need-returns-in-Refused
 returns c =
-    let q = prepared c.before.before.before in
+    let q = prepared c.before in
     let p = q.prepare in
     let args = (entered q).args in
-    file-refused args.file.now args.names.now args.out-1.now (broken-beside _ _ _ _ _ _ _ _ _ p.result p.ensures _ _ c.before.number-1.given.1)
+    file-refused args.file.now args.names.now args.out.now (broken-beside _ _ _ _ _ _ _ _ _ p.result p.ensures _ _ c.in-Refused.is)
 
 returns-2 : tie.Need-returns-in-Ready
 returns-2 c =
-    let l = c.before.before in
-    let k = l.before.before.before in
-    let args = (entered (preparing k)).args in
-    listed (open-file k) args.names.now args.out-1.now (l.list.ensures (numbered (open-file k) (bytes (preparing k))))
+    let args = (entered (preparing c.before.before.before.before)).args in
+    listed (open-file c.before.before.before.before) args.names.now args.out.now (c.list.ensures (numbered (open-file c.before.before.before.before) (bytes (preparing c.before.before.before.before))))
 
 pub write_in_spec : {M : Type 1} → statement M
 write_in_spec =
@@ -70,8 +66,8 @@ write_in_spec =
     (λ c. search rules)
     (λ c. search rules)
     (λ c. numbers-inside (open-file c))
-    (λ c. sym (length-take-le _ _ (numbers-inside (open-file c.before))))
-    (λ c κs. numbered (open-file c.before.before) (bytes (preparing c.before.before)))
+    (λ c. sym (length-take-le _ _ (numbers-inside (open-file c))))
+    (λ c κs. numbered (open-file c.before) (bytes (preparing c.before)))
     (λ c. search rules)
     (λ c. search rules)
     (λ c. search rules)

@@ -5,9 +5,6 @@ use Rattle.open_beside.specs.Rooms.{any-beside}
 use Rattle.call_ndl.proofs.write_long.Statement.{statement}
 use Rattle.call_ndl.proofs.write_long.Tie as tie
 
-abbrev listed : tie.After-write_in-arg-1 → tie.After-shared_slice_known-1
-listed c = c.before.before.before.before.before.before.before
-
 pub write_long_spec : {M : Type 1} → statement M
 write_long_spec =
     tie.close
@@ -16,6 +13,6 @@ write_long_spec =
     (λ c. search rules)
     (λ c. search rules)
     (λ c. search rules)
-    (λ c κs. any-beside _ (bytes-all _ (λ i. ((listed c).shared_slice_known-1.given i).fits)))
+    (λ c κs. any-beside _ (bytes-all _ (λ i. (c.shared_slice_known-1.given i).fits)))
     (λ c. search rules)
     (λ c. search rules))

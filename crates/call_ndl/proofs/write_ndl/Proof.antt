@@ -11,7 +11,7 @@ write_ndl_spec =
     (λ c. search rules)
     (λ c. search rules)
     (λ c κs. search rules)
-    (λ c κs. c.before.before.is_short.ensures c.before.if-is_short.true)
+    (λ c κs. c.is_short.ensures c.if-is_short.true)
     (λ c κs. search rules)
     (λ c. search rules)
     (λ c. search rules)

@@ -5,7 +5,7 @@ use Rattle.call_print.proofs.print_short.Statement.{statement}
 use Rattle.call_print.proofs.print_short.Tie as tie
 
 abbrev entered : tie.After-print_in-arg-1 → tie.Start
-entered c = let lists = c.before.before.before.before in lists.before.before.before
+entered c = c.before.before.before.before.before.before.before
 
 pub print_short_spec : {M : Type 1} → statement M
 print_short_spec =

@@ -8,7 +8,7 @@ use Rattle.call_rows.proofs.block_work.Tie as tie
 
 mul-result : tie.Need-overflow_mul-result
 mul-result c =
-    let a = c.before.args in
+    let a = c.args in
     let few : a.rows ≤ 1024 = omega arith in
     omega (arith, mul-le-mul_right a.size few)
 

@@ -29,26 +29,23 @@ one-settles {site = site} s values scratch out {scratch'} {out'} {r} e =
 
 -- Where the function began, from its second decision.
 abbrev start : tie.Then-rows-eq1 → tie.Start
-start c = let lists = c.before.before.before.before in lists.before.before.before.before
+start c = c.before.before.before.before.before.before.before.before
 
 returns : tie.Need-returns-then-rows-eq0
-returns c s = c.before.before.before.before.block_at.ensures s
+returns c s = c.block_at.ensures s
 
 returns-2 : tie.Need-returns-then-rows-eq1
 returns-2 c s =
-    let ran = c.before.before.before.before in
-    let one = ran.before.before.before in
-    let a = (start one).args in
-    one-settles s a.values.now a.scratch-1.now a.out-1.now one.if-rows-eq1.true (ran.evaluate_at.ensures s)
+    let a = (start c.before.before.before.before.before.before.before).args in
+    one-settles s a.values.now a.scratch.now a.out.now c.if-rows-eq1.true (c.evaluate_at.ensures s)
 
 returns-3 : tie.Need-returns-then-rows-gt1024
 returns-3 c s =
-    let lists = c.before.before.before.before in
-    let a = lists.before.before.before.before.before.args in
-    many-rows s a.rows a.values.now a.scratch-1.now a.out-1.now c.if-rows-gt1024.true
+    let a = c.args in
+    many-rows s a.rows a.values.now a.scratch.now a.out.now c.if-rows-gt1024.true
 
 returns-4 : tie.Need-returns
-returns-4 c s = c.before.before.before.before.block_at-2.ensures s
+returns-4 c s = c.block_at-2.ensures s
 
 pub rows_at_spec : {M : Type 1} → statement M
 rows_at_spec =

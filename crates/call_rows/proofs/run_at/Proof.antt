@@ -33,22 +33,19 @@ counts {site = site} s rows values scratch out few written h =
 
 -- Where the function began, from where the work is counted.
 abbrev start : tie.After-block_work-counted → tie.Start
-start c = let lists = c.before.before.before.before in lists.before.before.before
+start c = c.before.before.before.before.before.before.before
 
 block-work-requires : tie.Need-block_work-counted-requires
 block-work-requires c κs =
-    let lists = c.before.before.before.before in
-    size_low lists.before.before.requires
+    size_low c.requires
 
 returns : tie.Need-returns
 returns c s =
-    let ran = c.before.before.before.before.before in
-    let counted = ran.before.before.before in
-    let a = (start counted).args in
+    let a = (start c.before.before.before.before.before.before.before.before).args in
     rw c.work_with-work.ensures
-    (runs-beside (rows_evaluation_on a.site.number a.rows a.values.now (length a.scratch-1.now) (length a.out-1.now) s.ms s.found.m)
-    (ran.rows_at-writing.ensures s)
-    (counts s a.rows a.values.now (length a.scratch-1.now) (length a.out-1.now) counted.block_work-counted.ensures))
+    (runs-beside (rows_evaluation_on a.site.number a.rows a.values.now (length a.scratch.now) (length a.out.now) s.ms s.found.m)
+    (c.rows_at-writing.ensures s)
+    (counts s a.rows a.values.now (length a.scratch.now) (length a.out.now) c.block_work-counted.ensures))
 
 pub run_at_spec : {M : Type 1} → statement M
 run_at_spec =

@@ -14,13 +14,13 @@ slice-aggregate-read : tie.Need-slice_bounds-read-end
 slice-aggregate-read c = sym (length-replicate {A = ℕ} 131584 0)
 
 read-requires : tie.Need-read-requires
-read-requires c κs = let most : _ = c.before.before.before.before.requires.most in readable _ _ 131584 (omega (arith, most)) c.before.before.before.before.requires.room (omega (arith, most))
+read-requires c κs = let most : _ = c.requires.most in readable _ _ 131584 (omega (arith, most)) c.requires.room (omega (arith, most))
 
 same_length : tie.Need-shape_of-numbers
-same_length c = c.before.before.before.read.auto.1.0
+same_length c = c.read.auto.1.0
 
 returns : tie.Need-returns
-returns c = c.before.before.before.read.ensures
+returns c = c.read.ensures
 
 pub read_middle_spec : {M : Type 1} → statement M
 read_middle_spec = tie.close (tie.spec slice-aggregate-read read-requires same_length returns)

@@ -7,16 +7,15 @@ use Rattle.call_text.proofs.read_text.Statement.{statement}
 use Rattle.call_text.proofs.read_text.Tie as tie
 
 returns : tie.Need-returns-then-text-gt262144
-returns c = let out = c.before.before.before.args.out-1.now in over-long _ (omega arith) (length out) out
+returns c = let out = c.args.out.now in over-long _ (omega arith) (length out) out
 
 abbrev entered : tie.After-file → tie.Start
-entered c = let asked = c.before.before.before in asked.before.before
+entered c = c.before.before.before.before.before
 
 returns-2 : tie.Need-returns
 returns-2 c =
-    let filed = c.before.before in
-    let out = (entered filed).args.out-1.now in
-    not_long _ (omega arith) (length out) out _ _ filed.file.ensures
+    let out = (entered c.before.before).args.out.now in
+    not_long _ (omega arith) (length out) out _ _ c.file.ensures
 
 pub read_text_spec : {M : Type 1} → statement M
 read_text_spec = tie.close (tie.spec returns (λ c κs. omega arith) (λ c. search rules) returns-2)

@@ -17,7 +17,7 @@ returns c =
 returns-2 : tie.Need-returns
 returns-2 c =
     record {
-      answer = sym (le-leb _ _ c.before.if-sums-gt65535.false);
+      answer = sym (le-leb _ _ c.if-sums-gt65535.false);
       kept = λ e. (refl, refl);
       left = λ e. absurd (true≢false e);
     }

@@ -7,25 +7,23 @@ use Rattle.filing.proofs.file_sequence.Tie as tie
 
 returns : tie.Need-returns-in_default
 returns c =
-    let a = c.before.before.before.args in
-    length_none a.sequence.now a.letters a.table-1.now c.if-letters-lt1.true
+    let a = c.args in
+    length_none a.sequence.now a.letters a.table.now c.in_default.if-letters-lt1-own.true
 
 returns-2 : tie.Need-returns-in_default-2
 returns-2 c =
-    let a = c.before.before.before.before.args in
-    length_over a.sequence.now a.letters a.table-1.now (omega (arith, c.if-letters-lt17.false))
+    let a = c.args in
+    length_over a.sequence.now a.letters a.table.now (omega (arith, c.in_default.if-letters-lt17-own.false))
 
 returns-3 : tie.Need-returns-then-sequence-gt65535
 returns-3 c =
-    let t = c.before in
-    let a = t.before.before.before.before.args in
-    sequence_over a.sequence.now a.letters a.table-1.now t.before.if-letters-lt1.false (omega (arith, t.if-letters-lt17.true)) c.if-sequence-gt65535.true
+    let a = c.args in
+    sequence_over a.sequence.now a.letters a.table.now c.if-letters-lt1.false (omega (arith, c.in-1-to-16.if-letters-lt17-own.true)) c.if-sequence-gt65535.true
 
 returns-4 : tie.Need-returns-then-table-ne33
 returns-4 c =
-    let t = c.before.before in
-    let a = t.before.before.before.before.args in
-    table-other a.sequence.now a.letters a.table-1.now t.before.if-letters-lt1.false (omega (arith, t.if-letters-lt17.true)) c.before.if-sequence-gt65535.false
+    let a = c.args in
+    table-other a.sequence.now a.letters a.table.now c.if-letters-lt1.false (omega (arith, c.in-1-to-16.if-letters-lt17-own.true)) c.if-sequence-gt65535.false
     c.if-table-ne33.true
 
 first-other-requires : tie.Need-first_other-place-requires
@@ -33,11 +31,9 @@ first-other-requires c κs = search rules
 
 returns-5 : tie.Need-returns-then-place-sequence
 returns-5 c =
-    let o = c.before.before in
-    let t = o.before.before in
-    let a = t.before.before.before.before.args in
-    sequence_other a.sequence.now a.letters a.table-1.now t.before.if-letters-lt1.false (omega (arith, t.if-letters-lt17.true)) o.before.if-sequence-gt65535.false
-    o.if-table-ne33.false _ c.before.first_other-place.ensures c.if-place-sequence.true
+    let a = c.args in
+    sequence_other a.sequence.now a.letters a.table.now c.if-letters-lt1.false (omega (arith, c.in-1-to-16.if-letters-lt17-own.true)) c.if-sequence-gt65535.false
+    c.if-table-ne33.false _ c.first_other-place.ensures c.if-place-sequence.true
 
 fill-requires : tie.Need-fill-requires
 fill-requires c κs = search rules
@@ -47,13 +43,9 @@ same_length c = search rules
 
 returns-6 : tie.Need-returns
 returns-6 c =
-    let filled = c.before.before in
-    let p = filled.before.before in
-    let o = p.before.before in
-    let t = o.before.before in
-    let a = t.before.before.before.before.args in
-    sequence_filed a.sequence.now a.letters a.table-1.now t.before.if-letters-lt1.false (omega (arith, t.if-letters-lt17.true)) o.before.if-sequence-gt65535.false
-    o.if-table-ne33.false _ _ (omega (arith, p.before.first_other-place.ensures, p.if-place-sequence.false)) filled.fill.ensures.0 filled.fill.ensures.1
+    let a = c.args in
+    sequence_filed a.sequence.now a.letters a.table.now c.if-letters-lt1.false (omega (arith, c.in-1-to-16.if-letters-lt17-own.true)) c.if-sequence-gt65535.false
+    c.if-table-ne33.false _ _ (omega (arith, c.first_other-place.ensures, c.if-place-sequence.false)) c.fill.ensures.0 c.fill.ensures.1
 
 pub file_sequence_spec : {M : Type 1} → statement M
 file_sequence_spec =

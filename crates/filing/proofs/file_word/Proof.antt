@@ -6,29 +6,25 @@ use Rattle.filing.proofs.file_word.Statement.{statement}
 use Rattle.filing.proofs.file_word.Tie as tie
 
 returns : tie.Need-returns-in_default
-returns c = word-empty c.before.before.args.word.now c.if-letters-lt1.true
+returns c = word-empty c.args.word.now c.in_default.if-letters-lt1-own.true
 
 returns-2 : tie.Need-returns-in_default-2
-returns-2 c = word-long c.before.before.before.args.word.now c.if-letters-lt17.false
+returns-2 c = word-long c.args.word.now c.in_default.if-letters-lt17-own.false
 
 first-other-requires : tie.Need-first_other-place-requires
 first-other-requires c κs = search rules
 
 returns-3 : tie.Need-returns-then-place-letters
 returns-3 c =
-    let t = c.before.before in
-    let s = t.before.before.before in
-    word-other s.args.word.now t.before.if-letters-lt1.false (omega (arith, t.if-letters-lt17.true)) _ c.before.first_other-place.ensures c.if-place-letters.true
+    word-other c.args.word.now c.if-letters-lt1.false (omega (arith, c.in-1-to-16.if-letters-lt17-own.true)) _ c.first_other-place.ensures c.if-place-letters.true
 
 shelf-of-requires : tie.Need-shelf_of-requires
 shelf-of-requires c κs = search rules
 
 returns-4 : tie.Need-returns
 returns-4 c =
-    let t = c.before.before.before in
-    let s = t.before.before.before in
-    word-filed s.args.word.now t.before.if-letters-lt1.false (omega (arith, t.if-letters-lt17.true)) _
-    (omega (arith, c.before.before.first_other-place.ensures, c.before.if-place-letters.false)) c.shelf_of.ensures
+    word-filed c.args.word.now c.if-letters-lt1.false (omega (arith, c.in-1-to-16.if-letters-lt17-own.true)) _
+    (omega (arith, c.first_other-place.ensures, c.if-place-letters.false)) c.shelf_of.ensures
 
 pub file_word_spec : {M : Type 1} → statement M
 file_word_spec =

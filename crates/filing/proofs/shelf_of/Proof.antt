@@ -27,9 +27,7 @@ slice-aggregate-run-words-4 c = search rules
 
 run-words-requires : tie.Need-run_words-requires
 run-words-requires c κs =
-    let wrote = c.before.before.before.before in
-    let s = wrote.before.before in
-    block-of-one _ (length s.args.word.now) s.requires wrote.counter_file-file.ensures
+    block-of-one _ (length c.args.word.now) c.requires c.counter_file-file.ensures
 
 slice-aggregate-shelf-at : tie.Need-slice_bounds-shelf_at-end
 slice-aggregate-shelf-at c = search rules
@@ -37,19 +35,16 @@ slice-aggregate-shelf-at c = search rules
 shelf-at-requires : tie.Need-shelf_at-requires
 shelf-at-requires c κs = search rules
 
-abbrev ran : tie.After-shelf_at → tie.After-run_words
-ran c = c.before.before.before.before.before
-
 abbrev start : tie.After-shelf_at → tie.Start
-start c = (ran c).before.before.before.before.before.before.before
+start c = c.before.before.before.before.before.before.before.before.before.before.before.before
 
-read : (c : tie.After-shelf_at) → six_bits (ran c).run_words.new.1.1.1.1.1.0 0 ≡ shelf_of (start c).args.word.now
-read c = shelf-of-one (start c).args.word.now _ (start c).requires (ran c).run_words.ensures
+read : (c : tie.After-shelf_at) → six_bits c.run_words.new.1.1.1.1.1.0 0 ≡ shelf_of (start c).args.word.now
+read c = shelf-of-one (start c).args.word.now _ (start c).requires c.run_words.ensures
 
 cast-result : tie.Need-overflow_cast-result
 cast-result c =
     let s = start c in
-    omega (arith, c.shelf_at.ensures, read c, shelf-most s.args.word.now s.requires.few)
+    omega (arith, c.shelf_at.ensures, read c, shelf-most s.args.word.now s.pre.few)
 
 returns : tie.Need-returns
 returns c = c.shelf_at.ensures ∙ read c

@@ -9,23 +9,17 @@ use Rattle.flat_ending.proofs.answer.Tie as tie
 
 returns : tie.Need-returns-then-whole-out
 returns c =
-    let last = c.before.before in
-    let first = last.before.before.before.before in
-    let clear = first.before.before.before.before in
-    let fits = clear.before.before in
-    let start = fits.before.before.before.before in
-    let args = start.args in
-    let long = length-of-parts args.bytes.now args.gates args.whole start.requires.0 start.requires.1.0 in
-    ends-written (front_first args.bytes.now args.gates args.whole) args.room args.scratch-1.now args.out-1.now
-    (omega (arith, long, fits.if-whole-out.true)) clear.clear.ensures
-    (parts_pasted args.bytes.now args.gates args.whole start.requires.0 start.requires.1.0 first.copy.ensures last.copy-then-whole-out.ensures)
+    let args = c.args in
+    let long = length-of-parts args.bytes.now args.gates args.whole c.requires.0 c.requires.1.0 in
+    ends-written (front_first args.bytes.now args.gates args.whole) args.room args.scratch.now args.out.now
+    (omega (arith, long, c.if-whole-out.true)) c.clear.ensures
+    (parts_pasted args.bytes.now args.gates args.whole c.requires.0 c.requires.1.0 c.copy.ensures c.copy-then-whole-out.ensures)
 
 returns-2 : tie.Need-returns-else-whole-out
 returns-2 c =
-    let start = c.before.before.before.before in
-    let args = start.args in
-    let long = length-of-parts args.bytes.now args.gates args.whole start.requires.0 start.requires.1.0 in
-    ends-short (front_first args.bytes.now args.gates args.whole) args.room args.scratch-1.now args.out-1.now (omega (arith, long, c.if-whole-out.false))
+    let args = c.args in
+    let long = length-of-parts args.bytes.now args.gates args.whole c.requires.0 c.requires.1.0 in
+    ends-short (front_first args.bytes.now args.gates args.whole) args.room args.scratch.now args.out.now (omega (arith, long, c.if-whole-out.false))
 
 pub answer_spec : {M : Type 1} → statement M
 answer_spec =

@@ -13,12 +13,12 @@ abbrev decreases-loop : tie.decreases-loop-i
 decreases-loop bytes from count out₀ at i₀ out i = count - i
 
 loop-again : tie.Need-loop-i-preserved invariant-loop decreases-loop
-loop-again c = (omega arith, more-copied (omega arith) (omega arith) c.before.before.loop-i.invariant.1)
+loop-again c = (omega arith, more-copied (omega arith) (omega arith) c.loop-i.invariant.1)
 
 returns : tie.Need-returns invariant-loop decreases-loop
 returns c =
-    let all : c.before.loop-i.i ≡ c.before.before.args.count = omega arith in
-    rw all at c.before.loop-i.invariant.1.is
+    let all : c.loop-i.i ≡ c.args.count = omega arith in
+    rw all at c.loop-i.invariant.1.is
 
 pub copy_spec : {M : Type 1} → statement M
 copy_spec =
@@ -34,5 +34,5 @@ copy_spec =
     (λ c. omega arith)
     (λ c. omega arith)
     loop-again
-    (λ c. c.before.loop-i.invariant.1.long)
+    (λ c. c.loop-i.invariant.1.long)
     returns)

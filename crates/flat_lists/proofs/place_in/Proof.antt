@@ -9,25 +9,20 @@ use Rattle.flat_lists.proofs.place_in.Tie as tie
 abbrev walk : tie.After-struct_known-1 → tie.After-flatten-ends
 walk c = c.before.before.before.before.before
 
-abbrev start : tie.After-flatten-arg-1 → tie.Start
-start c = c.before.before.before.before.before.before.before.before
-
 answer-requires : tie.Need-answer-requires
 answer-requires c κs =
-    let walked = walk c.before.before.before in
-    let pre = (start walked.before.before).requires in
-    (gates-within walked.flatten-ends.ensures pre.0, (whole-within walked.flatten-ends.ensures pre.0, pre.1))
+    let pre = c.requires in
+    (gates-within c.flatten-ends.ensures pre.0, (whole-within c.flatten-ends.ensures pre.0, pre.1))
 
 returns : tie.Need-returns
 returns c p =
-    let answer = c.before.before.before.before in
-    parts_flatten (walk answer.before.before.before.before).flatten-ends.ensures p answer.answer.ensures
+    parts_flatten c.flatten-ends.ensures p c.answer.ensures
 
 pub place_in_spec : {M : Type 1} → statement M
 place_in_spec =
     tie.close
     (tie.spec
-    (λ c κs. flattenable (start c.before).requires.0)
+    (λ c κs. flattenable c.requires.0)
     (λ c. search rules)
     answer-requires
     (λ c. search rules)

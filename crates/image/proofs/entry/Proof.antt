@@ -10,7 +10,7 @@ shared-slice-read-result : tie.Need-bounds-numbers-i
 shared-slice-read-result c = search rules
 
 cast-result : tie.Need-overflow_cast-result
-cast-result c = omega (arith, c.shared_slice_known-1.given c.before.args.i)
+cast-result c = omega (arith, c.shared_slice_known-1.given c.args.i)
 
 returns : tie.Need-returns
 returns c = search rules

@@ -15,48 +15,45 @@ entered e = e.before.before.before.before
 abbrev counted : tie.After-put → tie.Else-end-start-gt65535
 counted p = p.before.before
 
-few : (e : tie.Else-end-start-gt65535) → (entered e).args.all.modules ≤ 128
-few e = omega (arith, e.before.if-modules-gt128.false)
+few : (e : tie.Else-end-start-gt65535) → e.args.all.modules ≤ 128
+few e = omega (arith, e.if-modules-gt128.false)
 
-short : (e : tie.Else-end-start-gt65535) → (entered e).args.all.at - (1 - (entered e).args.all.modules / 128) ≤ 65535
+short : (e : tie.Else-end-start-gt65535) → e.args.all.at - (1 - e.args.all.modules / 128) ≤ 65535
 short e = omega (arith, e.if-end-start-gt65535.false)
 
-ends : (p : tie.After-put) → (entered (counted p)).args.all.at ≤ length p.put.new.1.0
+ends : (p : tie.After-put) → p.args.all.at ≤ length p.put.new.1.0
 ends p =
-    let a = (entered (counted p)).requires in
+    let a = p.requires in
     omega (arith, a.room, assembled-length a, p.put.auto.1.0)
 
 -- From the delivery to the put.
 abbrev putting : tie.After-deliver-arg-2-1 → tie.After-put
-putting c = c.before.before.before.before.before
+putting c = c.before.before.before.before
 
 returns-3 : tie.Need-returns
 returns-3 c =
     λ a.
-    let d = c.before.before in
-    let p = putting d.before in
-    let e = counted p in
-    joins_whole a (few e) (short e) (length (entered e).args.out-1.now) (d.deliver.ensures (whole a (few e) (short e) p.put.ensures))
+    joins_whole a (few c.before.before.before.before.before.before.before.before.before) (short c.before.before.before.before.before.before.before.before.before) (length c.args.out.now) (c.deliver.ensures (whole a (few c.before.before.before.before.before.before.before.before.before) (short c.before.before.before.before.before.before.before.before.before) c.put.ensures))
 
 pub assemble_spec : {M : Type 1} → statement M
 assemble_spec =
     tie.close
     (tie.spec
-    (λ c a. let s = c.before.before.before in too_many a (length s.args.out-1.now) s.args.out-1.now c.if-modules-gt128.true)
+    (λ c a. too_many a (length c.args.out.now) c.args.out.now c.if-modules-gt128.true)
     (λ c. omega (arith, c.if-modules-gt128.false))
-    (λ c. omega (arith, end_after c.before.before.before.requires))
+    (λ c. omega (arith, end_after c.requires))
     (λ c a.
     let s = c.before.before.before.before in
-    too_long a (omega (arith, c.before.if-modules-gt128.false)) (length s.args.out-1.now) s.args.out-1.now c.if-end-start-gt65535.true)
+    too_long a (omega (arith, c.before.if1.false)) (length s.args.out.now) s.args.out.now c.if2.true)
     (λ c. omega (arith, few c))
-    (λ c κs. (omega (arith, few c.before), room_for_count (entered c.before).requires (few c.before)))
-    (λ c. omega (arith, end_after (entered (counted c.before.before)).requires))
-    (λ c. omega (arith, end_after (entered (counted c.before.before.before)).requires))
-    (λ c. ends c.before.before.before)
+    (λ c κs. (omega (arith, few c.before), room_for_count c.requires (few c.before)))
+    (λ c. omega (arith, end_after c.requires))
+    (λ c. omega (arith, end_after c.requires))
+    (λ c. ends c.before.before)
     (λ c κs.
     let p = putting c in
     let e = counted p in
-    whole (entered e).requires (few e) (short e) p.put.ensures)
+    whole (entered e).pre (few e) (short e) p.put.ensures)
     (λ c. search rules)
     (λ c. search rules)
     returns-3)

@@ -11,5 +11,5 @@ of_joined_spec =
     (tie.spec
     (λ c. search rules)
     (λ c. search rules)
-    (λ c. sym (ap of_writing c.before.writing-1.given.1))
-    (λ c. sym (ap of_writing c.before.writing-in-Refused-1.given.1)))
+    (λ c. sym (ap of_writing c.in-Wrote.is))
+    (λ c. sym (ap of_writing c.in-Refused.is)))

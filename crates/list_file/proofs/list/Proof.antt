@@ -8,9 +8,7 @@ use Rattle.list_file.proofs.list.Tie as tie
 
 list-in-requires : tie.Need-list_in-requires
 list-in-requires c κs =
-    let half = c.before.before.before.before.before.before in
-    let start = half.before.before.before.before.before in
-    (any-space _ (bytes-all _ (λ i. (start.shared_slice_known-1.given i).fits)), (le_refl _, (search rules, search rules)))
+    (any-space _ (bytes-all _ (λ i. (c.shared_slice_known-1.given i).fits)), (le_refl _, (search rules, search rules)))
 
 pub list_spec : {M : Type 1} → statement M
 list_spec =

@@ -8,46 +8,40 @@ use Rattle.list_file.proofs.list_in.Tie as tie
 
 -- The file made ready from where all lists are back, and the function's entry from there.
 abbrev ready : tie.After-slice_known-19-1 → tie.After-prepare
-ready c = let half = c.before.before.before.before.before.before.before.before in half.before.before.before.before.before.before.before.before
+ready c = c.before.before.before.before.before.before.before.before.before.before.before.before.before.before.before.before
 
 abbrev start : tie.After-prepare → tie.Start
 start c =
-    let lent = c.before.before.before.before.before.before.before.before in
-    let half = lent.before.before.before.before.before.before.before.before in
-    half.before.before.before.before.before
+    c.before.before.before.before.before.before.before.before.before.before.before.before.before.before.before.before.before.before.before.before.before
 
 -- The count of modules from where the lists are lent on.
 abbrev counted : tie.After-put-lines-arg9 → tie.In-Ready-2
-counted c = let told = c.before.before.before.before.before.before.before.before in told.before.before
+counted c = c.before.before.before.before.before.before.before.before.before.before
 
 put-file-refusal-requires : tie.Need-put_file_refusal-requires
-put-file-refusal-requires c κs = omega (arith, (start (ready c.before.before.before.before)).requires.1.1.1)
+put-file-refusal-requires c κs = omega (arith, (start (ready c.before.before)).requires.1.1.1)
 
 put-lines-requires : tie.Need-put_lines-requires
 put-lines-requires c κs =
     let known = counted c in
     let made = ready known.before.before in
-    let given = (start made).requires in
-    let o = opened _ _ _ _ _ _ _ made.prepare.result made.prepare.ensures _ known.modules-1.given.1 in
+    let given = (start made).pre in
+    let o = opened _ _ _ _ _ _ _ made.prepare.result made.prepare.ensures _ known.modules.given.1 in
     listable o (omega (arith, made.prepare.kept.1.0, given.1.0)) given.1.1.0 given.1.1.1
 
 returns : tie.Need-returns-in-Refused
 returns c =
-    let put = c.before.before in
-    let told = put.before.before.before in
-    let made = (ready told.before.before).prepare in
-    put_as (refusal-listed _ _ _ _ (broken _ _ _ _ _ _ _ made.result made.ensures _ _ told.number-1.given.1)) put.put_file_refusal.ensures
+    let made = (ready c.before.before.before.before.before).prepare in
+    put_as (refusal-listed _ _ _ _ (broken _ _ _ _ _ _ _ made.result made.ensures _ _ c.in-Refused.is)) c.put_file_refusal.ensures
 
 returns-2 : tie.Need-returns-in-Ready
 returns-2 c =
-    let put = c.before.before.before in
-    let lines = put.before.before.before in
-    let known = counted lines.before in
+    let known = counted c.before.before.before.before.before.before.before in
     let made = ready known.before.before in
-    let given = (start made).requires in
-    let o = opened _ _ _ _ _ _ _ made.prepare.result made.prepare.ensures _ known.modules-1.given.1 in
+    let given = (start made).pre in
+    let o = opened _ _ _ _ _ _ _ made.prepare.result made.prepare.ensures _ known.modules.given.1 in
     put_as (lines-listed o _)
-    (lines.put_lines.ensures (listable o (omega (arith, made.prepare.kept.1.0, given.1.0)) given.1.1.0 given.1.1.1))
+    (c.put_lines.ensures (listable o (omega (arith, made.prepare.kept.1.0, given.1.0)) given.1.1.0 given.1.1.1))
 
 pub list_in_spec : {M : Type 1} → statement M
 list_in_spec =

@@ -37,7 +37,7 @@ add-out : tie.Need-overflow_add-out invariant-loop decreases-loop
 add-out c = omega arith
 
 slice-write-out : tie.Need-bounds-out-at invariant-loop decreases-loop
-slice-write-out c = omega (arith, put-length c.before.before.loop-i.invariant.down)
+slice-write-out c = omega (arith, put-length c.loop-i.invariant.down)
 
 add-i : tie.Need-overflow_add-i invariant-loop decreases-loop
 add-i c = omega arith
@@ -47,19 +47,18 @@ loop-less c = omega arith
 
 loop-again : tie.Need-loop-i-preserved invariant-loop decreases-loop
 loop-again c =
-    let a = c.before.before.before.args in
-    let head = c.before.before in
-    rw (← add_assoc a.at head.loop-i.i 1)
-    (row_more head.loop-i.invariant c.before.loop-i-test.true (put_byte _ head.loop-i.out (a.at + head.loop-i.i) (slice-write-out c)))
+    let a = c.args in
+    rw (← add_assoc a.at c.loop-i.i 1)
+    (row_more c.loop-i.invariant c.loop-i-test.true (put_byte _ c.loop-i.out (a.at + c.loop-i.i) (slice-write-out c)))
 
 add-result : tie.Need-overflow_add-result invariant-loop decreases-loop
 add-result c = omega arith
 
 same_length : tie.Need-shape_of-out invariant-loop decreases-loop
-same_length c = put-length c.before.loop-i.invariant.down
+same_length c = put-length c.loop-i.invariant.down
 
 returns : tie.Need-returns invariant-loop decreases-loop
-returns c = rw (each-byte c.before.before.args.bytes.now) at (row-end c.before.loop-i.invariant c.loop-i-test.false)
+returns c = rw (each-byte c.args.bytes.now) at (row-end c.loop-i.invariant c.loop-i-test.false)
 
 pub put_bytes_spec : {M : Type 1} → statement M
 put_bytes_spec =

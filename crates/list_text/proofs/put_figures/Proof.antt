@@ -9,17 +9,14 @@ use Rattle.list_text.proofs.put_figures.Tie as tie
 
 end-line-requires : tie.Need-end_line-requires
 end-line-requires c κs =
-    let row = c.before.before.before in
-    let kept = put-length row.put_numbers-at.ensures in
-    omega (arith, row-reaches _ _ row.put_numbers-at.ensures, row.before.before.before.before.requires)
+    let kept = put-length c.put_numbers-at.ensures in
+    omega (arith, row-reaches _ _ c.put_numbers-at.ensures, c.requires)
 
 returns : tie.Need-returns
 returns c tally =
-    let written = c.before.before.before.before in
-    let p = written.before.before in
-    let a = p.before.before.before.before.args in
+    let a = c.args in
     rw (← line-of-figures a.position a.number (figures_of a.counts tally))
-    (put-after p.put_numbers-at.ensures c.before.before.end_line.ensures)
+    (put-after c.put_numbers-at.ensures c.end_line.ensures)
 
 pub put_figures_spec : {M : Type 1} → statement M
 put_figures_spec =

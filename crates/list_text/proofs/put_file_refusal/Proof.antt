@@ -9,32 +9,25 @@ use Rattle.list_text.proofs.Lines.{row-reaches, line-of-refused-file}
 use Rattle.list_text.proofs.put_file_refusal.Statement.{statement}
 use Rattle.list_text.proofs.put_file_refusal.Tie as tie
 
--- The places in front of the one where the numbers are put: behind the word, and the start.
-abbrev behind-word : tie.After-put_numbers-at → tie.After-put_bytes-at
-behind-word c = c.before.before.before.before.before
-
 abbrev start : tie.After-put_numbers-at → tie.Start
-start c = (behind-word c).before.before.before.before
+start c = c.before.before.before.before.before.before.before.before.before
 
 -- The word and the numbers stand there.
 numbered : (c : tie.After-put_numbers-at)
     → let s = start c in
-    PutDown ((refused_word ++ (space ∷ [])) ++ spaced s.args.number (s.args.place ∷ [])) s.args.out-1.now 0
+    PutDown ((refused_word ++ (space ∷ [])) ++ spaced s.args.number (s.args.place ∷ [])) s.args.out.now 0
     c.put_numbers-at.new.1.1.0 c.put_numbers-at.result
-numbered c = put-after (behind-word c).put_bytes-at.ensures c.put_numbers-at.ensures
+numbered c = put-after c.put_bytes-at.ensures c.put_numbers-at.ensures
 
 end-line-requires : tie.Need-end_line-requires
 end-line-requires c κs =
-    let p = c.before.before.before in
-    let kept = put-length (numbered p) in
-    omega (arith, row-reaches _ _ p.put_numbers-at.ensures, (behind-word p).put_bytes-at.ensures.next, (start p).requires)
+    let kept = put-length (numbered c.before.before.before) in
+    omega (arith, row-reaches _ _ c.put_numbers-at.ensures, c.put_bytes-at.ensures.next, (start c.before.before.before).requires)
 
 returns : tie.Need-returns
 returns c =
-    let written = c.before.before.before.before in
-    let p = written.before.before in
-    let a = (start p).args in
-    rw (line-of-refused-file a.number a.place) at (put-after (numbered p) c.before.before.end_line.ensures)
+    let a = (start c.before.before.before.before.before.before).args in
+    rw (line-of-refused-file a.number a.place) at (put-after (numbered c.before.before.before.before.before.before) c.end_line.ensures)
 
 pub put_file_refusal_spec : {M : Type 1} → statement M
 put_file_refusal_spec =

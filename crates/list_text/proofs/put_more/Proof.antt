@@ -18,11 +18,10 @@ decreases-loop numbers out₀ from at₀ i₀ out at i = length numbers - i
 
 loop-holds : tie.Need-loop-i-init invariant-loop decreases-loop
 loop-holds c =
-    let s = c.before.before in
-    row-begin word s.args.numbers.now s.args.out-1.now s.args.from (omega (arith, s.requires))
+    row-begin word c.args.numbers.now c.args.out.now c.args.from (omega (arith, c.requires))
 
-room : (c : tie.In-loop-i invariant-loop decreases-loop) → c.before.loop-i.at + 21 ≤ length c.before.loop-i.out-1
-room c = word_room c.before.loop-i.invariant c.before.before.before.before.requires c.loop-i-test.true
+room : (c : tie.In-loop-i invariant-loop decreases-loop) → c.loop-i.at + 21 ≤ length c.loop-i.out
+room c = word_room c.loop-i.invariant c.requires c.loop-i-test.true
 
 slice-write-out : tie.Need-bounds-out-at invariant-loop decreases-loop
 slice-write-out c = omega (arith, room c)
@@ -38,9 +37,8 @@ add-put-number c = omega (arith, room c.before.before)
 
 -- The next number has 64 bits.
 small : (c : tie.After-put_number-arg-1 invariant-loop decreases-loop)
-    → let turn = c.before.before.before in
-    get_or turn.before.before.before.args.numbers.now turn.loop-i.i 0 < 2 ^ 64
-small c = omega (arith, c.before.shared_slice_known-in-loop-i-1.given c.before.before.before.loop-i.i)
+    → get_or c.args.numbers.now c.loop-i.i 0 < 2 ^ 64
+small c = omega (arith, c.shared_slice_known-in-loop-i-1.given c.loop-i.i)
 
 put-number-requires : tie.Need-put_number-at-requires invariant-loop decreases-loop
 put-number-requires c κs = number_spellable (small c) (simp length-set (omega (arith, room c.before.before)))
@@ -53,18 +51,16 @@ loop-less c = omega arith
 
 loop-again : tie.Need-loop-i-preserved invariant-loop decreases-loop
 loop-again c =
-    let p = c.before.before.before in
-    let h = room p.before.before in
-    let head = p.before.before.before in
-    row_more head.loop-i.invariant p.before.before.loop-i-test.true
-    (put-after (put_byte space head.loop-i.out-1 head.loop-i.at (omega arith))
-    (number_put c.before.before.put_number-at.ensures (small p) (simp length-set (omega arith))))
+    let h = room c.before.before.before.before.before in
+    row_more c.loop-i.invariant c.loop-i-test.true
+    (put-after (put_byte space c.loop-i.out c.loop-i.at (omega arith))
+    (number_put c.put_number-at.ensures (small c.before.before.before) (simp length-set (omega arith))))
 
 same_length : tie.Need-shape_of-out invariant-loop decreases-loop
-same_length c = put-length c.before.loop-i.invariant.down
+same_length c = put-length c.loop-i.invariant.down
 
 returns : tie.Need-returns invariant-loop decreases-loop
-returns c = row-end c.before.loop-i.invariant c.loop-i-test.false
+returns c = row-end c.loop-i.invariant c.loop-i-test.false
 
 pub put_more_spec : {M : Type 1} → statement M
 put_more_spec =

@@ -16,7 +16,7 @@ use Rattle.load_engine.proofs.Loading.{frame-fits, none-loaded}
 use Rattle.load_engine.proofs.KeptLoads.{work-moved, looked_up}
 use Rattle.load_engine.proofs.MoreLoads.{keepable, now-kept}
 use Rattle.load_engine.proofs.KnownRows.{known-row, rows_fit, row-known}
-use Rattle.load_engine.proofs.weigh_once-inner.Reads as reads
+use Rattle.load_engine.proofs.weigh_once.Reads as reads
 use Rattle.load_engine.proofs.+weigh_once.Lts-weigh_once as lts
 use Rattle.load_engine.proofs.+weigh_once.{statement}
 use Rattle.load_engine.proofs.+weigh_once.Tie.{close}
@@ -31,16 +31,16 @@ module _ (t : ℕ) where
   row-at-requires c κs =
       let looked = c.before.before in
       let from = asked t looked in
-      omega (arith, (known-row from.args.known-1.now from.args.k from.requires.1.1.kept looked.kept_at-kept.ensures c.before.if-kept-gt0.true).0)
+      omega (arith, (known-row from.args.known.now from.args.k from.pre.1.1.kept looked.kept_at.ensures c.before.if1.true).0)
 
   returns-kept : lts.Need-returns-then-kept-gt0 (claims t) (Given t) reads.Post Inv-loop μ-loop
   returns-kept c =
       let looked = c.before.before.before in
       let a = (asked t looked).args in (
-        λ w. looked_up w looked.kept_at-kept.ensures c.before.before.if-kept-gt0.true,
+        λ w. looked_up w looked.kept_at.ensures c.before.before.if1.true,
         λ s.
             record {
-              is = c.row_at.ensures ∙ (known-row a.known-1.now a.k s.kept looked.kept_at-kept.ensures c.before.before.if-kept-gt0.true).1;
+              is = c.row_at.ensures ∙ (known-row a.known.now a.k s.kept looked.kept_at.ensures c.before.before.if1.true).1;
               kept = s.kept;
             },
       )
@@ -48,7 +48,7 @@ module _ (t : ℕ) where
   add_at : lts.Need-overflow_add-at (claims t) (Given t) reads.Post Inv-loop μ-loop
   add_at c =
       let from = began t c.before.before.before.before.before in
-      omega (arith, (c.before.module_at-header.ensures _ (module_stands from.requires.1.0.loadable.scene)).body.within, from.good.0.1)
+      omega (arith, (c.before.module-at.ensures _ (module_stands from.pre.1.0.loadable.scene)).body.within, from.good.0.1)
 
   loop-holds : lts.Need-loop-left-init (claims t) (Given t) reads.Post Inv-loop μ-loop
   loop-holds c =
@@ -58,12 +58,12 @@ module _ (t : ℕ) where
         refl,
         λ w.
             let s = w.loadable in
-            (none-loaded s _ header.before.before.before.before.clear.ensures (header.module_at-header.ensures _ (module_stands s.scene)) refl, w.kept),
-        λ s. (none-counted s.countable (header.module_at-header.ensures _ (module_stands s.countable.scene)) c.nothing-tally.ensures, s.kept),
+            (none-loaded s _ header.before.before.before.before.clear.ensures (header.module-at.ensures _ (module_stands s.scene)) refl, w.kept),
+        λ s. (none-counted s.countable (header.module-at.ensures _ (module_stands s.countable.scene)) c.nothing.ensures, s.kept),
       )
 
   occurrence-at-requires : lts.Need-occurrence_at-o-requires (claims t) (Given t) reads.Post Inv-loop μ-loop
-  occurrence-at-requires c κs = occurrence-there c.loop-left-test.true (c.before.loop-left.invariant.3 (working t c.before)).0.ahead
+  occurrence-at-requires c κs = occurrence-there c.loop-test.true (c.before.loop.invariant.3 (working t c.before)).0.ahead
 
   -- With no occurrence left the loads of the inputs and outputs and the tally are kept.
   keep-requires : lts.Need-keep-requires (claims t) (Given t) reads.Post Inv-loop μ-loop
@@ -71,16 +71,16 @@ module _ (t : ℕ) where
       let last = c.before.before.before in
       let loop = ended t last in
       let w = working t loop in
-      let sofar = loop.loop-left.inv.3 w in
+      let sofar = loop.loop.inv.3 w in
       keepable w.loadable sofar.1 (all-framed t last w) sofar.0.long
-      (loop.before.before.before.module_at-header.ensures _ (module_stands w.loadable.scene))
+      (loop.before.before.before.module-at.ensures _ (module_stands w.loadable.scene))
 
   write-row-requires : lts.Need-write_row-requires (claims t) (Given t) reads.Post Inv-loop μ-loop
   write-row-requires c κs =
       let lists = c.before.before in
       let kept = lists.before.before.before in
       let loop = ended t kept.before.before.before.before in
-      omega (arith, rows_fit loop.loop-left.known-1 (loop.loop-left.inv.4 (start t loop).requires.1.1).1 kept.keep.auto.1.1.1.1.1.1.1.0)
+      omega (arith, rows_fit loop.loop.known (loop.loop.inv.4 (start t loop).pre.1.1).1 kept.keep.auto.1.1.1.1.1.1.1.0)
 
   -- The end of the function: where the row is written, where the loads are kept, and the loop's last test.
   abbrev keeping : lts.After-write_row (claims t) (Given t) reads.Post Inv-loop μ-loop → lts.After-keep (claims t) (Given t) reads.Post Inv-loop μ-loop
@@ -92,19 +92,19 @@ module _ (t : ℕ) where
       let kept = keeping written in
       let last = kept.before.before.before.before in
       let loop = ended t last in
-      let header = loop.before.before.before.module_at-header in (
+      let header = loop.before.before.before.module-at in (
         λ w₀.
             let clear = (clearing t loop).clear in
             let w = work-moved {entries' = length clear.last.1.0} w₀ (omega (arith, w₀.loadable.room, clear.kept.1.0)) in
-            let sofar = loop.loop-left.inv.3 w in
+            let sofar = loop.loop.inv.3 w in
             now-kept w.loadable sofar.1 (all-framed t last w) sofar.0.long (header.ensures _ (module_stands w.loadable.scene))
             kept.keep.ensures kept.keep.kept.1.1.1.1.1.1.0,
         λ s.
-            let sofar = loop.loop-left.inv.4 s in
-            let all = all-counted s.countable (omega (arith, last.before.before.before.loop-left-test.left)) sofar.0 in
+            let sofar = loop.loop.inv.4 s in
+            let all = all-counted s.countable (omega (arith, last.before.before.before.loop-test.left)) sofar.0 in
             record {
               is = all;
-              kept = row-known loop.loop-left.known-1 _ sofar.1 kept.keep.ensures.largest written.write_row.ensures all written.write_row.auto.1.1.1.0;
+              kept = row-known loop.loop.known _ sofar.1 kept.keep.ensures.largest written.write-row.ensures all written.write-row.auto.1.1.1.0;
             },
       )
 
@@ -115,31 +115,31 @@ pub +weigh_once_spec : {M : Type 1} → statement M
     lts.spec (claims t) (Given t) reads.Post Inv-loop μ-loop
     (λ c κs. tt)
     (row-at-requires t)
-    (λ c. c.before.before.if-kept-gt0.true)
+    (λ c. c.before.before.if1.true)
     (λ c. refl)
     (λ c. refl)
     (returns-kept t)
-    (λ c. omega (arith, in_nets (asked t c.before).requires.1.0.loadable.scene))
-    (λ c. in_nets (asked t c.before.before).requires.1.0.loadable.scene)
-    (λ c κs. omega (arith, frame-fits (asked t c.before.before.before).requires.1.0.loadable))
-    (λ c. omega (arith, in_starts (began t c.before.before).requires.1.0.loadable.scene))
-    (λ c. in_starts (began t c.before.before.before).requires.1.0.loadable.scene)
-    (λ c κs. module_there (began t c.before.before.before).requires.1.0.loadable.scene)
+    (λ c. omega (arith, in_nets (asked t c.before).pre.1.0.loadable.scene))
+    (λ c. in_nets (asked t c.before.before).pre.1.0.loadable.scene)
+    (λ c κs. omega (arith, frame-fits (asked t c.before.before.before).pre.1.0.loadable))
+    (λ c. omega (arith, in_starts (began t c.before.before).pre.1.0.loadable.scene))
+    (λ c. in_starts (began t c.before.before.before).pre.1.0.loadable.scene)
+    (λ c κs. module_there (began t c.before.before.before).pre.1.0.loadable.scene)
     (add_at t)
     (λ c κs. tt)
     (loop-holds t)
     (occurrence-at-requires t)
-    (λ c. c.before.loop-left-test.true)
+    (λ c. c.before.loop-test.true)
     (λ c κs. tt)
     (λ c. search rules)
     (λ c. search rules)
     (with-gate-requires t)
     (gate-places t)
-    (λ c. let counted = c.before.before.before in omega (arith, (gate-read t counted.before.before.before.before).before.loop-left-test.taken))
+    (λ c. omega (arith, (gate-read t c.before.before.before.before.before.before.before).before.loop-test.taken))
     (again-at-gate t)
     (λ c. search rules)
     (λ c. search rules)
-    (λ c. module_of-kind _ (sym c.before.before.before.kind_of.ensures ∙ c.before.enum_told-in-Module-1.given.1))
+    (λ c. module_of-kind _ (sym c.before.before.before.kind-of.ensures ∙ c.before.enum-told2.given.1))
     (lent-offset t)
     (λ c. frame-inside t (module-read t c.before).before.before)
     (λ c. frame-inside t (module-read t c.before).before.before)
@@ -151,8 +151,8 @@ pub +weigh_once_spec : {M : Type 1} → statement M
     (listed t)
     (module-places t)
     (λ c.
-    let counted = c.before.before.before.before in
-    omega (arith, (module-read t (told t (weighed t counted.before.before.before.before))).before.loop-left-test.taken))
+    let c.before.before.before = c.before.before.before.before in
+    omega (arith, (module-read t (told t (weighed t c.before.before.before.before.before.before.before))).before.loop-test.taken))
     (again-at-module t)
     (λ c κs. frame-inside t c.before.before)
     (λ c κs. tt)
@@ -160,8 +160,8 @@ pub +weigh_once_spec : {M : Type 1} → statement M
     (write-row-requires t)
     (λ c.
     let loop = ended t (keeping t c.before.before).before.before.before.before in
-    (loop.loop-left.inv.3 (working t loop)).0.long ∙ (clearing t loop).clear.kept.1.0)
-    (λ c. let kept = keeping t c.before.before in kept.keep.kept.1.1.1.1.1.1.0 ∙ (ended t kept.before.before.before.before).loop-left.inv.0)
-    (λ c. c.before.before.write_row.auto.1.1.1.0 ∙ (ended t (keeping t c.before.before).before.before.before.before).loop-left.inv.1)
-    (λ c. let kept = keeping t c.before.before in kept.keep.kept.1.1.1.1.1.1.1.0 ∙ (ended t kept.before.before.before.before).loop-left.inv.2)
+    (loop.loop.inv.3 (working t loop)).0.long ∙ (clearing t loop).clear.kept.1.0)
+    (λ c. let kept = keeping t c.before.before in kept.keep.kept.1.1.1.1.1.1.0 ∙ (ended t kept.before.before.before.before).loop.inv.0)
+    (λ c. c.before.before.write-row.auto.1.1.1.0 ∙ (ended t (keeping t c.before.before).before.before.before.before).loop.inv.1)
+    (λ c. let kept = keeping t c.before.before in kept.keep.kept.1.1.1.1.1.1.1.0 ∙ (ended t kept.before.before.before.before).loop.inv.2)
     (returns t))

@@ -18,35 +18,27 @@ abbrev work :
     (c : tie.Start)
     → let args = c.args in
     Loadable args.image.now args.starts.now args.nets.now args.k args.room
-    → Workable args.image.now args.starts.now args.nets.now args.k (length args.scratch-1.now) args.loads-1.now (replicate 128 0)
+    → Workable args.image.now args.starts.now args.nets.now args.k (length args.scratch.now) args.loads.now (replicate 128 0)
 work c s = none-worked (moved s (omega (arith, s.room, c.requires.1.1.0))) c.requires.1.1.1
 
 -- Where the function began, from where the module is weighed.
 abbrev began : tie.After-weigh_once-weighed → tie.Start
 began c =
-    let lent = c.before.before.before.before in
-    let lists = lent.before.before.before in
-    lists.before.before.before
+    c.before.before.before.before.before.before.before.before.before.before
 
 weigh-once-requires : tie.Need-weigh_once-weighed-requires
 weigh-once-requires c κs =
-    let lent = c.before.before.before in
-    let lists = lent.before.before.before in
-    let start = lists.before.before.before in
-    (work start start.requires.0, none-known start.requires.1.0)
+    (work c.before.before.before.before.before.before.before.before.before c.requires.0, none-known c.requires.1.0)
 
 returns : tie.Need-returns
 returns c =
-    let cleared = c.before.before in
-    let lists = cleared.before.before.before.before in
-    let called = lists.before.before.before.before in
-    let start = began called in (
-      λ s. (called.weigh_once-weighed.ensures.0 (work start s)).largest,
+    let start = began c.before.before.before.before.before.before.before.before.before.before in (
+      λ s. (c.weigh_once-weighed.ensures.0 (work start s)).largest,
       (
-        λ s. (called.weigh_once-weighed.ensures.1 (none-known s)).is,
-        cleared.clear.ensures
+        λ s. (c.weigh_once-weighed.ensures.1 (none-known s)).is,
+        c.clear.ensures
             ∙ ap (λ l. replicate start.args.room 0 ++ l)
-            (same-further _ _ _ start.args.room start.requires.0.room (called.weigh_once-weighed.ensures.0 (work start start.requires.0)).behind),
+            (same-further _ _ _ start.args.room start.pre.0.room (c.weigh_once-weighed.ensures.0 (work start start.pre.0)).behind),
       ),
     )
 

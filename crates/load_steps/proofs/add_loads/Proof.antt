@@ -18,10 +18,6 @@ invariant-loop image from to inside first loads scratch₀ i₀ scratch i =
 abbrev decreases-loop : tie.decreases-loop-i
 decreases-loop image from to inside first loads scratch₀ i₀ scratch i = to - i
 
--- Where the function began, from a turn of its loop.
-abbrev start : tie.At-loop-i invariant-loop decreases-loop → tie.Start invariant-loop decreases-loop
-start c = c.before.before.before.before
-
 -- By the branch: what a place adds, and that the loads of a module's inputs are there.
 of-input : {inside : Bool} {input load : ℕ} → inside ≡ true → load ≡ input → load ≡ cond inside input 1
 of-input is e = rw is e
@@ -35,40 +31,33 @@ all-given inside first count is h = rw is at h
 -- What the place adds.
 load_is :
     (c : tie.Joined-inside invariant-loop decreases-loop)
-    → let loop = c.before.before.before in
-    let args = (start loop).args in
-    c.if-inside.load ≡ cond args.inside (get_or args.loads.now (args.first + (loop.loop-i.i - args.from)) 0) 1
+    → let args = c.args in
+    c.if-inside.load ≡ cond args.inside (get_or args.loads.now (args.first + (c.loop-i.i - args.from)) 0) 1
 load_is c = ⊎_elim (λ w. of-input w.0.taken w.2) (λ w. of-gate _ w.0.left w.1) c.if-inside.branch
 
 -- The loads of a module's inputs can be read.
 inner-inside :
     (c : tie.Then-inside invariant-loop decreases-loop)
-    → let loop = c.before.before.before in
-    let args = (start loop).args in
-    args.first + (loop.loop-i.i - args.from) < length args.loads.now
+    → let args = c.args in
+    args.first + (c.loop-i.i - args.from) < length args.loads.now
 inner-inside c =
-    let loop = c.before.before.before in
-    let a = (start loop).args in
-    let p = (start loop).requires in
-    omega (arith, (loop.loop-i.invariant p).low, all-given a.inside a.first (a.to - a.from) c.if-inside.true p.given)
+    let a = c.args in
+    let p = c.requires in
+    omega (arith, (c.loop-i.invariant p).low, all-given a.inside a.first (a.to - a.from) c.if-inside.true p.given)
 
-slot-there : (c : tie.Joined-inside invariant-loop decreases-loop) → c.before.entry-slot.result < length c.before.before.before.loop-i.scratch
+slot-there : (c : tie.Joined-inside invariant-loop decreases-loop) → c.entry-slot.result < length c.loop-i.scratch
 slot-there c =
-    let loop = c.before.before.before in
-    let p = (start loop).requires in
-    slot-inside p (loop.loop-i.invariant p) c.before.before.loop-i-test.true c.before.entry-slot.ensures
+    let p = c.requires in
+    slot-inside p (c.loop-i.invariant p) c.loop-i-test.true c.entry-slot.ensures
 
 add-scratch : tie.Need-overflow_add-scratch invariant-loop decreases-loop
 add-scratch c =
-    let joined = c.before.before in
-    let loop = joined.before.before.before in
-    let p = (start loop).requires in
-    record { fits = place-fits p (loop.loop-i.invariant p) joined.before.before.loop-i-test.true joined.before.entry-slot.ensures (load_is joined) }
+    let p = c.requires in
+    record { fits = place-fits p (c.loop-i.invariant p) c.loop-i-test.true c.entry-slot.ensures (load_is c.before.before) }
 
 loop-again : tie.Need-loop-i-preserved invariant-loop decreases-loop
 loop-again c p =
-    let joined = c.before.before in
-    more-placed p (joined.before.before.before.loop-i.invariant p) joined.before.before.loop-i-test.true joined.before.entry-slot.ensures (load_is joined)
+    more-placed p (c.loop-i.invariant p) c.loop-i-test.true c.entry-slot.ensures (load_is c.before.before)
 
 pub add_loads_spec : {M : Type 1} → statement M
 add_loads_spec =
@@ -77,17 +66,17 @@ add_loads_spec =
     invariant-loop
     decreases-loop
     (λ c p. none-placed p)
-    (λ c κs. omega (arith, (start c.before).requires.readable.inside))
-    (λ c. let loop = c.before.before.before in (loop.loop-i.invariant (start loop).requires).low)
+    (λ c κs. omega (arith, c.requires.readable.inside))
+    (λ c. (c.loop-i.invariant c.requires).low)
     (λ c. omega (arith, inner-inside c))
     (λ c. omega (arith, inner-inside c))
     (λ c. inner-inside c.before)
-    (λ c. let loop = c.before.before.before in omega (arith, slot-there c, (loop.loop-i.invariant (start loop).requires).long))
+    (λ c. omega (arith, slot-there c, (c.loop-i.invariant c.requires).long))
     (λ c. slot-there c.before)
     add-scratch
     (λ c. slot-there c.before.before)
     (λ c. omega arith)
     (λ c. omega arith)
     loop-again
-    (λ c. (c.before.loop-i.invariant (start c.before).requires).long)
-    (λ c p. all_placed p c.loop-i-test.false (c.before.loop-i.invariant p)))
+    (λ c. (c.loop-i.invariant c.requires).long)
+    (λ c p. all_placed p c.loop-i-test.false (c.loop-i.invariant p)))

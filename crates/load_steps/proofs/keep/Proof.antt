@@ -9,31 +9,24 @@ use Rattle.load_steps.proofs.keep.Tie as tie
 
 -- Where the function began, from where the loads of the inputs are kept.
 abbrev began : tie.After-copy → tie.Start
-began c = let lists = c.before.before.before in lists.before.before.before
-
--- To where they are kept, from where those of the outputs are.
-abbrev copied : tie.After-keep_slots → tie.After-copy
-copied c = c.before.before.before.before
+began c = c.before.before.before.before.before.before
 
 keep-slots-requires : tie.Need-keep_slots-requires
 keep-slots-requires c κs =
-    let first = c.before.before.before in
-    let able = (began first).requires in
-    (able.outputs, omega (arith, able.outputs_there, first.copy.auto.1.1.1.0))
+    let able = (began c.before.before.before).requires in
+    (able.outputs, omega (arith, able.outputs_there, c.copy.auto.1.1.1.0))
 
 returns : tie.Need-returns-then-k-known
 returns c =
-    let second = c.before.before.before in
-    record { middle = _; inputs = (copied second).copy.ensures; outputs = second.keep_slots.ensures; largest = refl }
+    record { middle = _; inputs = c.copy.ensures; outputs = c.keep_slots.ensures; largest = refl }
 
 returns-2 : tie.Need-returns-else-k-known
 returns-2 c =
-    let second = c.before.before.before in
-    let a = (began (copied second)).args in
+    let a = (began c.before.before.before.before.before.before.before).args in
     record {
       middle = _;
-      inputs = (copied second).copy.ensures;
-      outputs = second.keep_slots.ensures;
+      inputs = c.copy.ensures;
+      outputs = c.keep_slots.ensures;
       largest = sym (set_out a.known.now a.k (a.load + 1) c.if-k-known.false);
     }
 
@@ -41,8 +34,8 @@ pub keep_spec : {M : Type 1} → statement M
 keep_spec =
     tie.close
     (tie.spec
-    (λ c. let lists = c.before.before.before in omega (arith, lists.before.before.requires.there))
-    (λ c κs. let able = c.before.before.before.before.before.requires in (omega (arith, able.frame), omega (arith, able.there)))
+    (λ c. omega (arith, c.requires.there))
+    (λ c κs. let able = c.requires in (omega (arith, able.frame), omega (arith, able.there)))
     keep-slots-requires
     (λ c. search rules)
     (λ c. search rules)

@@ -14,26 +14,19 @@ invariant-loop image from to scratch loads₀ i₀ loads i =
 abbrev decreases-loop : tie.decreases-loop-i
 decreases-loop image from to scratch loads₀ i₀ loads i = to - i
 
--- Where the function began, from a turn of its loop.
-abbrev start : tie.At-loop-i invariant-loop decreases-loop → tie.Start invariant-loop decreases-loop
-start c = c.before.before.before.before
-
-slot-there : (c : tie.After-entry-slot invariant-loop decreases-loop) → c.entry-slot.result < length (start c.before.before).args.scratch.now
+slot-there : (c : tie.After-entry-slot invariant-loop decreases-loop) → c.entry-slot.result < length c.args.scratch.now
 slot-there c =
-    let loop = c.before.before in
-    let pre = (start loop).requires in
-    slot-inside _ pre.0 _ pre.1 (loop.loop-i.invariant pre.0 pre.1) c.before.loop-i-test.true c.entry-slot.ensures
+    let pre = c.requires in
+    slot-inside _ pre.0 _ pre.1 (c.loop-i.invariant pre.0 pre.1) c.loop-i-test.true c.entry-slot.ensures
 
-place-there : (c : tie.After-entry-slot invariant-loop decreases-loop) → c.before.before.loop-i.i < length c.before.before.loop-i.loads
+place-there : (c : tie.After-entry-slot invariant-loop decreases-loop) → c.loop-i.i < length c.loop-i.loads
 place-there c =
-    let loop = c.before.before in
-    let pre = (start loop).requires in
-    omega (arith, c.before.loop-i-test.true, (loop.loop-i.invariant pre.0 pre.1).long)
+    let pre = c.requires in
+    omega (arith, c.loop-i-test.true, (c.loop-i.invariant pre.0 pre.1).long)
 
 loop-again : tie.Need-loop-i-preserved invariant-loop decreases-loop
 loop-again c r there =
-    let read = c.before in
-    more-kept _ r _ there (read.before.before.loop-i.invariant r there) read.before.loop-i-test.true read.entry-slot.ensures
+    more-kept _ r _ there (c.loop-i.invariant r there) c.loop-i-test.true c.entry-slot.ensures
 
 pub keep_slots_spec : {M : Type 1} → statement M
 keep_slots_spec =
@@ -42,7 +35,7 @@ keep_slots_spec =
     invariant-loop
     decreases-loop
     (λ c r there. none_kept _ r _ there)
-    (λ c κs. omega (arith, (start c.before).requires.0.inside))
+    (λ c κs. omega (arith, c.requires.0.inside))
     (λ c. omega (arith, slot-there c))
     (λ c. slot-there c.before)
     (λ c. omega (arith, place-there c.before))
@@ -50,5 +43,5 @@ keep_slots_spec =
     (λ c. omega arith)
     (λ c. omega arith)
     loop-again
-    (λ c. let pre = (start c.before).requires in (c.before.loop-i.invariant pre.0 pre.1).long)
-    (λ c. let pre = (start c.before).requires in all-kept _ pre.0 _ pre.1 c.loop-i-test.false (c.before.loop-i.invariant pre.0 pre.1)))
+    (λ c. let pre = c.requires in (c.loop-i.invariant pre.0 pre.1).long)
+    (λ c. let pre = c.requires in all-kept _ pre.0 _ pre.1 c.loop-i-test.false (c.loop-i.invariant pre.0 pre.1)))

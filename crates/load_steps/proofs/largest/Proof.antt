@@ -53,6 +53,6 @@ largest_spec =
     (λ c. omega arith)
     (λ c. omega arith)
     (λ c.
-    let head = c.before.before.before.loop-i in
-    (omega arith, next _ _ (omega arith) head.i head.most _ c.before.before.loop-i-test.true c.larger-most.ensures head.invariant.1))
-    (λ c. over _ _ c.before.before.before.requires c.before.loop-i.i _ (omega arith) c.before.loop-i.invariant.1))
+    let head = c.before.before.before.loop in
+    (omega arith, next _ _ (omega arith) head.i head.most _ c.before.before.loop-test.true c.larger.ensures head.invariant.1))
+    (λ c. over _ _ c.requires c.loop-i.i _ (omega arith) c.loop-i.invariant.1))

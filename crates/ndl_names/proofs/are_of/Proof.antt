@@ -30,22 +30,20 @@ module _ (p : ℕ → Bool) (bytes : List ℕ) (i : ℕ) (r : Bool) (inv : every
 
 returns : tie.Need-returns-then-not-is_of invariant-loop decreases-loop
 returns c =
-    let turn = c.before.before.before in
-    let a = turn.before.before.before.args in
-    ends (belongs a.kind) a.bytes.now turn.before.loop-i.i c.before.is_of.result turn.before.loop-i.invariant turn.loop-i-test.true
-    c.before.is_of.ensures c.if-not-is_of.true
+    let a = c.args in
+    ends (belongs a.kind) a.bytes.now c.loop-i.i c.is_of.result c.loop-i.invariant c.loop-i-test.true
+    c.is_of.ensures c.if-not-is_of.true
 
 loop-again : tie.Need-loop-i-preserved invariant-loop decreases-loop
 loop-again c =
-    let turn = c.before.before.before in
-    let a = turn.before.before.before.args in
-    goes_on (belongs a.kind) a.bytes.now turn.before.loop-i.i c.before.is_of.result turn.before.loop-i.invariant turn.loop-i-test.true
-    c.before.is_of.ensures c.if-not-is_of.false
+    let a = c.args in
+    goes_on (belongs a.kind) a.bytes.now c.loop-i.i c.is_of.result c.loop-i.invariant c.loop-i-test.true
+    c.is_of.ensures c.if-not-is_of.false
 
 returns-2 : tie.Need-returns invariant-loop decreases-loop
 returns-2 c =
-    let a = c.before.before.before.args in
-    sym (c.before.loop-i.invariant ∙ every-none (belongs a.kind) a.bytes.now c.before.loop-i.i c.loop-i-test.false)
+    let a = c.args in
+    sym (c.loop-i.invariant ∙ every-none (belongs a.kind) a.bytes.now c.loop-i.i c.loop-i-test.false)
 
 pub are_of_spec : {M : Type 1} → statement M
 are_of_spec =

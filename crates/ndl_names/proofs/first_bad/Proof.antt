@@ -59,30 +59,25 @@ loop-holds c = (omega arith, refl)
 
 returns : tie.Need-returns-then-not-is_good invariant-loop decreases-loop
 returns c =
-    let turn = c.before.before.before in
-    bad (start turn).args.names.now turn.before.loop-k.k c.before.is_good.result turn.loop-k-test.true
-    turn.before.loop-k.invariant.1 c.before.is_good.ensures c.if-not-is_good.true
+    bad c.args.names.now c.loop-k.k c.is_good.result c.loop-k-test.true
+    c.loop-k.invariant.1 c.is_good.ensures c.if-not-is_good.true
 
 returns-2 : tie.Need-returns-then-is_used invariant-loop decreases-loop
 returns-2 c =
-    let judged = c.before.before in
-    let turn = judged.before.before.before in
-    used (start turn).args.names.now turn.before.loop-k.k judged.before.is_good.result turn.loop-k-test.true
-    turn.before.loop-k.invariant.1 judged.before.is_good.ensures c.before.is_used.result judged.if-not-is_good.false c.before.is_used.ensures c.if-is_used.true
+    used c.args.names.now c.loop-k.k c.is_good.result c.loop-k-test.true
+    c.loop-k.invariant.1 c.is_good.ensures c.is_used.result c.if-not-is_good.false c.is_used.ensures c.if-is_used.true
 
 loop-again : tie.Need-loop-k-preserved invariant-loop decreases-loop
-loop-again c =
-    let judged = c.before.before in
-    let turn = judged.before.before.before in (
-      omega (arith, turn.loop-k-test.true),
-      goes_on (start turn).args.names.now turn.before.loop-k.k judged.before.is_good.result turn.loop-k-test.true
-          turn.before.loop-k.invariant.1 judged.before.is_good.ensures c.before.is_used.result judged.if-not-is_good.false c.before.is_used.ensures c.if-is_used.false,
-    )
+loop-again c = (
+  omega (arith, c.loop-k-test.true),
+  goes_on c.args.names.now c.loop-k.k c.is_good.result c.loop-k-test.true
+      c.loop-k.invariant.1 c.is_good.ensures c.is_used.result c.if-not-is_good.false c.is_used.ensures c.if-is_used.false,
+)
 
 returns-3 : tie.Need-returns invariant-loop decreases-loop
 returns-3 c =
-    let l = c.before.loop-k in
-    sym (l.invariant.1 ∙ none_left c.before.before.before.args.names.now l.k l.invariant.0 c.loop-k-test.false)
+    let l = c.loop-k in
+    sym (l.invariant.1 ∙ none_left c.args.names.now l.k l.invariant.0 c.loop-k-test.false)
 
 pub first_bad_spec : {M : Type 1} → statement M
 first_bad_spec =
@@ -96,12 +91,12 @@ first_bad_spec =
     (λ c. omega (arith, c.loop-k-test.true))
     (λ c. omega (arith, c.loop-k-test.true))
     (λ c. omega (arith, c.loop-k-test.true))
-    (λ c. omega (arith, (start c).requires, c.loop-k-test.true))
+    (λ c. omega (arith, c.requires, c.loop-k-test.true))
     (λ c κs. search rules)
     returns
-    (λ c κs. ((start c.before.before.before).pre, c.before.before.before.loop-k-test.true))
+    (λ c κs. (c.requires, c.loop-k-test.true))
     returns-2
-    (λ c. omega (arith, c.before.before.before.before.before.loop-k-test.true))
-    (λ c. omega (arith, c.before.before.before.before.before.loop-k-test.true))
+    (λ c. omega (arith, c.loop-k-test.true))
+    (λ c. omega (arith, c.loop-k-test.true))
     loop-again
     returns-3)

@@ -5,10 +5,10 @@ use Rattle.ndl_names.proofs.is_between.Statement.{statement}
 use Rattle.ndl_names.proofs.is_between.Tie as tie
 
 returns : tie.Need-returns-then-low-b
-returns c = let a = c.before.args in rw (le-leb a.low a.b c.if-low-b.true) refl
+returns c = let a = c.args in rw (le-leb a.low a.b c.if-low-b.true) refl
 
 returns-2 : tie.Need-returns-else-low-b
-returns-2 c = let a = c.before.args in rw (lt-leb a.low a.b c.if-low-b.false) refl
+returns-2 c = let a = c.args in rw (lt-leb a.low a.b c.if-low-b.false) refl
 
 pub is_between_spec : {M : Type 1} → statement M
 is_between_spec = tie.close (tie.spec returns returns-2)

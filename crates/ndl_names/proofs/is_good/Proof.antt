@@ -22,17 +22,16 @@ parted name count e =
 
 returns : tie.Need-returns
 returns c =
-    let counted = c.before.before.before in
-    c.is_spelled.ensures ∙ parted counted.before.before.args.name.now counted.letters-count.result counted.letters-count.ensures
+    c.is_spelled.ensures ∙ parted c.args.name.now c.letters-count.result c.letters-count.ensures
 
 pub is_good_spec : {M : Type 1} → statement M
 is_good_spec =
     tie.close
     (tie.spec
     (λ c κs. search rules)
-    (λ c. sym (length-take-le _ _ (omega (arith, few-letters c.before.before.before.args.name.now, c.before.letters-count.ensures))))
-    (λ c. omega (arith, few-letters c.before.before.before.args.name.now, c.before.letters-count.ensures))
-    (λ c. omega (arith, few-letters c.before.before.before.args.name.now, c.before.letters-count.ensures))
+    (λ c. sym (length-take-le _ _ (omega (arith, few-letters c.args.name.now, c.letters-count.ensures))))
+    (λ c. omega (arith, few-letters c.args.name.now, c.letters-count.ensures))
+    (λ c. omega (arith, few-letters c.args.name.now, c.letters-count.ensures))
     (λ c. search rules)
     (λ c κs. search rules)
     returns)

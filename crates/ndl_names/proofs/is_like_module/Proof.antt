@@ -9,17 +9,15 @@ use Rattle.ndl_names.proofs.is_like_module.Statement.{statement}
 use Rattle.ndl_names.proofs.is_like_module.Tie as tie
 
 returns : tie.Need-returns-then-word-lt2
-returns c = like-short c.before.before.args.word.now c.if-word-lt2.true
+returns c = like-short c.args.word.now c.if-word-lt2.true
 
 returns-2 : tie.Need-returns-then-word-ne77
-returns-2 c = like-other c.before.before.before.before.args.word.now c.if-word-ne77.true
+returns-2 c = like-other c.args.word.now c.if-word-ne77.true
 
 returns-3 : tie.Need-returns
 returns-3 c =
-    let branch = c.before.before in
-    let long = branch.before.before in
-    let word = long.before.before.args.word.now in
-    like-digits word c.are_of.result long.if-word-lt2.false branch.if-word-ne77.false (c.are_of.ensures ∙ ap (every is_digit) (part_to_end word 1))
+    let word = c.args.word.now in
+    like-digits word c.are_of.result c.if-word-lt2.false c.if-word-ne77.false (c.are_of.ensures ∙ ap (every is_digit) (part_to_end word 1))
 
 pub is_like_module_spec : {M : Type 1} → statement M
 is_like_module_spec =

@@ -20,20 +20,20 @@ by-second : {x y r s : Bool} → r ≡ x → r ≡ false → s ≡ y → s ≡ (
 by-second {y = y} e h f = f ∙ ap (λ (z : Bool). z || y) (sym h ∙ e)
 
 returns : tie.Need-returns-in-Space
-returns c = told c.before.before.args.b c.enum_told-1.given.1 refl
+returns c = told c.args.b c.in-Space.is refl
 
 returns-2 : tie.Need-returns-in-Digit
-returns-2 c = told c.before.before.before.args.b c.before.enum_told-in-Digit-1.given.1 c.is_between.ensures
+returns-2 c = told c.args.b c.in-Digit.is c.is_between.ensures
 
 returns-3 : tie.Need-returns-then-is_between
 returns-3 c =
-    told c.before.before.before.before.args.b c.before.before.enum_told-in-CapitalOrDigit-1.given.1
-    (by_first _ c.before.is_between-in-CapitalOrDigit.ensures c.if-is_between.true)
+    told c.args.b c.in-CapitalOrDigit.is
+    (by_first _ c.is_between-in-CapitalOrDigit.ensures c.if-is_between.true)
 
 returns-4 : tie.Need-returns-else-is_between
 returns-4 c =
-    told c.before.before.before.before.before.args.b c.before.before.before.enum_told-in-CapitalOrDigit-1.given.1
-    (by-second c.before.before.is_between-in-CapitalOrDigit.ensures c.before.if-is_between.false c.is_between-else-is_between.ensures)
+    told c.args.b c.in-CapitalOrDigit.is
+    (by-second c.is_between-in-CapitalOrDigit.ensures c.if-is_between.false c.is_between-else-is_between.ensures)
 
 pub is_of_spec : {M : Type 1} → statement M
 is_of_spec =

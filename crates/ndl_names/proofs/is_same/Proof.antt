@@ -35,22 +35,17 @@ module _ (one other : List ℕ) (i : ℕ) (same : length one ≡ length other) (
 
 returns : tie.Need-returns-then-one-i invariant-loop decreases-loop
 returns c =
-    let turn = c.before.before.before in
-    let start = turn.before.before in
-    differ start.args.one.now start.args.other.now turn.before.loop-i.i start.requires turn.before.loop-i.invariant
-    turn.loop-i-test.true c.if-one-i.true
+    differ c.args.one.now c.args.other.now c.loop-i.i c.requires c.loop-i.invariant
+    c.loop-i-test.true c.if-one-i.true
 
 loop-again : tie.Need-loop-i-preserved invariant-loop decreases-loop
 loop-again c =
-    let turn = c.before.before.before in
-    let start = turn.before.before in
-    agree start.args.one.now start.args.other.now turn.before.loop-i.i start.requires turn.before.loop-i.invariant
-    turn.loop-i-test.true c.if-one-i.false
+    agree c.args.one.now c.args.other.now c.loop-i.i c.requires c.loop-i.invariant
+    c.loop-i-test.true c.if-one-i.false
 
 returns-2 : tie.Need-returns invariant-loop decreases-loop
 returns-2 c =
-    let start = c.before.before in
-    sym (c.before.loop-i.invariant ∙ same_none start.args.one.now start.args.other.now c.before.loop-i.i start.requires c.loop-i-test.false)
+    sym (c.loop-i.invariant ∙ same_none c.args.one.now c.args.other.now c.loop-i.i c.requires c.loop-i-test.false)
 
 pub is_same_spec : {M : Type 1} → statement M
 is_same_spec =

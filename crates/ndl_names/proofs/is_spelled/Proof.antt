@@ -28,27 +28,21 @@ unmet : {r x : Bool} → r ≡ x → not r ≡ true → x ≡ false
 unmet {r} e h = sym e ∙ not-true r h
 
 returns : tie.Need-returns-then-word-lt1
-returns c = one-fails _ _ _ (lt-leb 1 (length c.before.before.before.args.word.now) c.if-word-lt1.true)
+returns c = one-fails _ _ _ (lt-leb 1 (length c.args.word.now) c.if-word-lt1.true)
 
 returns-2 : tie.Need-returns-then-not-are_of
 returns-2 c =
-    let long = c.before.before in
-    two-fails _ _ (le-leb 1 (length long.before.before.before.args.word.now) long.if-word-lt1.false) (unmet c.before.are_of.ensures c.if-not-are_of.true)
+    two-fails _ _ (le-leb 1 (length c.args.word.now) c.if-word-lt1.false) (unmet c.are_of.ensures c.if-not-are_of.true)
 
 returns-3 : tie.Need-returns-then-not-are_of-2
 returns-3 c =
-    let second = c.before.before in
-    let long = second.before.before in
-    three-fails _ (le-leb 1 (length long.before.before.before.args.word.now) long.if-word-lt1.false) (met second.before.are_of.ensures second.if-not-are_of.false)
-    (unmet c.before.are_of-2.ensures c.if-not-are_of-2.true)
+    three-fails _ (le-leb 1 (length c.args.word.now) c.if-word-lt1.false) (met c.are_of.ensures c.if-not-are_of.false)
+    (unmet c.are_of-2.ensures c.if-not-are_of-2.true)
 
 returns-4 : tie.Need-returns
 returns-4 c =
-    let third = c.before in
-    let second = third.before.before in
-    let long = second.before.before in
-    four-decides (le-leb 1 (length long.before.before.before.args.word.now) long.if-word-lt1.false) (met second.before.are_of.ensures second.if-not-are_of.false)
-    (met third.before.are_of-2.ensures third.if-not-are_of-2.false)
+    four-decides (le-leb 1 (length c.args.word.now) c.if-word-lt1.false) (met c.are_of.ensures c.if-not-are_of.false)
+    (met c.are_of-2.ensures c.if-not-are_of-2.false)
     (ap not c.is_like_module.ensures)
 
 pub is_spelled_spec : {M : Type 1} → statement M

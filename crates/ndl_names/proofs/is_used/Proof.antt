@@ -49,34 +49,26 @@ start c = c.before.before.before.before
 
 is-same-requires : tie.Need-is_same-requires invariant-loop decreases-loop
 is-same-requires c κs =
-    let turn = c.before in
-    let s = start turn in
-    let j = turn.before.loop-j.j in
-    eight s.args.names.now (j - 1) (omega (arith, s.pre, turn.before.loop-j.invariant.0, turn.loop-j-test.true))
-    ∙ sym (eight s.args.names.now s.args.k (omega (arith, s.requires)))
+    let j = c.loop-j.j in
+    eight c.args.names.now (j - 1) (omega (arith, c.requires, c.loop-j.invariant.0, c.loop-j-test.true))
+    ∙ sym (eight c.args.names.now c.args.k (omega (arith, c.requires)))
 
 returns : tie.Need-returns-then-is_same invariant-loop decreases-loop
 returns c =
-    let same = c.before in
-    let turn = same.before.before in
-    let s = start turn in
-    met s.args.names.now s.args.k turn.before.loop-j.j same.is_same.result turn.loop-j-test.true
-    turn.before.loop-j.invariant.1 same.is_same.ensures c.if-is_same.true
+    met c.args.names.now c.args.k c.loop-j.j c.is_same.result c.loop-j-test.true
+    c.loop-j.invariant.1 c.is_same.ensures c.if-is_same.true
 
 loop-again : tie.Need-loop-j-preserved invariant-loop decreases-loop
-loop-again c =
-    let same = c.before in
-    let turn = same.before.before in
-    let s = start turn in (
-      omega (arith, turn.before.loop-j.invariant.0),
-      goes_on s.args.names.now s.args.k turn.before.loop-j.j same.is_same.result turn.loop-j-test.true
-          turn.before.loop-j.invariant.1 same.is_same.ensures c.if-is_same.false,
-    )
+loop-again c = (
+  omega (arith, c.loop-j.invariant.0),
+  goes_on c.args.names.now c.args.k c.loop-j.j c.is_same.result c.loop-j-test.true
+      c.loop-j.invariant.1 c.is_same.ensures c.if-is_same.false,
+)
 
 returns-2 : tie.Need-returns invariant-loop decreases-loop
 returns-2 c =
-    let names = c.before.before.before.before.args.names.now in
-    sym (c.before.loop-j.invariant.1 ∙ none_left names _ c.before.loop-j.j c.loop-j-test.false)
+    let names = c.args.names.now in
+    sym (c.loop-j.invariant.1 ∙ none_left names _ c.loop-j.j c.loop-j-test.false)
 
 pub is_used_spec : {M : Type 1} → statement M
 is_used_spec =
@@ -84,20 +76,20 @@ is_used_spec =
     (tie.spec
     invariant-loop
     decreases-loop
-    (λ c. omega (arith, c.before.requires))
-    (λ c. omega (arith, c.before.requires))
-    (λ c. omega (arith, c.before.requires))
-    (λ c. omega (arith, c.before.requires))
-    (λ c. omega (arith, c.before.requires))
-    (λ c. omega (arith, c.before.requires))
+    (λ c. omega (arith, c.requires))
+    (λ c. omega (arith, c.requires))
+    (λ c. omega (arith, c.requires))
+    (λ c. omega (arith, c.requires))
+    (λ c. omega (arith, c.requires))
+    (λ c. omega (arith, c.requires))
     (λ c. (omega arith, refl))
     (λ c. omega arith)
-    (λ c. omega (arith, (start c).requires, c.before.loop-j.invariant.0))
-    (λ c. omega (arith, (start c).requires, c.before.loop-j.invariant.0))
-    (λ c. omega (arith, (start c).requires, c.before.loop-j.invariant.0))
-    (λ c. omega (arith, (start c).requires, c.before.loop-j.invariant.0))
-    (λ c. omega (arith, (start c).requires, c.before.loop-j.invariant.0))
-    (λ c. omega (arith, (start c).requires, c.before.loop-j.invariant.0))
+    (λ c. omega (arith, c.requires, c.loop-j.invariant.0))
+    (λ c. omega (arith, c.requires, c.loop-j.invariant.0))
+    (λ c. omega (arith, c.requires, c.loop-j.invariant.0))
+    (λ c. omega (arith, c.requires, c.loop-j.invariant.0))
+    (λ c. omega (arith, c.requires, c.loop-j.invariant.0))
+    (λ c. omega (arith, c.requires, c.loop-j.invariant.0))
     is-same-requires
     returns
     (λ c. omega arith)

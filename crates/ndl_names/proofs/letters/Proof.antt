@@ -16,20 +16,18 @@ decreases-loop name i₀ i = length name - i
 
 loop-again : tie.Need-loop-i-preserved invariant-loop decreases-loop
 loop-again c =
-    let turn = c.before.before in
-    let name = turn.before.before.args.name.now in
-    (omega arith, omega (arith, turn.before.loop-i.invariant.1, letters-next name turn.before.loop-i.i turn.loop-i-test.true c.if-name-i-ne32.true))
+    let name = c.args.name.now in
+    (omega arith, omega (arith, c.loop-i.invariant.1, letters-next name c.loop-i.i c.loop-i-test.true c.if-name-i-ne32.true))
 
 returns : tie.Need-returns-else-name-i-ne32 invariant-loop decreases-loop
 returns c =
-    let turn = c.before.before in
-    let name = turn.before.before.args.name.now in
-    omega (arith, turn.before.loop-i.invariant.1, letters-end name turn.before.loop-i.i turn.loop-i-test.true c.if-name-i-ne32.false)
+    let name = c.args.name.now in
+    omega (arith, c.loop-i.invariant.1, letters-end name c.loop-i.i c.loop-i-test.true c.if-name-i-ne32.false)
 
 returns-2 : tie.Need-returns-after-loop-i invariant-loop decreases-loop
 returns-2 c =
-    let name = c.before.before.args.name.now in
-    omega (arith, c.before.loop-i.invariant.1, letters-none name c.before.loop-i.i c.loop-i-test.false)
+    let name = c.args.name.now in
+    omega (arith, c.loop-i.invariant.1, letters-none name c.loop-i.i c.loop-i-test.false)
 
 pub letters_spec : {M : Type 1} → statement M
 letters_spec =

@@ -6,9 +6,6 @@ use Rattle.open_beside.specs.Beside.{beside_of}
 use Rattle.open_beside.proofs.answered.Statement.{statement}
 use Rattle.open_beside.proofs.answered.Tie as tie
 
-abbrev entered : tie.After-judged → tie.Start
-entered c = c.before
-
 pub answered_spec : {M : Type 1} → statement M
 answered_spec =
     tie.close
@@ -16,5 +13,5 @@ answered_spec =
     (λ c κs. search rules)
     (λ c. search rules)
     (λ c. search rules)
-    (λ c. ap (λ (p : Prepared). beside_of p (entered c.before.before.before).args.numbers) (sym c.before.number-1.given.1 ∙ c.before.before.before.judged.ensures))
-    (λ c. ap (λ (p : Prepared). beside_of p (entered c.before.before.before).args.numbers) (sym c.before.modules-1.given.1 ∙ c.before.before.before.judged.ensures)))
+    (λ c. ap (λ (p : Prepared). beside_of p c.args.numbers) (sym c.in-Refused.is ∙ c.judged.ensures))
+    (λ c. ap (λ (p : Prepared). beside_of p c.args.numbers) (sym c.in-Ready.is ∙ c.judged.ensures)))

@@ -37,8 +37,7 @@ decreases-loop source target₀ i₀ i-end target i = i-end - i
 
 loop-again : tie.Need-loop-i-preserved invariant-loop decreases-loop
 loop-again c =
-    let turn = c.before in
-    copy_more turn.before.before.args.source.now turn.before.loop-i.target turn.before.loop-i.i turn.loop-i-test.true turn.before.loop-i.invariant
+    copy_more c.args.source.now c.loop-i.target c.loop-i.i c.loop-i-test.true c.loop-i.invariant
 
 pub copy_spec : {M : Type 1} → statement M
 copy_spec =
@@ -50,9 +49,9 @@ copy_spec =
     (λ c. omega arith)
     (λ c. omega arith)
     (λ c. omega arith)
-    (λ c. omega (arith, c.before.before.loop-i.invariant.long))
+    (λ c. omega (arith, c.loop-i.invariant.long))
     (λ c. omega arith)
     (λ c. omega arith)
     loop-again
-    (λ c. omega (arith, c.before.loop-i.invariant.long, c.before.before.requires))
-    (λ c. copy-all c.before.before.args.source.now c.before.loop-i.target c.before.loop-i.i c.loop-i-test.false c.before.loop-i.invariant))
+    (λ c. omega (arith, c.loop-i.invariant.long, c.requires))
+    (λ c. copy-all c.args.source.now c.loop-i.target c.loop-i.i c.loop-i-test.false c.loop-i.invariant))

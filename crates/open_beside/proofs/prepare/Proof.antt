@@ -15,68 +15,67 @@ use Rattle.open_beside.proofs.prepare.Tie as tie
 
 -- Back from where a file has been read to the reading, and from there to where the lists are known and to the function's entry.
 abbrev reading : tie.In-Read → tie.After-read
-reading k = let lists = k.before.before.before in lists.before.before.before.before.before.before
+reading k = k.before.before.before.before.before.before.before
 
 abbrev listed : tie.After-read → tie.After-shared_slice_known-1
-listed r = let half = r.before.before.before.before.before.before.before in half.before.before.before.before.before.before.before
+listed r = r.before.before.before.before.before.before.before.before.before.before.before.before.before.before
 
 abbrev entered : tie.In-Read → tie.Start
 entered k = (listed (reading k)).before
 
 -- From the check of the copy to where its file has been read.
 abbrev known : tie.After-check-copy-arg9 → tie.In-Read
-known c = let args = c.before.before.before.before.before in args.before.before.before.before
+known c = c.before.before.before.before.before.before.before.before.before
 
 -- So many modules and numbers.
 abbrev modules : tie.In-Read → ℕ
-modules k = k.before.modules-1.given.0.0
+modules k = k.in-Read.modules
 
 abbrev count : tie.In-Read → ℕ
-count k = k.before.modules-1.given.0.1.0
+count k = k.in-Read.count
 
 bytes : (k : tie.In-Read) → Bytes (entered k).args.file.now
-bytes k = bytes-all (entered k).args.file.now (λ i. ((listed (reading k)).shared_slice_known-1.given i).fits)
+bytes k = bytes-all (entered k).args.file.now (λ i. ((listed (reading k)).shared-slice-known.given i).fits)
 
-few : (k : tie.In-Read) → (count k ≤ length (reading k).read.new.1.0) × (count k ≤ length (entered k).args.image-1.now)
+few : (k : tie.In-Read) → (count k ≤ length (reading k).read.new.1.0) × (count k ≤ length (entered k).args.image.now)
 few k =
-    let few = count_long (bytes k) (reading k).read.ensures (modules k) (count k) k.before.modules-1.given.1 in (
+    let few = count_long (bytes k) (reading k).read.ensures (modules k) (count k) k.in-Read.is in (
       omega (arith, few.0, few.1, (entered k).requires.numbers_long, (reading k).read.auto.1.0),
       omega (arith, few.0, few.1, (entered k).requires.space.image_long),
     )
 
 read-requires : tie.Need-read-requires
 read-requires c κs =
-    let half = c.before.before.before.before.before.before.before in
-    let s = half.before.before.before.before.before.before.before.requires in
+    let s = c.requires in
     record { numbers_fit = s.numbers_long; starts_fit = s.space.starts_long; offsets_fit = s.offsets_long }
 
 check-copy-requires : tie.Need-check_copy-found-requires
 check-copy-requires c κs =
     let k = known c in
     let d = (reading k).read in (
-      file-ready (bytes k) d.ensures (modules k) (count k) k.before.modules-1.given.1 (entered k).requires.space d.kept.1.1.0,
+      file-ready (bytes k) d.ensures (modules k) (count k) k.before.modules.given.1 (entered k).pre.space d.kept.1.1.0,
       length-take-le _ _ (few k).1 ∙ sym (length-take-le _ _ (few k).0),
     )
 
 returns : tie.Need-returns-in-Refused
 returns c =
-    let d = let lists = c.before.before.before in lists.before.before.before.before.before.before.read in
-    read-refused c.before.number-1.given.0.0 c.before.number-1.given.0.1.0 d.ensures c.before.number-1.given.1
+    let d = c.read in
+    read-refused c.in-Refused.number c.in-Refused.place d.ensures c.in-Refused.is
 
 -- Back from the answer to the check.
 abbrev checked : tie.After-slice_known-in-Read-7-1 → tie.After-check_copy-found
-checked c = let half = c.before.before.before.before.before.before.before in half.before.before.before.before.before.before.before
+checked c = c.before.before.before.before.before.before.before.before.before.before.before.before.before.before
 
 returns-2 : tie.Need-returns-in-Read
 returns-2 c =
     let e = checked c.before in
     let k = known e.before in
     let d = (reading k).read in
-    let read = k.before.modules-1.given.1 in
-    let kept = e.check_copy-found.kept.1.1.1.1.1.1 in
-    kept-beside (bytes k) d.ensures (modules k) (count k) read _ _ _ _ _ (prepared_of e.check_copy-found.result (modules k))
-    (answered (bytes k) d.ensures (modules k) (count k) read (entered k).requires.space d.kept.1.1.0
-    (drop (count k) (entered k).args.image-1.now) kept.1.0 kept.1.1.0 kept.1.1.1.0 e.check_copy-found.ensures refl)
+    let read = k.before.modules.given.1 in
+    let kept = e.check-copy.kept.1.1.1.1.1.1 in
+    kept-beside (bytes k) d.ensures (modules k) (count k) read _ _ _ _ _ (prepared_of e.check-copy.result (modules k))
+    (answered (bytes k) d.ensures (modules k) (count k) read (entered k).pre.space d.kept.1.1.0
+    (drop (count k) (entered k).args.image.now) kept.1.0 kept.1.1.0 kept.1.1.1.0 e.check-copy.ensures refl)
     c.answered.ensures
 
 pub prepare_spec : {M : Type 1} → statement M
@@ -87,9 +86,9 @@ prepare_spec =
     (λ c. search rules)
     (λ c. search rules)
     (λ c. (few c).0)
-    (λ c. sym (length-take-le _ _ (few c.before).0))
-    (λ c. (few c.before).1)
-    (λ c. sym (length-take-le _ _ (few c.before.before).1))
+    (λ c. sym (length-take-le _ _ (few c).0))
+    (λ c. (few c).1)
+    (λ c. sym (length-take-le _ _ (few c.before).1))
     check-copy-requires
     (λ c κs. search rules)
     (λ c. search rules)

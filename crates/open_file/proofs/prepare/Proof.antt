@@ -13,13 +13,13 @@ use Rattle.open_file.proofs.prepare.Tie as tie
 
 -- Back from where a file has been read to the reading, and from there to where the lists are known and to the function's entry.
 abbrev reading : tie.In-Read → tie.After-read
-reading k = k.before.before.before.before.before.before.before.before
+reading k = k.before.before.before.before.before.before
 
 abbrev lists : tie.After-read → tie.After-slice_known-1
-lists r = let half = r.before.before.before.before.before.before in half.before.before.before.before.before
+lists r = r.before.before.before.before.before.before.before.before.before.before.before
 
 abbrev entered : tie.In-Read → tie.Start
-entered k = (lists (reading k)).before.before
+entered k = (lists k.before.before.before.before.before.before).before.before
 
 -- From the check of the modules to where its file has been read.
 abbrev known : tie.After-check-modules-arg8 → tie.In-Read
@@ -27,43 +27,40 @@ known c = c.before.before.before.before.before.before.before.before
 
 -- So many modules and numbers.
 abbrev modules : tie.In-Read → ℕ
-modules k = k.before.modules-1.given.0.0
+modules k = k.in-Read.modules
 
 abbrev count : tie.In-Read → ℕ
-count k = k.before.modules-1.given.0.1.0
+count k = k.in-Read.count
 
 bytes : (k : tie.In-Read) → Bytes (entered k).args.file.now
-bytes k = bytes-all (entered k).args.file.now (λ i. ((lists (reading k)).before.shared_slice_known-1.given i).fits)
+bytes k = bytes-all (entered k).args.file.now (λ i. ((lists k.before.before.before.before.before.before).before.shared-slice-known.given i).fits)
 
-room : (k : tie.In-Read) → count k ≤ length (reading k).read.new.1.0
+room : (k : tie.In-Read) → count k ≤ length k.read.new.1.0
 room k =
-    let few = count_long (bytes k) (reading k).read.ensures (modules k) (count k) k.before.modules-1.given.1 in
-    omega (arith, few.0, few.1, (entered k).requires.image_long, (reading k).read.auto.1.0)
+    let few = count_long (bytes k) k.read.ensures (modules k) (count k) k.in-Read.is in
+    omega (arith, few.0, few.1, (entered k).requires.image_long, k.read.auto.1.0)
 
 check-modules-requires : tie.Need-check_modules-found-requires
 check-modules-requires c κs =
-    let k = known c in
-    let d = (reading k).read in
-    file-ready (bytes k) d.ensures (modules k) (count k) k.before.modules-1.given.1 (entered k).requires d.kept.1.1.0
+    let d = c.read in
+    file-ready (bytes c.before.before.before.before.before.before.before) d.ensures (modules c.before.before.before.before.before.before.before) (count c.before.before.before.before.before.before.before) c.in-Read.is (entered c.before.before.before.before.before.before.before).pre d.kept.1.1.0
 
 returns : tie.Need-returns-in-Refused
 returns c =
-    let matched = c.before.before in
-    let d = matched.before.before.before.before.before.before.read in
-    read-refused c.before.number-1.given.0.0 c.before.number-1.given.0.1.0 d.ensures c.before.number-1.given.1
+    let d = c.read in
+    read-refused c.in-Refused.number c.in-Refused.place d.ensures c.in-Refused.is
 
 -- Back from the answer to the check of the modules.
 abbrev checked : tie.After-slice_known-in-Read-7-1 → tie.After-check_modules-found
-checked c = let half = c.before.before.before.before.before.before.before in half.before.before.before.before.before.before.before
+checked c = c.before.before.before.before.before.before.before.before.before.before.before.before.before.before
 
 returns-2 : tie.Need-returns-in-Read
 returns-2 c =
     let e = checked c.before in
-    let k = known e.before in
-    let d = (reading k).read in
-    let kept = e.check_modules-found.kept.1.1.1.1.1.1 in
-    answered (bytes k) d.ensures (modules k) (count k) k.before.modules-1.given.1 (entered k).requires d.kept.1.1.0
-    (drop (count k) d.last.1.0) kept.0 kept.1.0 kept.1.1.0 e.check_modules-found.ensures c.judged.ensures
+    let d = e.before.before.before.before.before.before.before.before.before.before.before.before.before.before.before.before.before.read in
+    let kept = e.check-modules.kept.1.1.1.1.1.1 in
+    answered (bytes e.before.before.before.before.before.before.before.before.before) d.ensures (modules e.before.before.before.before.before.before.before.before.before) (count e.before.before.before.before.before.before.before.before.before) e.before.before.before.before.before.before.before.before.before.before.modules.given.1 (entered e.before.before.before.before.before.before.before.before.before).pre d.kept.1.1.0
+    (drop (count e.before.before.before.before.before.before.before.before.before) d.last.1.0) kept.0 kept.1.0 kept.1.1.0 e.check-modules.ensures c.judged.ensures
 
 pub prepare_spec : {M : Type 1} → statement M
 prepare_spec =

@@ -20,21 +20,21 @@ loop-holds : tie.Need-loop-k-init invariant-loop decreases-loop
 loop-holds c = (omega arith, λ s. sought_none s.ms c.args.number)
 
 -- The list has an entry for the module of this turn.
-listed : (c : tie.In-loop-k invariant-loop decreases-loop) → c.before.loop-k.k < length c.before.before.args.names.now
-listed c = let p = c.before.before.requires in omega (arith, c.loop-k-test.true, p.all, p.listed)
+listed : (c : tie.In-loop-k invariant-loop decreases-loop) → c.loop-k.k < length c.args.names.now
+listed c = let p = c.requires in omega (arith, c.loop-k-test.true, p.all, p.listed)
 
 mul-if1 : tie.Need-offset_bounds-names-k invariant-loop decreases-loop
 mul-if1 c = let h = listed c in search rules
 
 returns : tie.Need-returns-then-names-k invariant-loop decreases-loop
 returns c s =
-    let l = c.before.before.before.loop-k in
+    let l = c.loop-k in
     let h = here-at s.ms l.k (omega (arith, s.all)) in
     sought_here (l.invariant.1 s) h (sym (s.name l.k h.here) ∙ c.if-names-k.true)
 
 loop-again : tie.Need-loop-k-preserved invariant-loop decreases-loop
 loop-again c =
-    let l = c.before.before.before.loop-k in (
+    let l = c.loop-k in (
       omega arith,
       λ s.
           let h = here-at s.ms l.k (omega (arith, s.all)) in
@@ -54,4 +54,4 @@ find_spec =
     (λ c. omega arith)
     (λ c. omega arith)
     loop-again
-    (λ c s. sought_all (c.before.loop-k.invariant.1 s) (omega (arith, s.all))))
+    (λ c s. sought_all (c.loop-k.invariant.1 s) (omega (arith, s.all))))

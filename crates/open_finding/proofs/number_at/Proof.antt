@@ -30,5 +30,5 @@ number_at_spec =
     (tie.spec
     (λ c. search rules)
     (λ c. search rules)
-    (λ c s. within s _ c.before.if-position-modules.true)
+    (λ c s. within s _ c.if-position-modules.true)
     (λ c s. beyond s _ c.if-position-modules.false))

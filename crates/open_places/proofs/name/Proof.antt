@@ -19,12 +19,12 @@ decreases-loop numbers starts modules names₀ k₀ names k = modules - k
 -- In a turn the module's start is listed, its number is there, and there is room to name it.
 turn :
     (c : tie.In-loop-k invariant-loop decreases-loop)
-    → (let a = c.before.before.args in
-    let k = c.before.loop-k.k in
-    (k < length a.starts.now) × (get_or a.starts.now k 0 < length a.numbers.now) × (k < length c.before.loop-k.names))
+    → (let a = c.args in
+    let k = c.loop-k.k in
+    (k < length a.starts.now) × (get_or a.starts.now k 0 < length a.numbers.now) × (k < length c.loop-k.names))
 turn c =
-    let p = c.before.before.requires in
-    let l = c.before.loop-k in
+    let p = c.requires in
+    let l = c.loop-k in
     let t = c.loop-k-test.true in (
       omega (arith, p.all, p.started),
       p.inside l.k (omega (arith, p.all)),
@@ -33,11 +33,10 @@ turn c =
 
 loop-again : tie.Need-loop-k-preserved invariant-loop decreases-loop
 loop-again c =
-    let t = c.before.before in
-    let l = t.before.loop-k in (
+    let l = c.loop-k in (
       length-set l.names l.k _ ∙ l.invariant.0,
-      omega (arith, t.loop-k-test.true),
-      λ h. named_more (l.invariant.2 h) (turn t).2 (λ m later e. h.head l.k e),
+      omega (arith, c.loop-k-test.true),
+      λ h. named_more (l.invariant.2 h) (turn c.before.before).2 (λ m later e. h.head l.k e),
     )
 
 pub name_spec : {M : Type 1} → statement M
@@ -53,8 +52,8 @@ name_spec =
     (λ c. (turn c.before.before).1)
     (λ c. let h = (turn c.before.before).2 in search rules)
     (λ c. (turn c.before.before).2)
-    (λ c. omega (arith, c.before.before.loop-k-test.true))
-    (λ c. omega (arith, c.before.before.loop-k-test.true))
+    (λ c. omega (arith, c.loop-k-test.true))
+    (λ c. omega (arith, c.loop-k-test.true))
     loop-again
-    (λ c. c.before.loop-k.invariant.0)
-    (λ c h. named-all (c.before.loop-k.invariant.2 h) (omega (arith, c.loop-k-test.false, h.all))))
+    (λ c. c.loop-k.invariant.0)
+    (λ c h. named-all (c.loop-k.invariant.2 h) (omega (arith, c.loop-k-test.false, h.all))))

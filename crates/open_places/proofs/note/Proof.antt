@@ -13,64 +13,53 @@ use Rattle.open_places.proofs.note.Tie as tie
 
 -- Back from where a file has been read to the reading, and from there to where its bytes are known.
 abbrev reading : tie.In-Read → tie.After-read
-reading k = k.before.before.before.before.before.before.before.before
-
-abbrev listed : tie.After-read → tie.After-shared_slice_known-1
-listed r = r.before.before.before.before.before.before.before
+reading k = k.before.before.before.before.before.before
 
 abbrev entered : tie.In-Read → tie.Start
-entered k = (listed (reading k)).before
+entered k = k.before.before.before.before.before.before.before.before.before.before.before.before.before.before
 
 -- So many modules and numbers.
 abbrev modules : tie.In-Read → ℕ
-modules k = k.before.modules-1.given.0.0
+modules k = k.in-Read.modules
 
 abbrev count : tie.In-Read → ℕ
-count k = k.before.modules-1.given.0.1.0
-
--- From behind the names to where the file has been read.
-abbrev named : tie.After-slice_known-in-Read-1 → tie.In-Read
-named c = c.before.before.before.before.before.before
+count k = k.in-Read.numbers
 
 bytes : (k : tie.In-Read) → Bytes (entered k).args.file.now
-bytes k = bytes-all (entered k).args.file.now (λ i. ((listed (reading k)).shared_slice_known-1.given i).fits)
+bytes k = bytes-all (entered k).args.file.now (λ i. (k.shared_slice_known-1.given i).fits)
 
 name-requires : tie.Need-name-requires
 name-requires c κs =
-    let k = c.before.before.before in
-    let d = (reading k).read in
-    headed (bytes k) d.ensures (modules k) (count k) k.before.modules-1.given.1
+    let d = c.read in
+    headed (bytes c.before.before) d.ensures (modules c.before.before) (count c.before.before) c.in-Read.is
     (omega (arith, d.kept.1.1.0))
-    (entered k).requires.names_fit
+    (entered c.before.before).requires.names_fit
 
 -- There is a place for the file's end.
-room : (c : tie.After-slice_known-in-Read-1) → modules (named c) < length (reading (named c)).read.new.1.1.1.0
+room : (c : tie.After-slice_known-in-Read-1) → modules c.before.before.before.before.before < length c.read.new.1.1.1.0
 room c =
-    let k = named c in
-    let d = (reading k).read in
+    let d = c.read in
     omega (
       arith,
-      few (bytes k) d.ensures (modules k) (count k) k.before.modules-1.given.1,
-      (entered k).requires.places_fit,
+      few (bytes c.before.before.before.before.before) d.ensures (modules c.before.before.before.before.before) (count c.before.before.before.before.before) c.in-Read.is,
+      (entered c.before.before.before.before.before).pre.places_fit,
       d.kept.1.1.1.0,
     )
 
 returns : tie.Need-returns-in-Refused
 returns c =
-    let matched = c.before.before in
-    let d = matched.before.before.before.before.before.before.read in
-    is-refused (sym c.before.number-1.given.1 ∙ d.ensures.answers)
+    let d = c.read in
+    is-refused (sym c.in-Refused.is ∙ d.ensures.answers)
 
 returns-2 : tie.Need-returns-in-Read
 returns-2 c =
-    let k = named c in
-    let d = (reading k).read in
-    shelved (bytes k) d.ensures (modules k) (count k) k.before.modules-1.given.1
+    let d = c.read in
+    shelved (bytes c.before.before.before.before.before) d.ensures (modules c.before.before.before.before.before) (count c.before.before.before.before.before) c.in-Read.is
     (omega (arith, d.kept.1.1.0))
-    (entered k).requires.names_fit
-    c.before.before.name.auto.1.1.1.0
-    (omega (arith, (entered k).requires.places_fit, d.kept.1.1.1.0))
-    c.before.before.name.ensures
+    (entered c.before.before.before.before.before).pre.names_fit
+    c.name.auto.1.1.1.0
+    (omega (arith, (entered c.before.before.before.before.before).pre.places_fit, d.kept.1.1.1.0))
+    c.name.ensures
 
 pub note_spec : {M : Type 1} → statement M
 note_spec =

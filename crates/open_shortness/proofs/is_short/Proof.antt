@@ -24,15 +24,13 @@ loop-holds c = passed_first c.if-file-gt1024.false
 
 loop-again : tie.Need-loop-i-preserved invariant-loop decreases-loop
 loop-again c =
-    let weighed = c.before in
-    let first_read = weighed.before.before in
-    let loop = first_read.before.before.loop-i in
-    passed-more loop.invariant (first_read.shared_slice_known-in-loop-i-1.given (loop.i - 1)).fits weighed.weight-here.ensures
+    let loop = c.loop-i in
+    passed-more loop.invariant (c.shared_slice_known-in-loop-i-1.given (loop.i - 1)).fits c.weight-here.ensures
     (⊎_elim (λ w. omega (arith, w.0.taken, w.1)) (λ w. omega (arith, w.1)) c.if-most-here.branch)
     (⊎_elim (λ w. omega (arith, w.1)) (λ w. omega (arith, w.0.left, w.1)) c.if-most-here.branch)
 
 returns-2 : tie.Need-returns invariant-loop decreases-loop
-returns-2 c e = passed-all c.before.loop-i.invariant c.loop-i-test.false (leb-true _ _ e)
+returns-2 c e = passed-all c.loop-i.invariant c.loop-i-test.false (leb-true _ _ e)
 
 pub is_short_spec : {M : Type 1} → statement M
 is_short_spec =

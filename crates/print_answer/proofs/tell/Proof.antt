@@ -9,38 +9,28 @@ use Rattle.print_answer.proofs.tell.Tie as tie
 
 put-file-requires : tie.Need-put_file-requires
 put-file-requires c κs =
-    let s = c.before.before.before.before in
-    file-told s.requires s.args.out-1.now (omega (arith, c.before.if-size-out.true))
+    file-told c.requires c.args.out.now (omega (arith, c.if-size-out.true))
 
 returns : tie.Need-returns-then-size-out
 returns c t =
-    let p = c.before.before in
-    let branch = p.before.before in
-    let s = branch.before.before.before in
-    let room = branch.if-size-out.true in
-    told_straight t s.args.out-1.now room (p.put_file.ensures (file-told t s.args.out-1.now room))
+    let room = c.if-size-out.true in
+    told_straight t c.args.out.now room (c.put_file.ensures (file-told t c.args.out.now room))
 
 tell-through-requires : tie.Need-tell_through-requires
 tell-through-requires c κs =
-    let branch = c.before.before in
-    let s = branch.before.before.before.before in
-    file-told s.requires _ (omega (arith, length-replicate {A = ℕ} 6144 0, branch.if-size-le1024.true))
+    file-told c.requires _ (omega (arith, length-replicate {A = ℕ} 6144 0, c.if-size-le1024.true))
 
 returns-2 : tie.Need-returns-then-size-le1024
 returns-2 c t =
-    let p = c.before.before.before in
-    let branch = p.before.before.before in
-    p.tell_through.ensures (file-told t _ (omega (arith, length-replicate {A = ℕ} 6144 0, branch.if-size-le1024.true)))
+    c.tell_through.ensures (file-told t _ (omega (arith, length-replicate {A = ℕ} 6144 0, c.if-size-le1024.true)))
 
 tell-through-requires-2 : tie.Need-tell_through-requires-2
 tell-through-requires-2 c κs =
-    let s = c.before.before.before.before.before.before in
-    told_in_longest s.requires _ (length-replicate {A = ℕ} 393210 0)
+    told_in_longest c.requires _ (length-replicate {A = ℕ} 393210 0)
 
 returns-3 : tie.Need-returns
 returns-3 c t =
-    let p = c.before.before.before in
-    p.tell_through-2.ensures (told_in_longest t _ (length-replicate {A = ℕ} 393210 0))
+    c.tell_through-2.ensures (told_in_longest t _ (length-replicate {A = ℕ} 393210 0))
 
 pub tell_spec : {M : Type 1} → statement M
 tell_spec =

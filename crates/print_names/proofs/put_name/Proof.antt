@@ -9,15 +9,12 @@ use Rattle.print_names.proofs.put_name.Tie as tie
 put-requires : tie.Need-put-requires
 unfolding gate_table spelling
 put-requires c κs =
-    let s = c.before.before.before.before in
-    (refl, s.requires.0, rw (named-by-table s.args.number) s.requires.1)
+    (refl, c.requires.0, rw (named-by-table c.args.number) c.requires.1)
 
 returns : tie.Need-returns
 unfolding gate_table spelling
 returns c =
-    let p = c.before.before in
-    let s = p.before.before.before.before.before in
-    rw (named-by-table s.args.number) at p.put.ensures
+    rw (named-by-table c.args.number) at c.put.ensures
 
 pub put_name_spec : {M : Type 1} → statement M
 put_name_spec = tie.close (tie.spec put-requires (λ c. search rules) returns)

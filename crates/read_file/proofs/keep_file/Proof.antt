@@ -10,50 +10,44 @@ use Rattle.read_file.proofs.keep_file.Tie as tie
 
 -- The function's start, and the call that reads the count; from where it is read back, and from behind the modules.
 abbrev begun : tie.After-keep_count-arg-1 → tie.Start
-begun c = let known = c.before in known.before.before.before.before
-
-abbrev counting : tie.In-On-2 → tie.After-keep_count-way
-counting c = c.before.before.before.before
+begun c = c.before.before.before.before.before
 
 abbrev entry : tie.In-On-2 → tie.Start
-entry c = begun (counting c).before
+entry c = begun c.before.before.before.before
 
 abbrev read : tie.After-last_kept-count → tie.In-On-2
-read c = c.before.before.before
+read c = c.before
 
 abbrev modules : tie.After-slice_known-7-1 → tie.After-keep_modules
-modules c = let lists = c.before.before.before in lists.before.before.before
+modules c = c.before.before.before.before.before.before
 
 -- The count is laid out, and reading stands behind it.
 there : (c : tie.In-On-2)
-    → CountTaken most_modules (entry c).args.bytes.now first (entry c).args.numbers-1.now
-    c.way-1.given.0.0 (counting c).keep_count-way.new.1.1.1.0
-there c = counted most_modules (stands-first (entry c).requires.0) c.way-1.given.1 (counting c).keep_count-way.ensures
+    → CountTaken most_modules (entry c).args.bytes.now first (entry c).args.numbers.now
+    c.in-On.spot c.keep_count-way.new.1.1.1.0
+there c = counted most_modules (stands-first (entry c).requires.0) c.in-On.is c.keep_count-way.ensures
 
 returns : tie.Need-returns-in_default
-returns c = through-refused c.enum_told-1.given.1 c.before.before.before.before.keep_count-way.ensures
+returns c = through-refused c.in_default.is c.keep_count-way.ensures
 
 cast-count : tie.Need-overflow_cast-count
-cast-count c = let h = (there (read c)).small in omega (arith, c.last_kept-count.ensures)
+cast-count c = let h = (there c.before).small in omega (arith, c.last_kept-count.ensures)
 
 keep-modules-requires : tie.Need-keep_modules-requires
 keep-modules-requires c κs =
-    let count = c.before.before.before in
-    let p = read count in
-    let h = (there p).small in
-    let fit = (entry p).requires.1 in (
-      (there p).there.stands,
+    let h = (there c.before.before.before.before).small in
+    let fit = (entry c.before.before.before.before).pre.1 in (
+      (there c.before.before.before.before).there.stands,
       record {
-        in_numbers = omega (arith, fit.in_numbers, count.last_kept-count.ensures);
-        in_bytes = omega (arith, fit.in_bytes, count.last_kept-count.ensures);
+        in_numbers = omega (arith, fit.in_numbers, c.last_kept-count.ensures);
+        in_bytes = omega (arith, fit.in_bytes, c.last_kept-count.ensures);
       },
     )
 
 returns-2 : tie.Need-returns
 returns-2 c =
     let m = modules c in
-    let count = m.before.before.before.before in
-    through-modules (there (read count)) count.last_kept-count.ensures m.keep_modules.ensures
+    through-modules (there m.before.before.before.before.before.before.before) m.before.before.before.before.last-kept.ensures m.keep-modules.ensures
 
 pub keep_file_spec : {M : Type 1} → statement M
 keep_file_spec =
@@ -64,7 +58,7 @@ keep_file_spec =
     (λ c. search rules)
     (λ c. search rules)
     returns
-    (λ c κs. (there c.before.before).some)
+    (λ c κs. (there c).some)
     cast-count
     keep-modules-requires
     (λ c. search rules)

@@ -19,7 +19,7 @@ decreases-loop count bytes numbers₀ starts₀ offsets₀ spot₀ i₀ numbers 
 
 -- The function's start, from the loop's head.
 abbrev entry : tie.At-loop-i invariant-loop decreases-loop → tie.Start invariant-loop decreases-loop
-entry c = let known = c.before in known.before.before.before.before
+entry c = c.before.before.before.before.before
 
 -- The lists of places are as long as they came.
 starts_length : (c : tie.At-loop-i invariant-loop decreases-loop) → length c.loop-i.starts ≡ length (entry c).args.starts.now
@@ -29,7 +29,7 @@ offsets_length : (c : tie.At-loop-i invariant-loop decreases-loop) → length c.
 offsets_length c = passing_offsets c.loop-i.invariant (entry c).requires.1
 
 slice-write-starts : tie.Need-bounds-starts-i invariant-loop decreases-loop
-slice-write-starts c = fits_starts c.before.loop-i.invariant (entry c.before).requires.1 c.loop-i-test.true
+slice-write-starts c = fits_starts c.loop-i.invariant (entry c.before).pre.1 c.loop-i-test.true
 
 mul-starts : tie.Need-offset_bounds-starts-i invariant-loop decreases-loop
 mul-starts c =
@@ -38,7 +38,7 @@ mul-starts c =
     omega (arith, (entry c.before).good)
 
 slice-write-offsets : tie.Need-bounds-offsets-i invariant-loop decreases-loop
-slice-write-offsets c = fits_offsets c.before.loop-i.invariant (entry c.before).requires.1 c.loop-i-test.true
+slice-write-offsets c = fits_offsets c.loop-i.invariant (entry c.before).pre.1 c.loop-i-test.true
 
 mul-offsets : tie.Need-offset_bounds-offsets-i invariant-loop decreases-loop
 mul-offsets c =
@@ -52,25 +52,20 @@ turn c = c.before.before
 
 returns : tie.Need-returns-in_default invariant-loop decreases-loop
 returns c =
-    let called = c.before.before.before.before in
-    let t = turn called in
-    passing-refused t.before.loop-i.inv (entry t.before).requires.1 t.loop-i-test.taken c.enum_told-1.given.1
-    called.keep_module-way.ensures
+    passing-refused c.loop-i.inv (entry c.before.before.before.before.before.before).pre.1 c.loop-i-test.taken c.in_default.is
+    c.keep_module-way.ensures
 
 same-length-2 : tie.Need-shape_of-starts-in_default invariant-loop decreases-loop
-same-length-2 c = simp length-set (starts_length (turn c.before.before.before.before).before)
+same-length-2 c = simp length-set (starts_length c.before.before.before.before.before.before)
 
 same-length-3 : tie.Need-shape_of-offsets-in_default invariant-loop decreases-loop
-same-length-3 c = simp length-set (offsets_length (turn c.before.before.before.before).before)
+same-length-3 c = simp length-set (offsets_length c.before.before.before.before.before.before)
 
 loop-again : tie.Need-loop-i-preserved invariant-loop decreases-loop
 loop-again c =
-    let way = c.before in
-    let called = way.before.before.before.before in
-    let t = turn called in
-    let inv = t.before.loop-i.inv in
-    passing-next inv (entry t.before).requires.1 t.loop-i-test.taken
-    (reached sound_module inv.turning.stands way.way-1.given.1 called.keep_module-way.ensures)
+    let inv = c.loop-i.inv in
+    passing-next inv (entry c.before.before.before.before.before.before).pre.1 c.loop-i-test.taken
+    (reached sound_module inv.turning.stands c.in-On.is c.keep_module-way.ensures)
 
 pub keep_modules_spec : {M : Type 1} → statement M
 keep_modules_spec =
@@ -78,7 +73,7 @@ keep_modules_spec =
     (tie.spec
     invariant-loop
     decreases-loop
-    (λ c. passing-first c.before.before.before.before.requires.0)
+    (λ c. passing-first c.requires.0)
     mul-starts
     slice-write-starts
     mul-offsets
@@ -96,4 +91,4 @@ keep_modules_spec =
     (λ c. omega arith)
     (λ c. starts_length c.before)
     (λ c. offsets_length c.before)
-    (λ c. passing-last c.before.loop-i.invariant c.loop-i-test.false))
+    (λ c. passing-last c.loop-i.invariant c.loop-i-test.false))

@@ -11,24 +11,24 @@ use Rattle.read_file.proofs.read.Tie as tie
 -- The file is short enough: from there back to the function's start, from the call that reads its modules to there, and to the call from
 -- where it went on and where it was refused.
 abbrev begun : tie.Else-bytes-gt65535 → tie.Start
-begun c = let known = c.before in known.before.before.before.before
+begun c = c.before.before.before.before.before
 
 abbrev allowed : tie.After-keep_file → tie.Else-bytes-gt65535
 allowed c = c.before.before.before.before
 
 abbrev reading : tie.In-On-2 → tie.After-keep_file
-reading c = let lists = c.before.before.before.before in lists.before.before.before.before
+reading c = c.before.before.before.before.before.before.before
 
 abbrev refused : tie.In-Refused-2 → tie.After-keep_file
-refused c = let lists = c.before.before.before.before in lists.before.before.before.before
+refused c = c.before.before.before.before.before.before.before
 
 abbrev entry : tie.In-On-2 → tie.Start
 entry c = begun (allowed (reading c))
 
 short : (c : tie.In-On-2) → length (entry c).args.bytes.now ≤ most_bytes
-short c = (allowed (reading c)).if-bytes-gt65535.false
+short c = (allowed (reading c)).if1.false
 
-room : (c : tie.In-On-2) → length (entry c).args.bytes.now ≤ length (entry c).args.numbers-1.now
+room : (c : tie.In-On-2) → length (entry c).args.bytes.now ≤ length (entry c).args.numbers.now
 room c = let few = short c in omega (arith, (entry c).requires.numbers_fit)
 
 returns : tie.Need-returns-then-bytes-gt65535
@@ -36,26 +36,26 @@ returns c = decoded-long c.if-bytes-gt65535.true
 
 returns-2 : tie.Need-returns-then-spot-bytes
 returns-2 c =
-    let p : tie.In-On-2 = c.before.before.before in
-    decoded-more (short p) (reading p).keep_file.ensures (room p) p.spot-1.given.1 c.if-spot-bytes.true
+    let p : tie.In-On-2 = c.before.before in
+    decoded-more (short p) (reading p).keep-file.ensures (room p) p.spot.given.1 c.if-spot-bytes.true
 
 slice-read-t21 : tie.Need-bounds-numbers-0
 slice-read-t21 c =
-    let p : tie.In-On-2 = c.before.before.before.before in
-    some_number (short p) (reading p).keep_file.ensures (room p) p.spot-1.given.1
+    let p : tie.In-On-2 = c.before.before.before in
+    some_number (short p) (reading p).keep-file.ensures (room p) p.spot.given.1
 
 cast-t18 : tie.Need-overflow_cast-result
 cast-t18 c = omega (arith, c.slice_known-in-On-1.given 0)
 
 returns-3 : tie.Need-returns-in-Refused
 returns-3 c =
-    let file = refused c.before in
-    decoded-refused (allowed file).if-bytes-gt65535.left file.keep_file.ensures c.before.number-1.given.1
+    let file = refused c in
+    decoded-refused file.before.before.before.before.if1.left file.keep-file.ensures c.in-Refused.is
 
 returns-4 : tie.Need-returns-else-spot-bytes
 returns-4 c =
-    let p : tie.In-On-2 = c.before.before.before.before in
-    decoded-all (short p) (reading p).keep_file.ensures (room p) p.spot-1.given.1 c.before.if-spot-bytes.false
+    let p : tie.In-On-2 = c.before.before.before in
+    decoded-all (short p) (reading p).keep-file.ensures (room p) p.spot.given.1 c.if-spot-bytes.false
 
 pub read_spec : {M : Type 1} → statement M
 read_spec =

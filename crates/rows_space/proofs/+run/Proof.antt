@@ -51,31 +51,29 @@ pub +run_spec : {M : Type 1} → statement M
 +run_spec =
     close μ-run λ t.
     lts.spec (claims t) (given t) run.Post
-    (λ c κs. omega (arith, (start t c.before).requires.1.roomy, c.if-size-room.true))
+    (λ c κs. omega (arith, (start t c.before).pre.1.roomy, c.if1.true))
     (λ c κs.
-    let over = c.before.before in
-    let rows = (start t over.before).requires in
-    (omega (arith, rows.0, rows.1.roomy, over.if-size-room.true, c.before.larger.ensures), rows.1))
-    (λ c κs. let small = c.before in resized (start t small.before.before).requires.1 (omega (arith, small.if-size-le256.true, small.before.if-size-room.false)))
-    (λ c κs. let middle = c.before in resized (start t middle.before.before.before).requires.1 (omega (arith, middle.if-size-le1024.true, middle.before.before.if-size-room.false)))
-    (λ c κs. let large = c.before in resized (start t large.before.before.before.before).requires.1 (omega (arith, large.if-size-le8192.true, large.before.before.before.if-size-room.false)))
-    (λ c κs. let largest = c.before in (start t largest.before.before.before.before).requires.1)
+    let rows = (start t c.before.before.before).pre in
+    (omega (arith, rows.0, rows.1.roomy, c.before.before.if1.true, c.before.larger.ensures), rows.1))
+    (λ c κs. resized (start t c.before.before.before).pre.1 (omega (arith, c.before.if2.true, c.before.before.if1.false)))
+    (λ c κs. resized (start t c.before.before.before.before).pre.1 (omega (arith, c.before.if3.true, c.before.before.before.if1.false)))
+    (λ c κs. resized (start t c.before.before.before.before.before).pre.1 (omega (arith, c.before.if4.true, c.before.before.before.before.if1.false)))
+    (λ c κs. (start t c.before.before.before.before.before).pre.1)
     (λ c. c.before.before.run.auto.1.1.1.1.1.1.1.0)
     (λ c s. c.before.before.run.ensures s)
-    (λ c. c.before.before.in_256.kept.1.1.1.1.1.1.0)
+    (λ c. c.before.before.in-256.kept.1.1.1.1.1.1.0)
     (λ c s.
-    let done = c.before.before in
-    let small = done.before.before in
-    done.in_256.ensures (resized s (omega (arith, small.if-size-le256.true, small.before.if-size-room.false))))
-    (λ c. c.before.before.in_1024.kept.1.1.1.1.1.1.0)
+    let c.before = c.before.before.before.before in
+    c.before.before.in-256.ensures (resized s (omega (arith, c.before.if2.true, c.before.before.if1.false))))
+    (λ c. c.before.before.in-1024.kept.1.1.1.1.1.1.0)
     (λ c s.
-    let done = c.before.before in
-    let middle = done.before.before in
-    done.in_1024.ensures (resized s (omega (arith, middle.if-size-le1024.true, middle.before.before.if-size-room.false))))
-    (λ c. c.before.before.in_8192.kept.1.1.1.1.1.1.0)
+    let c.before.before = c.before.before in
+    let c.before = c.before.before.before.before in
+    c.before.before.in-1024.ensures (resized s (omega (arith, c.before.if3.true, c.before.before.before.if1.false))))
+    (λ c. c.before.before.in-8192.kept.1.1.1.1.1.1.0)
     (λ c s.
-    let done = c.before.before in
-    let large = done.before.before in
-    done.in_8192.ensures (resized s (omega (arith, large.if-size-le8192.true, large.before.before.before.if-size-room.false))))
-    (λ c. c.before.before.in_65536.kept.1.1.1.1.1.1.0)
-    (λ c s. c.before.before.in_65536.ensures s)
+    let c.before.before = c.before.before in
+    let c.before = c.before.before.before.before in
+    c.before.before.in-8192.ensures (resized s (omega (arith, c.before.if4.true, c.before.before.before.before.if1.false))))
+    (λ c. c.before.before.in-65536.kept.1.1.1.1.1.1.0)
+    (λ c s. c.before.before.in-65536.ensures s)

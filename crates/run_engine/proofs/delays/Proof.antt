@@ -18,19 +18,16 @@ use Rattle.run_engine.proofs.delays.Tie as tie
 
 -- Back from each step to the one before it, and to the function's entry.
 abbrev began : tie.After-module_at-header → tie.Start
-began c = let lists = c.before.before.before in lists.before.before.before.before
-
-abbrev placed : tie.After-clear → tie.After-module_at-header
-placed c = c.before.before
+began c = c.before.before.before.before.before.before.before
 
 abbrev zeroed : tie.After-clear-2 → tie.After-clear
 zeroed c = c.before.before.before.before
 
 abbrev both-zeroed : tie.After-run_module → tie.After-clear-2
-both-zeroed c = let lent = c.before.before in lent.before.before.before
+both-zeroed c = c.before.before.before.before.before
 
 abbrev ran : tie.After-latest-latest → tie.After-run_module
-ran c = let lent = c.before.before.before in lent.before.before.before.before
+ran c = c.before.before.before.before.before.before.before
 
 -- The header is that of any module that can be called in either list.
 header :
@@ -47,65 +44,53 @@ clear-requires c κs =
 
 clear-requires-2 : tie.Need-clear-requires-2
 clear-requires-2 c κs =
-    let at = placed c.before.before.before in
-    let e = (began at).requires.1 in
-    omega (arith, (header at e).inputs, answers.inputs-fit e, answers.needed-given e, e.enough)
+    let e = (began c.before.before.before.before.before).pre.1 in
+    omega (arith, (header c.before.before.before.before.before e).inputs, answers.inputs-fit e, answers.needed-given e, e.enough)
 
 run-module-requires : tie.Need-run_module-requires
 run-module-requires c κs =
-    let both = c.before.before.before.before in
-    let one = zeroed both in
-    let at = placed one in
-    let given = (began at).requires in (
-      answers.runnable given.0 (answers.zeros-fed given.0 (header at given.0) one.clear.ensures),
-      answers.runnable given.1 (answers.zeros-fed given.1 (header at given.1) both.clear-2.ensures),
+    let given = (began c.before.before.before.before.before.before.before.before.before.before).pre in (
+      answers.runnable given.0 (answers.zeros-fed given.0 (header c.before.before.before.before.before.before.before.before.before.before given.0) c.clear.ensures),
+      answers.runnable given.1 (answers.zeros-fed given.1 (header c.before.before.before.before.before.before.before.before.before.before given.1) c.clear-2.ensures),
     )
 
 latest-requires : tie.Need-latest-latest-requires
 latest-requires c κs =
-    let lent = c.before.before in
-    let run = lent.before.before.before.before in
-    let both = both-zeroed run in
-    let one = zeroed both in
-    let at = placed one in
-    let given = (began at).requires in
-    let fed = answers.zeros-fed given.0 (header at given.0) one.clear.ensures in
-    let fed' = answers.zeros-fed given.1 (header at given.1) both.clear-2.ensures in (
-      answers.outputs-readable given.0 fed (times_work one_each) (run.run_module.ensures.0 (answers.runnable given.0 fed))
-          (header at given.0) run.run_module.auto.1.1.1.1.1.0,
-      answers.outputs-readable given.1 fed' (times_work (delay_in (began at).args.family.delays))
-          (run.run_module.ensures.1 (answers.runnable given.1 fed')) (header at given.1) run.run_module.auto.1.1.1.1.1.1.0,
+    let both = both-zeroed c.before.before.before.before in
+    let given = (began both.before.before.before.before.before.before).pre in
+    let fed = answers.zeros-fed given.0 (header both.before.before.before.before.before.before given.0) both.before.before.before.before.clear.ensures in
+    let fed' = answers.zeros-fed given.1 (header both.before.before.before.before.before.before given.1) both.clear2.ensures in (
+      answers.outputs-readable given.0 fed (times_work one_each) (c.run_module.ensures.0 (answers.runnable given.0 fed))
+          (header both.before.before.before.before.before.before given.0) c.run_module.auto.1.1.1.1.1.0,
+      answers.outputs-readable given.1 fed' (times_work (delay_in (began both.before.before.before.before.before.before).args.family.delays))
+          (c.run_module.ensures.1 (answers.runnable given.1 fed')) (header both.before.before.before.before.before.before given.1) c.run_module.auto.1.1.1.1.1.1.0,
     )
 
 clear-requires-3 : tie.Need-clear-requires-3
 clear-requires-3 c κs =
     let run = ran c.before in
     let one = zeroed (both-zeroed run) in
-    let e = (began (placed one)).requires.0 in
-    let fed = answers.zeros-fed e (header (placed one) e) one.clear.ensures in
-    omega (arith, run.run_module.kept.1.1.1.1.1.0, answers.fed-size e fed, e.enough)
+    let e = (began one.before.before).requires.0 in
+    let fed = answers.zeros-fed e (header one.before.before e) one.clear.ensures in
+    omega (arith, run.run-module.kept.1.1.1.1.1.0, answers.fed-size e fed, e.enough)
 
 returns : tie.Need-returns
 returns c =
-    let cleared = c.before.before in
-    let found = cleared.before.before in
-    let run = ran found in
+    let run = ran c.before.before.before.before in
     let both = both-zeroed run in
-    let one = zeroed both in
-    let at = placed one in
-    let e₀ = (began at).requires.0 in
-    let fed₀ = answers.zeros-fed e₀ (header at e₀) one.clear.ensures in (
+    let e₀ = (began both.before.before.before.before.before.before).pre.0 in
+    let fed₀ = answers.zeros-fed e₀ (header both.before.before.before.before.before.before e₀) both.before.before.before.before.clear.ensures in (
       λ e.
-          let fed = answers.zeros-fed e (header at e) one.clear.ensures in
-          found.latest-latest.ensures.0
-          ∙ ap largest (answers.outputs-read e fed (times_work one_each) (run.run_module.ensures.0 (answers.runnable e fed)) (header at e)),
+          let fed = answers.zeros-fed e (header both.before.before.before.before.before.before e) both.before.before.before.before.clear.ensures in
+          c.latest-latest.ensures.0
+          ∙ ap largest (answers.outputs-read e fed (times_work one_each) (run.run-module.ensures.0 (answers.runnable e fed)) (header both.before.before.before.before.before.before e)),
       (
         λ e.
-            let fed = answers.zeros-fed e (header at e) both.clear-2.ensures in
-            found.latest-latest.ensures.1
+            let fed = answers.zeros-fed e (header both.before.before.before.before.before.before e) both.clear2.ensures in
+            c.latest-latest.ensures.1
             ∙ ap largest
-            (answers.outputs-read e fed (times_work (delay_in (began at).args.family.delays)) (run.run_module.ensures.1 (answers.runnable e fed)) (header at e)),
-        answers.leaves-clean e₀ fed₀ (times_work one_each) (run.run_module.ensures.0 (answers.runnable e₀ fed₀)) cleared.clear-3.ensures,
+            (answers.outputs-read e fed (times_work (delay_in (began both.before.before.before.before.before.before).args.family.delays)) (run.run-module.ensures.1 (answers.runnable e fed)) (header both.before.before.before.before.before.before e)),
+        answers.leaves-clean e₀ fed₀ (times_work one_each) (run.run-module.ensures.0 (answers.runnable e₀ fed₀)) c.clear-3.ensures,
       ),
     )
 
@@ -116,8 +101,8 @@ delays_spec =
     (λ c.
     let start = c.before.before.before.before.before in
     omega (arith, in_starts start.requires.0.scene, start.well-formed))
-    (λ c. let lists = c.before.before in in_starts lists.before.before.before.before.requires.0.scene)
-    (λ c κs. let lists = c.before.before in module_there lists.before.before.before.before.requires.0.scene)
+    (λ c. in_starts c.requires.0.scene)
+    (λ c κs. module_there c.requires.0.scene)
     clear-requires
     clear-requires-2
     run-module-requires

@@ -16,27 +16,21 @@ use Rattle.run_engine.proofs.evaluate.Tie as tie
 
 -- Where the function began, from where the header is read.
 abbrev began : tie.After-module_at-header → tie.Start
-began c = let lists = c.before.before.before.before in lists.before.before.before.before
+began c = c.before.before.before.before.before.before.before.before
 
 mul-module-at : tie.Need-offset_bounds-starts-k
 mul-module-at c =
-    let lists = c.before.before in
-    let start = lists.before.before.before.before in
-    let e = start.requires.callable in
-    omega (arith, in_starts e.scene, start.well-formed)
+    let e = c.requires.callable in
+    omega (arith, in_starts e.scene, c.well-formed)
 
 shared-slice-read-module-at : tie.Need-bounds-starts-k
 shared-slice-read-module-at c =
-    let lists = c.before.before.before in
-    let start = lists.before.before.before.before in
-    let e = start.requires.callable in
+    let e = c.requires.callable in
     in_starts e.scene
 
 module-at-requires : tie.Need-module_at-header-requires
 module-at-requires c κs =
-    let lists = c.before.before.before in
-    let start = lists.before.before.before.before in
-    let e = start.requires.callable in
+    let e = c.requires.callable in
     module_there e.scene
 
 load-requires : tie.Need-load-requires
@@ -46,25 +40,21 @@ load-requires c κs =
 
 run-module-requires : tie.Need-run_module-requires
 run-module-requires c κs =
-    let loaded = c.before.before.before in
-    let start = began loaded.before.before in
-    let e = start.requires in
-    answers.runnable e.callable (answers.values-fed e.callable start.args.values.now e.fed loaded.load.ensures)
+    let start = began c.before.before.before.before.before in
+    let e = start.pre in
+    answers.runnable e.callable (answers.values-fed e.callable start.args.values.now e.fed c.load.ensures)
 
 give-requires : tie.Need-give-requires
 give-requires c κs =
-    let ran = c.before.before.before.before in
-    let loaded = ran.before.before.before.before in
-    let placed = loaded.before.before in
-    let start = began placed in
+    let start = began c.before.before.before.before.before.before.before.before.before in
     let a = start.args in
-    let e = start.requires in
+    let e = start.pre in
     let call = e.callable in
-    let fed = answers.values-fed call a.values.now e.fed loaded.load.ensures in
-    let run = ran.run_module.ensures (answers.runnable call fed) in
-    let header = placed.module_at-header.ensures call.scene.m (module_stands call.scene) in
+    let fed = answers.values-fed call a.values.now e.fed c.load.ensures in
+    let run = c.run_module.ensures (answers.runnable call fed) in
+    let header = c.module_at-header.ensures call.scene.m (module_stands call.scene) in
     record {
-      readable = answers.outputs-readable call fed value_work run header ran.run_module.auto.1.1.1.1.0;
+      readable = answers.outputs-readable call fed value_work run header c.run_module.auto.1.1.1.1.0;
       bytes =
           subst Bytes (sym (answers.outputs-read call fed value_work run header))
           (answers.answers-bytes call.rs a.k (entries-bytes a.values.now));
@@ -73,22 +63,16 @@ give-requires c κs =
 
 returns : tie.Need-returns
 returns c e =
-    let cleared = c.before.before in
-    let given = cleared.before.before.before.before in
-    let lent = given.before.before in
-    let ran = lent.before.before.before in
-    let loaded = ran.before.before.before.before in
-    let placed = loaded.before.before in
-    let a = (began placed).args in
+    let a = (began c.before.before.before.before.before.before.before.before.before.before.before.before.before.before.before.before).args in
     let call = e.callable in
-    let fed = answers.values-fed call a.values.now e.fed loaded.load.ensures in
-    let run = ran.run_module.ensures (answers.runnable call fed) in
-    let header = placed.module_at-header.ensures call.scene.m (module_stands call.scene) in
+    let fed = answers.values-fed call a.values.now e.fed c.load.ensures in
+    let run = c.run_module.ensures (answers.runnable call fed) in
+    let header = c.module_at-header.ensures call.scene.m (module_stands call.scene) in
     record {
       outputs =
-          given.give.ensures
-          ∙ ap (λ (l : List ℕ). l ++ drop (length l) a.out-1.now) (answers.outputs-read call fed value_work run header);
-      clean = answers.leaves-clean call fed value_work run cleared.clear.ensures;
+          c.give.ensures
+          ∙ ap (λ (l : List ℕ). l ++ drop (length l) a.out.now) (answers.outputs-read call fed value_work run header);
+      clean = answers.leaves-clean call fed value_work run c.clear.ensures;
     }
 
 pub evaluate_spec : {M : Type 1} → statement M

@@ -10,7 +10,7 @@ use Rattle.image.specs.Scenes.{in_starts, module_stands, module_there}
 use Rattle.image.specs.Walking.{occurrence-there, turn}
 use Rattle.tally_engine.proofs.Counting.{none-counted, at-gate, tallying, at_module, all-counted}
 use Rattle.tally_engine.proofs.KeptRows.{filled-inside, more-kept}
-use Rattle.tally_engine.proofs.tally_once-inner.Reads as reads
+use Rattle.tally_engine.proofs.tally_once.Reads as reads
 use Rattle.tally_engine.proofs.+tally_once.Lts-tally_once as lts
 use Rattle.tally_engine.proofs.+tally_once.{statement}
 use Rattle.tally_engine.proofs.+tally_once.Tie.{close}
@@ -22,29 +22,29 @@ module _ (t : ℕ) where
   row-at-requires c κs =
       let looked = c.before.before in
       let began = asked t looked in
-      omega (arith, filled-inside began.args.filled-1.now began.args.k (sym looked.is_filled.ensures ∙ c.before.if-is_filled.true), began.requires.1.kept.long)
+      omega (arith, filled-inside began.args.filled.now began.args.k (sym looked.is-filled.ensures ∙ c.before.if1.true), began.pre.1.kept.long)
 
   returns-row : lts.Need-returns-then-is_filled (claims t) (Given t) reads.Post Inv-loop μ-loop
   returns-row c s =
       record {
-        is = c.row_at.ensures ∙ s.kept.row _ (sym c.before.before.before.is_filled.ensures ∙ c.before.before.if-is_filled.true);
+        is = c.row_at.ensures ∙ s.kept.row _ (sym c.before.before.before.is-filled.ensures ∙ c.before.before.if1.true);
         kept = s.kept;
       }
 
   add_at : lts.Need-overflow_add-at (claims t) (Given t) reads.Post Inv-loop μ-loop
   add_at c =
       let began = asked t c.before.before.before.before in
-      omega (arith, (c.before.module_at-header.ensures _ (module_stands began.requires.1.countable.scene)).body.within, began.good)
+      omega (arith, (c.before.module-at.ensures _ (module_stands began.pre.1.countable.scene)).body.within, began.good)
 
   loop-holds : lts.Need-loop-left-init (claims t) (Given t) reads.Post Inv-loop μ-loop
   loop-holds c = (
     refl,
     refl,
-    λ s. (none-counted s.countable (c.before.before.module_at-header.ensures _ (module_stands s.countable.scene)) c.nothing-tally.ensures, s.kept),
+    λ s. (none-counted s.countable (c.before.before.module-at.ensures _ (module_stands s.countable.scene)) c.nothing.ensures, s.kept),
   )
 
   occurrence-at-requires : lts.Need-occurrence_at-o-requires (claims t) (Given t) reads.Post Inv-loop μ-loop
-  occurrence-at-requires c κs = occurrence-there c.loop-left-test.true (c.before.loop-left.invariant.2 (start t c.before).requires.1).0.ahead
+  occurrence-at-requires c κs = occurrence-there c.loop-test.true (c.before.loop.invariant.2 (start t c.before).pre.1).0.ahead
 
   -- A gate counts for itself.
   with-gate-requires : lts.Need-with_gate-tally-requires (claims t) (Given t) reads.Post Inv-loop μ-loop
@@ -52,8 +52,8 @@ module _ (t : ℕ) where
       let read = c.before.before.before.before in
       let loop = read.before.before in
       let s = (start t loop).requires.1 in
-      let sofar = (loop.loop-left.invariant.2 s).0 in
-      let gate = at-gate s.countable sofar (turn read.before.loop-left-test.true sofar.ahead read.occurrence_at-o.ensures) (is-gate t c.before) in
+      let sofar = (loop.loop.invariant.2 s).0 in
+      let gate = at-gate s.countable sofar (turn read.before.loop-test.true sofar.ahead read.occurrence-at.ensures) (is-gate t c.before) in
       (gate.below, gate.step.addable)
 
   again-at-gate : lts.Need-loop-left-preserved-in-Gate (claims t) (Given t) reads.Post Inv-loop μ-loop
@@ -61,12 +61,12 @@ module _ (t : ℕ) where
       let told = c.before.before in
       let read = told.before.before.before in
       let loop = read.before.before in (
-        loop.loop-left.invariant.0,
-        loop.loop-left.invariant.1,
+        loop.loop.invariant.0,
+        loop.loop.invariant.1,
         λ s.
-            let sofar = loop.loop-left.invariant.2 s in
-            let now = turn read.before.loop-left-test.true sofar.0.ahead read.occurrence_at-o.ensures in
-            ((at-gate s.countable sofar.0 now (is-gate t told)).step.next c.with_gate-tally.ensures, sofar.1),
+            let sofar = loop.loop.invariant.2 s in
+            let now = turn read.before.loop-test.true sofar.0.ahead read.occurrence-at.ensures in
+            ((at-gate s.countable sofar.0 now (is-gate t told)).step.next c.with-gate.ensures, sofar.1),
       )
 
   -- A module adds its tally.
@@ -76,8 +76,8 @@ module _ (t : ℕ) where
       let read = told.before.before.before in
       let loop = read.before.before in
       let s = (start t loop).requires.1 in
-      let sofar = loop.loop-left.invariant.2 s in
-      let now = turn read.before.loop-left-test.true sofar.0.ahead read.occurrence_at-o.ensures in
+      let sofar = loop.loop.invariant.2 s in
+      let now = turn read.before.loop-test.true sofar.0.ahead read.occurrence-at.ensures in
       let inner = at_module s.countable sofar.0 now (is_module t told) in
       (omega (arith, (start t loop).requires.0, inner.after, inner.inside), tallying s.countable sofar.0 now (is_module t told) sofar.1)
 
@@ -88,9 +88,9 @@ module _ (t : ℕ) where
       let read = told.before.before.before in
       let loop = read.before.before in
       let s = (start t loop).requires.1 in
-      let sofar = loop.loop-left.invariant.2 s in
-      let now = turn read.before.loop-left-test.true sofar.0.ahead read.occurrence_at-o.ensures in
-      let done = called.tally_once-inner.ensures (tallying s.countable sofar.0 now (is_module t told) sofar.1) in
+      let sofar = loop.loop.invariant.2 s in
+      let now = turn read.before.loop-test.true sofar.0.ahead read.occurrence-at.ensures in
+      let done = called.tally-once.ensures (tallying s.countable sofar.0 now (is_module t told) sofar.1) in
       ((at_module s.countable sofar.0 now (is_module t told)).step done.is).addable
 
   again-at-module : lts.Need-loop-left-preserved (claims t) (Given t) reads.Post Inv-loop μ-loop
@@ -100,27 +100,27 @@ module _ (t : ℕ) where
       let told = called.before.before.before.before in
       let read = told.before.before.before in
       let loop = read.before.before in (
-        called.tally_once-inner.auto.1.1.1.0 ∙ loop.loop-left.invariant.0,
-        called.tally_once-inner.auto.1.1.1.1.0 ∙ loop.loop-left.invariant.1,
+        called.tally-once.auto.1.1.1.0 ∙ loop.loop.invariant.0,
+        called.tally-once.auto.1.1.1.1.0 ∙ loop.loop.invariant.1,
         λ s.
-            let sofar = loop.loop-left.invariant.2 s in
-            let now = turn read.before.loop-left-test.true sofar.0.ahead read.occurrence_at-o.ensures in
-            let done = called.tally_once-inner.ensures (tallying s.countable sofar.0 now (is_module t told) sofar.1) in
-            (((at_module s.countable sofar.0 now (is_module t told)).step done.is).next c.with_tally-tally.ensures, done.kept),
+            let sofar = loop.loop.invariant.2 s in
+            let now = turn read.before.loop-test.true sofar.0.ahead read.occurrence-at.ensures in
+            let done = called.tally-once.ensures (tallying s.countable sofar.0 now (is_module t told) sofar.1) in
+            (((at_module s.countable sofar.0 now (is_module t told)).step done.is).next c.with-tally.ensures, done.kept),
       )
 
   -- What was counted fills its row.
   fill-row-requires : lts.Need-fill_row-requires (claims t) (Given t) reads.Post Inv-loop μ-loop
   fill-row-requires c κs =
       let loop = c.before.before.before in
-      (loop.loop-left.invariant.2 (start t loop).requires.1).1.long
+      (loop.loop.invariant.2 (start t loop).requires.1).1.long
 
   returns : lts.Need-returns (claims t) (Given t) reads.Post Inv-loop μ-loop
   returns c s =
       let filled = c.before.before.before.before in
-      let sofar = filled.before.before.before.before.loop-left.invariant.2 s in
+      let sofar = filled.before.before.before.before.loop.invariant.2 s in
       let all = all-counted s.countable (omega arith) sofar.0 in
-      let written = filled.fill_row in
+      let written = filled.fill-row in
       record { is = all; kept = more-kept sofar.1 written.ensures all written.auto.1.1.0 written.auto.1.1.1.0 }
 
 pub +tally_once_spec : {M : Type 1} → statement M
@@ -133,14 +133,14 @@ pub +tally_once_spec : {M : Type 1} → statement M
     (λ c. refl)
     (λ c. refl)
     (returns-row t)
-    (λ c. omega (arith, in_starts (asked t c.before).requires.1.countable.scene))
-    (λ c. in_starts (asked t c.before.before).requires.1.countable.scene)
-    (λ c κs. module_there (asked t c.before.before).requires.1.countable.scene)
+    (λ c. omega (arith, in_starts (asked t c.before).pre.1.countable.scene))
+    (λ c. in_starts (asked t c.before.before).pre.1.countable.scene)
+    (λ c κs. module_there (asked t c.before.before).pre.1.countable.scene)
     (add_at t)
     (λ c κs. tt)
     (loop-holds t)
     (occurrence-at-requires t)
-    (λ c. c.before.loop-left-test.true)
+    (λ c. c.before.loop-test.true)
     (λ c κs. tt)
     (λ c. search rules)
     (λ c. search rules)
@@ -149,12 +149,12 @@ pub +tally_once_spec : {M : Type 1} → statement M
     (again-at-gate t)
     (λ c. search rules)
     (λ c. search rules)
-    (λ c. module_of-kind _ (sym c.before.before.before.kind_of.ensures ∙ c.before.enum_told-in-Module-1.given.1))
+    (λ c. module_of-kind _ (sym c.before.before.before.kind-of.ensures ∙ c.before.enum-told2.given.1))
     (tally-once-requires t)
     (with-tally-requires t)
     (λ c. omega arith)
     (again-at-module t)
     (fill-row-requires t)
-    (λ c. let filled = c.before.before.before.before in filled.fill_row.auto.1.1.0 ∙ filled.before.before.before.before.loop-left.invariant.0)
-    (λ c. let filled = c.before.before.before.before in filled.fill_row.auto.1.1.1.0 ∙ filled.before.before.before.before.loop-left.invariant.1)
+    (λ c. c.before.before.before.before.fill-row.auto.1.1.0 ∙ c.before.before.before.before.before.before.before.before.loop.invariant.0)
+    (λ c. let c.before.before.before.before = c.before.before.before.before in c.before.before.before.before.fill-row.auto.1.1.1.0 ∙ c.before.before.before.before.before.before.before.before.loop.invariant.1)
     (returns t))

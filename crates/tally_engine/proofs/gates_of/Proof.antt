@@ -36,18 +36,16 @@ long c = search rules
 -- The count that is added, and those ahead of it.
 split :
     (c : tie.After-gates-1 invariant-loop decreases-loop)
-    → let counts = c.before.before.before.args.t1.counts in
-    let head = c.before.before.loop-kind in
-    head.gates-1 + (get_or counts head.kind 0 + total (drop (head.kind + 1) counts)) ≡ total counts
+    → let counts = c.args.t1.counts in
+    let head = c.loop-kind in
+    head.gates + (get_or counts head.kind 0 + total (drop (head.kind + 1) counts)) ≡ total counts
 split c =
-    let head = c.before.before.loop-kind in
-    let start = c.before.before.before in
-    omega (arith, head.invariant.1, from_one start.args.t1.counts head.kind (omega (arith, long start)))
+    let head = c.loop-kind in
+    omega (arith, head.invariant.1, from_one c.args.t1.counts head.kind (omega (arith, long c.before.before.before)))
 
 returns : tie.Need-returns invariant-loop decreases-loop
 returns c =
-    let start = c.before.before in
-    omega (arith, c.before.loop-kind.invariant.1, past_all start.args.t1.counts c.before.loop-kind.kind (omega (arith, long start)))
+    omega (arith, c.loop-kind.invariant.1, past_all c.args.t1.counts c.loop-kind.kind (omega (arith, long c.before.before)))
 
 pub gates_of_spec : {M : Type 1} → statement M
 gates_of_spec =
@@ -58,7 +56,7 @@ gates_of_spec =
     (λ c. (omega arith, omega arith))
     (λ c. search rules)
     (λ c. search rules)
-    (λ c. omega (arith, split c, c.before.before.before.requires))
+    (λ c. omega (arith, split c, c.requires))
     (λ c. omega arith)
     (λ c. omega arith)
     (λ c. (omega arith, omega (arith, split c)))

@@ -5,10 +5,9 @@ use borrow.Author.Rules.{rules}
 use Rattle.test_reading.proofs.main.Statement.{statement}
 use Rattle.test_reading.proofs.main.Tie as tie
 
-slice-aggregate-read-7 : tie.Need-slice-aggregate-read-7
+slice-aggregate-read-7 : tie.Need-??slice-aggregate-read-7
 slice-aggregate-read-7 c =
-    let lists = c.before.before.before in
-    sym (length-take-le 65535 lists.before.before.put_file-end.new.0 (search rules))
+    sym (length-take-le 65535 c.before.before.before.before.before.put-file.new.0 (search rules))
 
 pub main_spec : {M : Type 1} → statement M
 main_spec =

@@ -14,7 +14,7 @@ abbrev decreases-loop : tie.decreases-loop-i
 decreases-loop values i₀ i-end i = i-end - i
 
 cast-print-decimal : tie.Need-overflow_cast-values invariant-loop decreases-loop
-cast-print-decimal c = omega (arith, c.shared_slice_known-in-loop-i-1.given c.before.before.loop-i.i)
+cast-print-decimal c = omega (arith, c.shared_slice_known-in-loop-i-1.given c.loop-i.i)
 
 pub show_word_spec : {M : Type 1} → statement M
 show_word_spec =

@@ -10,11 +10,11 @@ use Rattle.text_desk.proofs.raise.Reads as raise-reads
 
 -- src/lib.rt:48:13
 raise-requires : tie.Need-raise-requires
-raise-requires c κs = first_raisable _ _ _ c.before.before.before.requires c.before.in-2.keys2
+raise-requires c κs = first_raisable _ _ _ c.requires c.in-2.is
 
 -- src/lib.rt:52:13
 raise-requires-2 : tie.Need-raise-requires-in-9
-raise-requires-2 c κs = body_raisable _ _ _ c.before.before.before.requires c.before.in-9.keys3
+raise-requires-2 c κs = body_raisable _ _ _ c.requires c.in-9.is
 
 -- src/lib.rt:56:13
 mul-numbers : tie.Need-offset_bounds-numbers-at
@@ -42,7 +42,7 @@ add-t15 c = search rules
 
 -- src/lib.rt:39:1
 returns : tie.Need-returns-in-4
-returns c = opens_none _ _ _ c.before.before.requires c.in-4.keys1
+returns c = opens_none _ _ _ c.requires c.in-4.is
 
 -- src/lib.rt:39:1
 same_length : tie.Need-shape_of-numbers-in-2
@@ -50,7 +50,7 @@ same_length c = search rules
 
 -- src/lib.rt:39:1
 returns-2 : tie.Need-returns-in-2
-returns-2 c = opens_module _ _ _ c.before.before.before.before.before.before.requires c.before.before.before.before.in-2.keys2 _ c.before.before.raise.ensures
+returns-2 c = opens_module _ _ _ c.requires c.in-2.is _ c.raise.ensures
 
 -- src/lib.rt:39:1
 same-length-2 : tie.Need-shape_of-numbers-in-9
@@ -58,7 +58,7 @@ same-length-2 c = search rules
 
 -- src/lib.rt:39:1
 returns-3 : tie.Need-returns-in-9
-returns-3 c = opens_occurrence _ _ _ c.before.before.before.before.before.before.requires c.before.before.before.before.in-9.keys3 _ c.before.before.raise-in-9.ensures
+returns-3 c = opens_occurrence _ _ _ c.requires c.in-9.is _ c.raise-in-9.ensures
 
 -- src/lib.rt:39:1
 same-length-3 : tie.Need-shape_of-numbers-in-8
@@ -66,7 +66,7 @@ same-length-3 c = search rules
 
 -- src/lib.rt:39:1
 returns-4 : tie.Need-returns-in-8
-returns-4 c = opens_body _ _ _ c.before.before.requires c.in-8.keys4
+returns-4 c = opens_body _ _ _ c.requires c.in-8.is
 
 -- src/lib.rt:39:1
 same-length-4 : tie.Need-shape_of-numbers-in_default
@@ -74,7 +74,7 @@ same-length-4 c = search rules
 
 -- src/lib.rt:39:1
 returns-5 : tie.Need-returns-in_default
-returns-5 c = opens_list _ _ _ c.before.before.requires (λ e. c.in_default.rest.0.0.0.1 (inl e)) (λ e. c.in_default.rest.0.0.0.1 (inr e)) c.in_default.rest.0.0.1 c.in_default.rest.0.1 c.in_default.rest.1
+returns-5 c = opens_list _ _ _ c.requires (λ e. c.in_default.in_default-own.rest.0.0.0.1 (inl e)) (λ e. c.in_default.in_default-own.rest.0.0.0.1 (inr e)) c.in_default.in_default-own.rest.0.0.1 c.in_default.in_default-own.rest.0.1 c.in_default.in_default-own.rest.1
 
 pub open_spec : {M : Type 1} → statement M
 open_spec =

@@ -29,7 +29,7 @@ same_length c = search rules
 
 -- src/lib.rt:90:1
 returns : tie.Need-returns
-returns c = puts_net _ _ _ _ c.before.before.raise.ensures c.before.before.before.before.before.requires
+returns c = puts_net _ _ _ _ c.raise.ensures c.requires
 
 pub put_net_spec : {M : Type 1} → statement M
 put_net_spec =

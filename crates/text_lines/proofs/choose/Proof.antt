@@ -6,7 +6,7 @@ use Rattle.text_lines.proofs.choose.Statement.{statement}
 use Rattle.text_lines.proofs.choose.Tie as tie
 use Rattle.text_lines.proofs.choose.Reads as reads
 use Rattle.text_lines.proofs.choose.Lts as lts
-use Rattle.text_lines.proofs.kept-indent.Reads as kept-reads
+use Rattle.text_lines.proofs.kept.Reads as kept-reads
 
 -- src/lib.rt:92:9
 kept-requires : tie.Need-kept-indent-requires
@@ -14,7 +14,7 @@ kept-requires c κs = search rules
 
 -- src/lib.rt:93:30
 sub-from : tie.Need-overflow_sub-from
-sub-from c = let few = indent-within c.before.before.args.line.left in omega (arith, c.before.kept-indent.ensures)
+sub-from c = let few = indent-within c.args.line.left in omega (arith, c.kept-indent.ensures)
 
 -- src/lib.rt:93:16
 add-from : tie.Need-overflow_add-from
@@ -30,11 +30,11 @@ add-t6 c = search rules
 
 -- src/lib.rt:95:9
 returns : tie.Need-returns-then-line-from-gt72
-returns c = let k = c.before.before.before.before in shows _ _ _ _ k.kept-indent.ensures refl k.before.requires (omega arith)
+returns c = shows _ _ _ _ c.kept-indent.ensures refl c.requires (omega arith)
 
 -- src/lib.rt:88:1
 returns-2 : tie.Need-returns
-returns-2 c = let k = c.before.before.before.before in shows _ _ _ _ k.kept-indent.ensures refl k.before.requires (omega (arith, indent-within k.before.args.line.left, k.kept-indent.ensures, k.before.requires))
+returns-2 c = shows _ _ _ _ c.kept-indent.ensures refl c.requires (omega (arith, indent-within c.args.line.left, c.kept-indent.ensures, c.requires))
 
 pub choose_spec : {M : Type 1} → statement M
 choose_spec = tie.close (tie.spec kept-requires sub-from add-from sub-if1 add-t6 returns returns-2)

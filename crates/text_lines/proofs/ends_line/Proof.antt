@@ -20,7 +20,7 @@ shared-slice-read-if2 c = search rules
 
 -- src/lib.rt:16:9
 returns-2 : tie.Need-returns-then-text-i-ne13
-returns-2 c = other_not _ _ c.before.before.if-text-i-eq10.false c.if-text-i-ne13.true
+returns-2 c = other_not _ _ c.if-text-i-eq10.false c.if-text-i-ne13.true
 
 -- src/lib.rt:18:16
 add-next : tie.Need-overflow_add-next
@@ -28,7 +28,7 @@ add-next c = search rules
 
 -- src/lib.rt:20:9
 returns-3 : tie.Need-returns-then-next-text
-returns-3 c = return_last _ _ c.before.if-text-i-ne13.false (omega arith)
+returns-3 c = return_last _ _ c.if-text-i-ne13.false (omega arith)
 
 -- src/lib.rt:22:5
 shared-slice-read-result : tie.Need-bounds-text-next
@@ -36,7 +36,7 @@ shared-slice-read-result c = search rules
 
 -- src/lib.rt:8:1
 returns-4 : tie.Need-returns
-returns-4 c = return_next _ _ c.before.before.if-text-i-ne13.false
+returns-4 c = return_next _ _ c.if-text-i-ne13.false
 
 pub ends_line_spec : {M : Type 1} → statement M
 ends_line_spec =

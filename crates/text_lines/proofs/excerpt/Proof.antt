@@ -4,7 +4,7 @@ use Rattle.text_lines.proofs.excerpt.Statement.{statement}
 use Rattle.text_lines.proofs.excerpt.Tie as tie
 use Rattle.text_lines.proofs.excerpt.Reads as reads
 use Rattle.text_lines.proofs.excerpt.Lts as lts
-use Rattle.text_lines.proofs.choose-part.Reads as choose-reads
+use Rattle.text_lines.proofs.choose.Reads as choose-reads
 use Rattle.text_lines.proofs.line_of.Reads as line-of-reads
 
 -- src/lib.rt:127:23
@@ -29,7 +29,7 @@ part-result-end c = search rules
 
 -- src/lib.rt:124:1
 returns : tie.Need-returns
-returns c = excerpt_there _ _ _ c.before.choose-part.result-1 c.before.before.Line-of.ensures.there c.before.choose-part.ensures
+returns c = excerpt_there _ _ _ c.choose-part.result c.line_of.ensures.there c.choose-part.ensures
 
 pub excerpt_spec : {M : Type 1} → statement M
 excerpt_spec =

@@ -18,7 +18,7 @@ choose-requires c κs = search rules
 
 -- src/lib.rt:117:1
 returns : tie.Need-returns
-returns c = c.choose.ensures.indent ∙ ap indent_of c.before.Line-of.ensures.there.left
+returns c = c.choose.ensures.indent ∙ ap indent_of c.line_of.ensures.there.left
 
 pub indent_spec : {M : Type 1} → statement M
 indent_spec = tie.close (tie.spec line-of-requires choose-requires returns)

@@ -24,7 +24,7 @@ shared-slice-read-if1 c = omega arith
 
 -- src/lib.rt:33:13
 returns : tie.Need-returns-then-text-i-eq10 invariant-loop decreases-loop
-returns c = ahead-feed _ _ _ c.before.before.before.loop-i.invariant c.before.before.loop-i-test.true c.if-text-i-eq10.true
+returns c = ahead-feed _ _ _ c.loop-i.invariant c.loop-i-test.true c.if-text-i-eq10.true
 
 -- src/lib.rt:35:12
 shared-slice-read-if2 : tie.Need-bounds-text-i-in-loop-i invariant-loop decreases-loop
@@ -32,7 +32,7 @@ shared-slice-read-if2 c = omega arith
 
 -- src/lib.rt:36:13
 returns-2 : tie.Need-returns-then-text-i-eq13 invariant-loop decreases-loop
-returns-2 c = let t = c.before.before.before.before in ahead_return _ _ _ t.before.loop-i.invariant t.loop-i-test.true c.before.before.if-text-i-eq10.false c.if-text-i-eq13.true
+returns-2 c = ahead_return _ _ _ c.loop-i.invariant c.loop-i-test.true c.if-text-i-eq10.false c.if-text-i-eq13.true
 
 -- src/lib.rt:38:9
 add-i : tie.Need-overflow_add-i invariant-loop decreases-loop
@@ -44,11 +44,11 @@ loop-less c = omega arith
 
 -- src/lib.rt:31:5
 loop-again : tie.Need-loop-i-preserved invariant-loop decreases-loop
-loop-again c = let t = c.before.before.before.before in ahead-next _ _ _ t.before.loop-i.invariant t.loop-i-test.true c.before.before.if-text-i-eq10.false c.if-text-i-eq13.false
+loop-again c = ahead-next _ _ _ c.loop-i.invariant c.loop-i-test.true c.if-text-i-eq10.false c.if-text-i-eq13.false
 
 -- src/lib.rt:26:1
 returns-3 : tie.Need-returns invariant-loop decreases-loop
-returns-3 c = ahead-end _ _ _ c.before.loop-i.invariant c.loop-i-test.false
+returns-3 c = ahead-end _ _ _ c.loop-i.invariant c.loop-i-test.false
 
 pub line_end_spec : {M : Type 1} → statement M
 line_end_spec =

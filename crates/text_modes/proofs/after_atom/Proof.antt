@@ -11,9 +11,9 @@ use Rattle.text_modes.proofs.after_atom.Tie as tie
 other : tie.Need-returns-in_default
 unfolding modes mode_after all_below among
 other c =
-    let mode = c.before.args.mode in
-    let others = c.in_default.rest in
-    else_astray 4 (3 ∷ 5 ∷ 7 ∷ 11 ∷ 13 ∷ 14 ∷ []) refl mode c.before.requires
+    let mode = c.args.mode in
+    let others = c.in_default.in_default-own.rest in
+    else_astray 4 (3 ∷ 5 ∷ 7 ∷ 11 ∷ 13 ∷ 14 ∷ []) refl mode c.requires
     (rw (ne_eqb mode 3 others.0.0.0.0.0.1, ne_eqb mode 5 others.0.0.0.0.1, ne_eqb mode 7 others.0.0.0.1, ne_eqb mode 11 others.0.0.1, ne_eqb mode 13 others.0.1, ne_eqb mode 14 others.1))
 
 pub after_atom_spec : {M : Type 1} → statement M
@@ -21,10 +21,10 @@ unfolding modes mode_after
 after_atom_spec =
     tie.close
     (tie.spec
-    (λ c. rw c.in-3.keys1)
-    (λ c. rw c.in-5.keys2)
-    (λ c. rw c.in-7.keys3)
-    (λ c. rw c.in-11.keys4)
-    (λ c. rw c.in-13.keys5)
-    (λ c. rw c.in-14.keys6)
+    (λ c. rw c.in-3.is)
+    (λ c. rw c.in-5.is)
+    (λ c. rw c.in-7.is)
+    (λ c. rw c.in-11.is)
+    (λ c. rw c.in-13.is)
+    (λ c. rw c.in-14.is)
     other)

@@ -30,7 +30,7 @@ kind-requires c κs = search rules
 
 -- src/lib.rt:390:13
 returns : tie.Need-returns-then-kind-ne4 invariant-loop decreases-loop
-returns c = going-off _ _ c.before.before.before.before.loop-i.i (omega arith) (λ e. c.if-kind-ne4.true (c.before.kind.ensures ∙ e)) c.before.before.before.before.loop-i.invariant
+returns c = going-off _ _ c.loop-i.i (omega arith) (λ e. c.if-kind-ne4.true (c.kind.ensures ∙ e)) c.loop-i.invariant
 
 -- src/lib.rt:392:9
 add-i : tie.Need-overflow_add-i invariant-loop decreases-loop
@@ -42,11 +42,11 @@ loop-less c = omega arith
 
 -- src/lib.rt:388:5
 loop-again : tie.Need-loop-i-preserved invariant-loop decreases-loop
-loop-again c = going_next _ _ c.before.before.before.before.loop-i.i (omega arith) (sym c.before.kind.ensures ∙ c.if-kind-ne4.false) c.before.before.before.before.loop-i.invariant
+loop-again c = going_next _ _ c.loop-i.i (omega arith) (sym c.kind.ensures ∙ c.if-kind-ne4.false) c.loop-i.invariant
 
 -- src/lib.rt:383:1
 returns-2 : tie.Need-returns invariant-loop decreases-loop
-returns-2 c = going_end _ _ c.before.loop-i.i (omega arith) c.before.loop-i.invariant
+returns-2 c = going_end _ _ c.loop-i.i (omega arith) c.loop-i.invariant
 
 pub atom_end_spec : {M : Type 1} → statement M
 atom_end_spec =

@@ -7,8 +7,8 @@ use Rattle.text_names.proofs.child.Statement.{statement}
 use Rattle.text_names.proofs.child.Tie as tie
 use Rattle.text_names.proofs.child.Reads as reads
 use Rattle.text_names.proofs.child.Lts as lts
-use Rattle.text_names.proofs.letter-sought.Reads as letter-reads
-use Rattle.text_names.proofs.wide-u.Reads as wide-reads
+use Rattle.text_names.proofs.letter.Reads as letter-reads
+use Rattle.text_names.proofs.wide.Reads as wide-reads
 
 abbrev invariant-loop : tie.invariant-loop-u
 invariant-loop tree count n c sought u₀ u = Along tree count n c u
@@ -32,7 +32,7 @@ wide-requires : tie.Need-wide-u-requires invariant-loop decreases-loop
 wide-requires c κs = search rules
 
 loop-holds : tie.Need-loop-u-init invariant-loop decreases-loop
-loop-holds c = along-first _ _ _ _ c.before.before.before.before.requires _ c.wide-u.ensures
+loop-holds c = along-first _ _ _ _ c.requires _ c.wide-u.ensures
 
 mul-if1 : tie.Need-overflow_mul-u invariant-loop decreases-loop
 mul-if1 c = omega arith
@@ -48,9 +48,7 @@ shared-slice-read-if1 c = omega arith
 
 returns : tie.Need-returns-then-tree-u invariant-loop decreases-loop
 returns c =
-    let turn = c.before.before.before in
-    let begun = turn.before.before.before in
-    along-found _ _ _ _ begun.before.before.requires turn.loop-u.u (c.if-tree-u.true ∙ begun.letter-sought.ensures) (omega arith) turn.loop-u.invariant
+    along-found _ _ _ _ c.requires c.loop-u.u (c.if-tree-u.true ∙ c.letter-sought.ensures) (omega arith) c.loop-u.invariant
 
 mul-wide-3 : tie.Need-overflow_mul-u-in-loop-u invariant-loop decreases-loop
 mul-wide-3 c = omega arith
@@ -69,27 +67,19 @@ wide-requires-2 c κs = search rules
 
 loop-less : tie.Need-loop-u-smaller invariant-loop decreases-loop
 loop-less c =
-    let tested = c.before.before in
-    let turn = tested.before.before.before in
-    let begun = turn.before.before.before in
-    let l : _ = along-falls _ _ _ _ begun.before.before.requires turn.loop-u.u (omega arith) turn.loop-u.invariant in
+    let l : _ = along-falls _ _ _ _ c.requires c.loop-u.u (omega arith) c.loop-u.invariant in
     omega (arith, l, c.wide-u-in-loop-u.ensures)
 
 loop-again : tie.Need-loop-u-preserved invariant-loop decreases-loop
 loop-again c =
-    let tested = c.before.before in
-    let turn = tested.before.before.before in
-    let begun = turn.before.before.before in
-    along-next _ _ _ _ begun.before.before.requires turn.loop-u.u _ (omega arith)
-    (λ e. tested.if-tree-u.false (e ∙ sym begun.letter-sought.ensures))
+    along-next _ _ _ _ c.requires c.loop-u.u _ (omega arith)
+    (λ e. c.if-tree-u.false (e ∙ sym c.letter-sought.ensures))
     c.wide-u-in-loop-u.ensures
-    turn.loop-u.invariant
+    c.loop-u.invariant
 
 returns-2 : tie.Need-returns invariant-loop decreases-loop
 returns-2 c =
-    let end = c.before in
-    let begun = end.before.before.before in
-    along-none _ _ _ _ begun.before.before.requires end.loop-u.u c.loop-u-test.false end.loop-u.invariant
+    along-none _ _ _ _ c.requires c.loop-u.u c.loop-u-test.false c.loop-u.invariant
 
 pub child_spec : {M : Type 1} → statement M
 child_spec =

@@ -5,30 +5,26 @@ use Rattle.text_names.proofs.number.Statement.{statement}
 use Rattle.text_names.proofs.number.Tie as tie
 use Rattle.text_names.proofs.number.Reads as reads
 use Rattle.text_names.proofs.number.Lts as lts
-use Rattle.text_names.proofs.walk-reach.Reads as walk-reads
-use Rattle.text_names.proofs.wide-given.Reads as wide-reads
-
--- The function's entry from where the letters were walked, and that from where the name's number was read.
-abbrev start : tie.After-walk-reach → tie.Start
-start w = w.before.before.before.before
+use Rattle.text_names.proofs.walk.Reads as walk-reads
+use Rattle.text_names.proofs.wide.Reads as wide-reads
 
 abbrev walked : tie.After-wide-given → tie.After-walk-reach
 walked k = k.before.before.before.before
 
 walk-requires : tie.Need-walk-reach-requires
-walk-requires c κs = walkable _ _ _ _ _ c.before.before.before.requires
+walk-requires c κs = walkable _ _ _ _ _ c.requires
 
 mul_wide : tie.Need-overflow_mul-node
-mul_wide c = let w = c.before.before in let l : _ = (ended _ _ _ _ _ (start w).requires _ _ _ w.walk-reach.ensures).room in omega arith
+mul_wide c = let l : _ = (ended _ _ _ _ _ c.requires _ _ _ c.walk-reach.ensures).room in omega arith
 
 add_wide : tie.Need-overflow_add-node
-add_wide c = let w = c.before.before in let l : _ = (ended _ _ _ _ _ (start w).requires _ _ _ w.walk-reach.ensures).room in omega arith
+add_wide c = let l : _ = (ended _ _ _ _ _ c.requires _ _ _ c.walk-reach.ensures).room in omega arith
 
 mul-wide-2 : tie.Need-offset_bounds-tree-node
-mul-wide-2 c = let w = c.before.before in let l : _ = (ended _ _ _ _ _ (start w).requires _ _ _ w.walk-reach.ensures).room in omega arith
+mul-wide-2 c = let l : _ = (ended _ _ _ _ _ c.requires _ _ _ c.walk-reach.ensures).room in omega arith
 
 slice-read-wide : tie.Need-bounds-tree-node
-slice-read-wide c = let w = c.before.before.before in let l : _ = (ended _ _ _ _ _ (start w).requires _ _ _ w.walk-reach.ensures).room in omega arith
+slice-read-wide c = let l : _ = (ended _ _ _ _ _ c.requires _ _ _ c.walk-reach.ensures).room in omega arith
 
 wide-requires : tie.Need-wide-given-requires
 wide-requires c κs = search rules
@@ -41,18 +37,14 @@ same_length c = search rules
 
 returns : tie.Need-returns-then-given-ne0
 returns c =
-    let known = c.before in
-    let w = walked known in
-    was-known _ _ _ _ _ (start w).requires _ _ _ w.walk-reach.ensures known.wide-given.result known.wide-given.ensures (omega arith)
+    was-known _ _ _ _ _ c.requires _ _ _ c.walk-reach.ensures c.wide-given.result c.wide-given.ensures (omega arith)
 
 same-length-2 : tie.Need-shape_of-tree-then-known-ge16384
 same-length-2 c = search rules
 
 returns-2 : tie.Need-returns-then-known-ge16384
 returns-2 c =
-    let known = c.before.before in
-    let w = walked known in
-    none_left _ _ _ _ _ (start w).requires _ _ _ w.walk-reach.ensures known.wide-given.result known.wide-given.ensures c.before.if-given-ne0.false (omega arith)
+    none_left _ _ _ _ _ c.requires _ _ _ c.walk-reach.ensures c.wide-given.result c.wide-given.ensures c.if-given-ne0.false (omega arith)
 
 add-tree : tie.Need-overflow_add-tree
 add-tree c = search rules
@@ -61,25 +53,23 @@ cast-tree : tie.Need-overflow_cast-tree
 cast-tree c = search rules
 
 mul-tree : tie.Need-overflow_mul-tree
-mul-tree c = let w = walked c.before.before in let l : _ = (ended _ _ _ _ _ (start w).requires _ _ _ w.walk-reach.ensures).room in omega arith
+mul-tree c = let l : _ = (ended _ _ _ _ _ c.requires _ _ _ c.walk-reach.ensures).room in omega arith
 
 add-tree-2 : tie.Need-overflow_add-tree-2
-add-tree-2 c = let w = walked c.before.before in let l : _ = (ended _ _ _ _ _ (start w).requires _ _ _ w.walk-reach.ensures).room in omega arith
+add-tree-2 c = let l : _ = (ended _ _ _ _ _ c.requires _ _ _ c.walk-reach.ensures).room in omega arith
 
 mul-tree-2 : tie.Need-offset_bounds-tree-node-2
-mul-tree-2 c = let w = walked c.before.before in let l : _ = (ended _ _ _ _ _ (start w).requires _ _ _ w.walk-reach.ensures).room in omega arith
+mul-tree-2 c = let l : _ = (ended _ _ _ _ _ c.requires _ _ _ c.walk-reach.ensures).room in omega arith
 
 slice-write-tree : tie.Need-bounds-tree-node-2
-slice-write-tree c = let w = walked c.before.before in let l : _ = (ended _ _ _ _ _ (start w).requires _ _ _ w.walk-reach.ensures).room in omega arith
+slice-write-tree c = let l : _ = (ended _ _ _ _ _ c.requires _ _ _ c.walk-reach.ensures).room in omega arith
 
 same-length-3 : tie.Need-shape_of-tree
 same-length-3 c = search rules
 
 returns-3 : tie.Need-returns
 returns-3 c =
-    let known = c.before.before in
-    let w = walked known in
-    next-given _ _ _ _ _ (start w).requires _ _ _ w.walk-reach.ensures known.wide-given.result known.wide-given.ensures c.before.if-given-ne0.false (omega arith)
+    next-given _ _ _ _ _ c.requires _ _ _ c.walk-reach.ensures c.wide-given.result c.wide-given.ensures c.if-given-ne0.false (omega arith)
 
 pub number_spec : {M : Type 1} → statement M
 number_spec =

@@ -6,7 +6,7 @@ use Rattle.text_names.proofs.step.Statement.{statement}
 use Rattle.text_names.proofs.step.Tie as tie
 use Rattle.text_names.proofs.step.Reads as reads
 use Rattle.text_names.proofs.step.Lts as lts
-use Rattle.text_names.proofs.child-u.Reads as child-reads
+use Rattle.text_names.proofs.child.Reads as child-reads
 use Rattle.text_names.proofs.letter.Reads as letter-reads
 
 -- src/lib.rt:59:9
@@ -19,7 +19,7 @@ same_length c = search rules
 
 -- src/lib.rt:61:9
 returns : tie.Need-returns-then-u-ne0
-returns c = λ b. step-found _ _ b _ _ _ (omega arith) (c.before.child-u.ensures b)
+returns c = λ b. step-found _ _ b _ _ _ (omega arith) (c.child-u.ensures b)
 
 -- src/lib.rt:63:23
 mul-before : tie.Need-overflow_mul-before
@@ -92,7 +92,7 @@ same-length-2 c = search rules
 -- src/lib.rt:55:1
 returns-2 : tie.Need-returns
 returns-2 c = λ b.
-    step-grown _ _ b _ _ _ _ (omega arith) (omega arith) c.before.before.if-u-ne0.false c.letter.ensures (c.before.before.before.child-u.ensures b)
+    step-grown _ _ b _ _ _ _ (omega arith) (omega arith) c.if-u-ne0.false c.letter.ensures (c.child-u.ensures b)
 
 pub step_spec : {M : Type 1} → statement M
 step_spec =

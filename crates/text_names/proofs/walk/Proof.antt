@@ -9,8 +9,8 @@ use Rattle.text_names.proofs.walk.Tie as tie
 use Rattle.text_names.proofs.walk.Reads as reads
 use Rattle.text_names.proofs.walk.Lts as lts
 use Rattle.text_names.proofs.capital.Reads as capital-reads
-use Rattle.text_names.proofs.grown-all.Reads as grown-reads
-use Rattle.text_names.proofs.step-node.Reads as step-reads
+use Rattle.text_names.proofs.grown.Reads as grown-reads
+use Rattle.text_names.proofs.step.Reads as step-reads
 
 abbrev invariant-loop : tie.invariant-loop-i
 invariant-loop name tree₀ root count node₀ all₀ i₀ tree node all i = Stepping name tree₀ root count tree node all i
@@ -19,7 +19,7 @@ abbrev decreases-loop : tie.decreases-loop-i
 decreases-loop name tree₀ root count node₀ all₀ i₀ tree node all i = length name - i
 
 loop-holds : tie.Need-loop-i-init invariant-loop decreases-loop
-loop-holds c = stepping-first _ _ _ _ c.before.before.requires
+loop-holds c = stepping-first _ _ _ _ c.requires
 
 shared-slice-read-capital : tie.Need-bounds-name-i invariant-loop decreases-loop
 shared-slice-read-capital c = omega arith
@@ -29,14 +29,11 @@ capital-requires c κs = search rules
 
 step-requires : tie.Need-step-node-requires invariant-loop decreases-loop
 step-requires c κs =
-    let turn = c.before.before.before.before in
-    steppable _ _ _ _ turn.before.before.before.requires _ _ _ turn.loop-i.i (omega arith) turn.loop-i.invariant
+    steppable _ _ _ _ c.requires _ _ _ c.loop-i.i (omega arith) c.loop-i.invariant
 
 grown-requires : tie.Need-grown-all-requires invariant-loop decreases-loop
 grown-requires c κs =
-    let stepped = c.before.before.before in
-    let turn = stepped.before.before.before.before in
-    (steppable _ _ _ _ turn.before.before.before.requires _ _ _ turn.loop-i.i (omega arith) turn.loop-i.invariant).few
+    (steppable _ _ _ _ c.requires _ _ _ c.loop-i.i (omega arith) c.loop-i.invariant).few
 
 add-i : tie.Need-overflow_add-i invariant-loop decreases-loop
 add-i c = omega arith
@@ -46,18 +43,15 @@ loop-less c = omega arith
 
 loop-again : tie.Need-loop-i-preserved invariant-loop decreases-loop
 loop-again c =
-    let stepped = c.before.before.before in
-    let read = stepped.before in
-    let turn = read.before.before.before.before in
-    stepping-next _ _ _ _ turn.before.before.before.requires _ _ _ turn.loop-i.i _ _ _ _ (omega arith) read.capital.ensures c.grown-all.ensures
-    stepped.step-node.ensures
-    turn.loop-i.invariant
+    stepping-next _ _ _ _ c.requires _ _ _ c.loop-i.i _ _ _ _ (omega arith) c.capital.ensures c.grown-all.ensures
+    c.step-node.ensures
+    c.loop-i.invariant
 
 same_length : tie.Need-shape_of-tree invariant-loop decreases-loop
-same_length c = (c.before.loop-i.invariant.reached c.before.before.before.before.requires.book).room
+same_length c = (c.loop-i.invariant.reached c.requires.book).room
 
 returns : tie.Need-returns invariant-loop decreases-loop
-returns c = stepping-last _ _ _ _ c.before.before.before.before.requires _ _ _ c.before.loop-i.i (omega arith) c.before.loop-i.invariant
+returns c = stepping-last _ _ _ _ c.requires _ _ _ c.loop-i.i (omega arith) c.loop-i.invariant
 
 pub walk_spec : {M : Type 1} → statement M
 walk_spec =

@@ -7,8 +7,8 @@ use Rattle.text_reader.proofs.read.Statement.{statement}
 use Rattle.text_reader.proofs.read.Tie as tie
 use Rattle.text_reader.proofs.read.Reads as reads
 use Rattle.text_reader.proofs.read.Lts as lts
-use Rattle.text_reader.proofs.gates.enter-count.Reads as enter-reads
-use Rattle.text_reader.proofs.turns.take-turn.Reads as take-reads
+use Rattle.text_reader.proofs.gates.enter.Reads as enter-reads
+use Rattle.text_reader.proofs.turns.take.Reads as take-reads
 
 abbrev invariant-loop : tie.invariant-loop-i
 invariant-loop text numbers₀ tree₀ count state₀ i₀ numbers tree state i = Looping text numbers₀ tree₀ numbers tree state i
@@ -17,77 +17,54 @@ abbrev decreases-loop : tie.decreases-loop-i
 decreases-loop text numbers₀ tree₀ count state₀ i₀ numbers tree state i = length text - i
 
 enter-requires : tie.Need-enter-count-requires invariant-loop decreases-loop
-enter-requires c κs = blank_of _ _ _ c.before.before.before.before.requires
+enter-requires c κs = blank_of _ _ _ c.requires
 
 loop-holds : tie.Need-loop-i-init invariant-loop decreases-loop
 loop-holds c =
-    let at-enter = c.before.before in
-    let half = at-enter.before.before.before.before in
-    let start = half.before in
-    looping_first _ _ _ _ _ start.requires at-enter.enter-count.auto.0 at-enter.enter-count.ensures
+    looping_first _ _ _ _ _ c.requires c.enter-count.auto.0 c.enter-count.ensures
 
 take-requires : tie.Need-take-turn-requires invariant-loop decreases-loop
-take-requires c κs = record { reading = c.before.before.before.loop-i.invariant.reading; inside = omega arith }
+take-requires c κs = record { reading = c.loop-i.invariant.reading; inside = omega arith }
 
 same_length : tie.Need-shape_of-numbers-then-turn-ne0 invariant-loop decreases-loop
 same_length c =
-    let half = c.before.before.before.before in
-    let at_take = half.before.before in
-    let turn = at_take.before.before.before.before in
-    at_take.take-turn.auto.1.1.1.0 ∙ turn.loop-i.invariant.same_numbers
+    c.take-turn.auto.1.1.1.0 ∙ c.loop-i.invariant.same_numbers
 
 same-length-2 : tie.Need-shape_of-tree-then-turn-ne0 invariant-loop decreases-loop
 same-length-2 c =
-    let half = c.before.before.before.before in
-    let at_take = half.before.before in
-    let turn = at_take.before.before.before.before in
-    let at-enter = turn.before.before.before in
-    at_take.take-turn.auto.1.1.1.1.0 ∙ turn.loop-i.invariant.same_tree ∙ at-enter.enter-count.auto.0
+    c.take-turn.auto.1.1.1.1.0 ∙ c.loop-i.invariant.same_tree ∙ c.enter-count.auto.0
 
 returns : tie.Need-returns-then-turn-ne0 invariant-loop decreases-loop
 returns c =
-    let half = c.before.before.before.before in
-    let at_take = half.before.before in
-    turn-refused _ _ _ _ _ at_take.take-turn.ensures c.if-turn-ne0.true
+    turn-refused _ _ _ _ _ c.take-turn.ensures c.if-turn-ne0.true
 
 loop-less : tie.Need-loop-i-smaller invariant-loop decreases-loop
 loop-less c =
-    let decided = c.before in
-    let half = decided.before.before.before.before in
-    let at_take = half.before.before in
-    let l : _ = at_take.take-turn.ensures.further decided.if-turn-ne0.false in omega arith
+    let l : _ = c.take-turn.ensures.further c.if-turn-ne0.false in omega arith
 
 loop-again : tie.Need-loop-i-preserved invariant-loop decreases-loop
 loop-again c =
-    let decided = c.before in
-    let half = decided.before.before.before.before in
-    let at_take = half.before.before in
-    let turn = at_take.before.before.before.before in
-    record { reading = at_take.take-turn.ensures.on decided.if-turn-ne0.false; same_numbers = at_take.take-turn.auto.1.1.1.0 ∙ turn.loop-i.invariant.same_numbers; same_tree = at_take.take-turn.auto.1.1.1.1.0 ∙ turn.loop-i.invariant.same_tree }
+    record { reading = c.take-turn.ensures.on c.if-turn-ne0.false; same_numbers = c.take-turn.auto.1.1.1.0 ∙ c.loop-i.invariant.same_numbers; same_tree = c.take-turn.auto.1.1.1.1.0 ∙ c.loop-i.invariant.same_tree }
 
 same-length-3 : tie.Need-shape_of-numbers-then-state-lt17 invariant-loop decreases-loop
-same-length-3 c = c.before.before.before.loop-i.invariant.same_numbers
+same-length-3 c = c.loop-i.invariant.same_numbers
 
 same-length-4 : tie.Need-shape_of-tree-then-state-lt17 invariant-loop decreases-loop
 same-length-4 c =
-    let turn = c.before.before.before in
-    let at-enter = turn.before.before.before in
-    turn.loop-i.invariant.same_tree ∙ at-enter.enter-count.auto.0
+    c.loop-i.invariant.same_tree ∙ c.enter-count.auto.0
 
 returns-2 : tie.Need-returns-then-state-lt17 invariant-loop decreases-loop
-returns-2 c = short-reads _ _ _ _ _ _ _ c.before.before.before.loop-i.invariant (omega arith) (omega arith)
+returns-2 c = short-reads _ _ _ _ _ _ _ c.loop-i.invariant (omega arith) (omega arith)
 
 same-length-5 : tie.Need-shape_of-numbers invariant-loop decreases-loop
-same-length-5 c = c.before.before.before.loop-i.invariant.same_numbers
+same-length-5 c = c.loop-i.invariant.same_numbers
 
 same-length-6 : tie.Need-shape_of-tree invariant-loop decreases-loop
 same-length-6 c =
-    let turn = c.before.before.before in
-    let at-enter = turn.before.before.before in
-    turn.loop-i.invariant.same_tree ∙ at-enter.enter-count.auto.0
+    c.loop-i.invariant.same_tree ∙ c.enter-count.auto.0
 
 returns-3 : tie.Need-returns invariant-loop decreases-loop
-returns-3 c = whole-reads _ _ _ _ _ _ _ c.before.before.before.loop-i.invariant (omega arith) (omega arith)
+returns-3 c = whole-reads _ _ _ _ _ _ _ c.loop-i.invariant (omega arith) (omega arith)
 
 pub read_spec : {M : Type 1} → statement M
 read_spec =

@@ -4,8 +4,8 @@ use Rattle.text_words.proofs.atom_at.Statement.{statement}
 use Rattle.text_words.proofs.atom_at.Tie as tie
 use Rattle.text_words.proofs.atom_at.Reads as reads
 use Rattle.text_words.proofs.atom_at.Lts as lts
-use Rattle.text_modes.proofs.atom_end-end.Reads as atom-end-reads
-use Rattle.text_words.proofs.atom_from-start.Reads as atom-from-reads
+use Rattle.text_modes.proofs.atom_end.Reads as atom-end-reads
+use Rattle.text_words.proofs.atom_from.Reads as atom-from-reads
 
 -- src/lib.rt:130:9
 atom-from-requires : tie.Need-atom_from-start-requires
@@ -25,11 +25,11 @@ part-result-start c = search rules
 
 -- src/lib.rt:132:5
 part-result-end : tie.Need-slice_bounds-result-end
-part-result-end c = end-within _ _ _ c.before.atom_from-start.ensures.few c.atom_end-end.ensures
+part-result-end c = end-within _ _ _ c.atom_from-start.ensures.few c.atom_end-end.ensures
 
 -- src/lib.rt:126:1
 returns : tie.Need-returns
-returns c = atom-there _ _ _ _ c.before.before.atom_from-start.ensures c.before.atom_end-end.ensures
+returns c = atom-there _ _ _ _ c.atom_from-start.ensures c.atom_end-end.ensures
 
 pub atom_at_spec : {M : Type 1} → statement M
 atom_at_spec =

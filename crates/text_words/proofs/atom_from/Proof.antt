@@ -17,10 +17,10 @@ loop-holds : tie.Need-loop-left-init invariant-loop decreases-loop
 loop-holds c = passing-first _ _ _ _ c.next_atom-i.ensures
 
 atom-end-requires : tie.Need-atom_end-requires invariant-loop decreases-loop
-atom-end-requires c κs = c.before.loop-left.invariant.few
+atom-end-requires c κs = c.loop-left.invariant.few
 
 next-atom-requires-2 : tie.Need-next_atom-i-requires-in-loop-left invariant-loop decreases-loop
-next-atom-requires-2 c κs = end-within _ _ _ c.before.before.loop-left.invariant.few c.atom_end.ensures
+next-atom-requires-2 c κs = end-within _ _ _ c.loop-left.invariant.few c.atom_end.ensures
 
 sub-left : tie.Need-overflow_sub-left invariant-loop decreases-loop
 sub-left c = omega arith
@@ -30,11 +30,10 @@ loop-less c = omega arith
 
 loop-again : tie.Need-loop-left-preserved invariant-loop decreases-loop
 loop-again c =
-    let turn = c.before.before in
-    passing-on _ _ _ _ _ _ _ turn.before.loop-left.invariant turn.loop-left-test.true c.before.atom_end.ensures c.next_atom-i-in-loop-left.ensures
+    passing-on _ _ _ _ _ _ _ c.loop-left.invariant c.loop-left-test.true c.atom_end.ensures c.next_atom-i-in-loop-left.ensures
 
 returns : tie.Need-returns invariant-loop decreases-loop
-returns c = passed-all _ _ _ _ _ c.before.loop-left.invariant (omega arith)
+returns c = passed-all _ _ _ _ _ c.loop-left.invariant (omega arith)
 
 pub atom_from_spec : {M : Type 1} → statement M
 atom_from_spec =

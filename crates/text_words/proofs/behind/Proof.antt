@@ -7,7 +7,7 @@ use Rattle.text_words.proofs.behind.Statement.{statement}
 use Rattle.text_words.proofs.behind.Tie as tie
 use Rattle.text_words.proofs.behind.Reads as reads
 use Rattle.text_words.proofs.behind.Lts as lts
-use Rattle.text_words.proofs.step-cursor.Reads as step-reads
+use Rattle.text_words.proofs.step.Reads as step-reads
 
 abbrev invariant-loop : tie.invariant-loop-i
 invariant-loop text from level depth more i₀ cursor₀ i cursor = Searching text from level depth more i cursor
@@ -17,7 +17,7 @@ decreases-loop text from level depth more i₀ cursor₀ i cursor = length text 
 
 -- src/lib.rt:85:5
 loop-holds : tie.Need-loop-i-init invariant-loop decreases-loop
-loop-holds c = record { few = c.before.requires.0; is = refl; deep = omega arith }
+loop-holds c = record { few = c.requires.0; is = refl; deep = omega arith }
 
 -- src/lib.rt:86:23
 shared-slice-read-step : tie.Need-bounds-text-i invariant-loop decreases-loop
@@ -25,7 +25,7 @@ shared-slice-read-step c = omega arith
 
 -- src/lib.rt:86:9
 step-requires : tie.Need-step-cursor-requires invariant-loop decreases-loop
-step-requires c κs = let deep = c.before.before.loop-i.invariant.deep in omega arith
+step-requires c κs = let deep = c.loop-i.invariant.deep in omega arith
 
 -- src/lib.rt:87:9
 add-i : tie.Need-overflow_add-i invariant-loop decreases-loop
@@ -33,7 +33,7 @@ add-i c = omega arith
 
 -- src/lib.rt:89:13
 returns : tie.Need-returns-then-cursor invariant-loop decreases-loop
-returns c = let turn = c.before.before.before in search-met _ _ _ _ _ _ _ c.before.step-cursor.result turn.before.loop-i.invariant turn.loop-i-test.true c.before.step-cursor.ensures c.if-cursor.true
+returns c = search-met _ _ _ _ _ _ _ c.step-cursor.result c.loop-i.invariant c.loop-i-test.true c.step-cursor.ensures c.if-cursor.true
 
 -- src/lib.rt:85:5
 loop-less : tie.Need-loop-i-smaller invariant-loop decreases-loop
@@ -41,11 +41,11 @@ loop-less c = omega arith
 
 -- src/lib.rt:85:5
 loop-again : tie.Need-loop-i-preserved invariant-loop decreases-loop
-loop-again c = let turn = c.before.before.before in searching_on _ _ _ _ _ _ _ c.before.step-cursor.result turn.before.loop-i.invariant turn.loop-i-test.true c.before.step-cursor.ensures c.if-cursor.false
+loop-again c = searching_on _ _ _ _ _ _ _ c.step-cursor.result c.loop-i.invariant c.loop-i-test.true c.step-cursor.ensures c.if-cursor.false
 
 -- src/lib.rt:74:1
 returns-2 : tie.Need-returns invariant-loop decreases-loop
-returns-2 c = search-off _ _ _ _ _ _ _ c.before.loop-i.invariant c.loop-i-test.false
+returns-2 c = search-off _ _ _ _ _ _ _ c.loop-i.invariant c.loop-i-test.false
 
 pub behind_spec : {M : Type 1} → statement M
 behind_spec =

@@ -17,7 +17,7 @@ capital-requires-2 c κs = search rules
 
 -- src/lib.rt:158:1
 returns : tie.Need-returns
-returns c = ap₂ eqb c.before.capital.ensures c.capital-2.ensures
+returns c = ap₂ eqb c.capital.ensures c.capital-2.ensures
 
 pub is_alike_spec : {M : Type 1} → statement M
 is_alike_spec = tie.close (tie.spec capital-requires capital-requires-2 returns)

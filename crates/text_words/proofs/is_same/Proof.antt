@@ -18,7 +18,7 @@ decreases-loop one other i₀ i-end i = i-end - i
 
 -- src/lib.rt:169:9
 returns : tie.Need-returns-then-one-other invariant-loop decreases-loop
-returns c = let asked = c.before.before.before.args in same_length asked.one.now asked.other.now c.if-one-other.true
+returns c = let asked = c.args in same_length asked.one.now asked.other.now c.if-one-other.true
 
 -- src/lib.rt:171:5
 loop-holds : tie.Need-loop-i-init invariant-loop decreases-loop
@@ -39,10 +39,8 @@ is-alike-requires c κs = search rules
 -- src/lib.rt:173:13
 returns-2 : tie.Need-returns-then-not-is_alike invariant-loop decreases-loop
 returns-2 c =
-    let turn = c.before.before.before.before in
-    let head = turn.before in
-    let asked = head.before.before.before.before.args in
-    same-apart asked.one.now asked.other.now head.loop-i.i head.before.if-one-other.false turn.loop-i-test.true head.loop-i.invariant _ c.before.is_alike.ensures (not-true _ c.if-not-is_alike.true)
+    let asked = c.args in
+    same-apart asked.one.now asked.other.now c.loop-i.i c.if-one-other.false c.loop-i-test.true c.loop-i.invariant _ c.is_alike.ensures (not-true _ c.if-not-is_alike.true)
 
 -- src/lib.rt:171:9
 add-i : tie.Need-overflow_step-i invariant-loop decreases-loop
@@ -55,17 +53,14 @@ loop-less c = omega arith
 -- src/lib.rt:171:5
 loop-again : tie.Need-loop-i-preserved invariant-loop decreases-loop
 loop-again c =
-    let turn = c.before.before.before.before in
-    let head = turn.before in
-    let asked = head.before.before.before.before.args in
-    same-on asked.one.now asked.other.now head.loop-i.i head.before.if-one-other.false turn.loop-i-test.true head.loop-i.invariant _ c.before.is_alike.ensures (not-false _ c.if-not-is_alike.false)
+    let asked = c.args in
+    same-on asked.one.now asked.other.now c.loop-i.i c.if-one-other.false c.loop-i-test.true c.loop-i.invariant _ c.is_alike.ensures (not-false _ c.if-not-is_alike.false)
 
 -- src/lib.rt:165:1
 returns-3 : tie.Need-returns invariant-loop decreases-loop
 returns-3 c =
-    let head = c.before in
-    let asked = head.before.before.before.before.args in
-    sym (head.loop-i.invariant ∙ same_none asked.one.now asked.other.now head.loop-i.i head.before.if-one-other.false c.loop-i-test.false)
+    let asked = c.args in
+    sym (c.loop-i.invariant ∙ same_none asked.one.now asked.other.now c.loop-i.i c.if-one-other.false c.loop-i-test.false)
 
 pub is_same_spec : {M : Type 1} → statement M
 is_same_spec =

@@ -6,7 +6,7 @@ use Rattle.text_words.proofs.module_name.Tie as tie
 use Rattle.text_words.proofs.module_name.Reads as reads
 use Rattle.text_words.proofs.module_name.Lts as lts
 use Rattle.text_words.proofs.atom_at.Reads as atom-at-reads
-use Rattle.text_words.proofs.module_from-from.Reads as module-from-reads
+use Rattle.text_words.proofs.module_from.Reads as module-from-reads
 
 module-from-requires : tie.Need-module_from-from-requires
 module-from-requires c κs = search rules
@@ -15,7 +15,7 @@ atom-at-requires : tie.Need-atom_at-requires
 atom-at-requires c κs = search rules
 
 returns : tie.Need-returns
-returns c = c.atom_at.ensures ∙ ap (λ rest. as_written (atom_from 0 rest)) c.before.module_from-from.ensures.is
+returns c = c.atom_at.ensures ∙ ap (λ rest. as_written (atom_from 0 rest)) c.module_from-from.ensures.is
 
 pub module_name_spec : {M : Type 1} → statement M
 module_name_spec = tie.close (tie.spec module-from-requires atom-at-requires returns)

@@ -31,10 +31,8 @@ is-same-requires c κs = search rules
 -- src/lib.rt:186:13
 returns : tie.Need-returns-then-is_same invariant-loop decreases-loop
 returns c =
-    let found = c.before.before in
-    let head = found.before.before in
-    let asked = head.before.before.before.args in
-    named_here asked.text.now asked.name.now _ head.loop-k.k _ found.before.loop-k-test.true head.loop-k.invariant found.module_name.ensures c.before.is_same.ensures c.if-is_same.true
+    let asked = c.args in
+    named_here asked.text.now asked.name.now _ c.loop-k.k _ c.loop-k-test.true c.loop-k.invariant c.module_name.ensures c.is_same.ensures c.if-is_same.true
 
 -- src/lib.rt:188:9
 add-k : tie.Need-overflow_add-k invariant-loop decreases-loop
@@ -47,14 +45,12 @@ loop-less c = omega arith
 -- src/lib.rt:184:5
 loop-again : tie.Need-loop-k-preserved invariant-loop decreases-loop
 loop-again c =
-    let found = c.before.before in
-    let head = found.before.before in
-    let asked = head.before.before.before.args in
-    named-on asked.text.now asked.name.now _ head.loop-k.k _ found.before.loop-k-test.true head.loop-k.invariant found.module_name.ensures c.before.is_same.ensures c.if-is_same.false
+    let asked = c.args in
+    named-on asked.text.now asked.name.now _ c.loop-k.k _ c.loop-k-test.true c.loop-k.invariant c.module_name.ensures c.is_same.ensures c.if-is_same.false
 
 -- src/lib.rt:180:1
 returns-2 : tie.Need-returns invariant-loop decreases-loop
-returns-2 c = let asked = c.before.before.before.before.args in named_none asked.text.now asked.name.now _ c.loop-k-test.false c.before.loop-k.invariant
+returns-2 c = let asked = c.args in named_none asked.text.now asked.name.now _ c.loop-k-test.false c.loop-k.invariant
 
 pub module_named_spec : {M : Type 1} → statement M
 module_named_spec =

@@ -18,7 +18,7 @@ decreases-loop text from i₀ i = length text - i
 
 -- src/lib.rt:101:5
 loop-holds : tie.Need-loop-i-init invariant-loop decreases-loop
-loop-holds c = record { few = c.before.requires; is = refl }
+loop-holds c = record { few = c.requires; is = refl }
 
 -- src/lib.rt:102:17
 shared-slice-read-kind : tie.Need-bounds-text-i invariant-loop decreases-loop
@@ -30,7 +30,7 @@ kind-requires c κs = search rules
 
 -- src/lib.rt:103:13
 returns : tie.Need-returns-then-kind-eq4 invariant-loop decreases-loop
-returns c = let turn = c.before.before.before in at-atom _ _ _ turn.before.loop-i.invariant turn.loop-i-test.true (sym c.before.kind.ensures ∙ c.if-kind-eq4.true)
+returns c = at-atom _ _ _ c.loop-i.invariant c.loop-i-test.true (sym c.kind.ensures ∙ c.if-kind-eq4.true)
 
 -- src/lib.rt:105:9
 add-i : tie.Need-overflow_add-i invariant-loop decreases-loop
@@ -42,11 +42,11 @@ loop-less c = omega arith
 
 -- src/lib.rt:101:5
 loop-again : tie.Need-loop-i-preserved invariant-loop decreases-loop
-loop-again c = let turn = c.before.before.before in nearing_on _ _ _ turn.before.loop-i.invariant turn.loop-i-test.true (λ e. c.if-kind-eq4.false (c.before.kind.ensures ∙ e))
+loop-again c = nearing_on _ _ _ c.loop-i.invariant c.loop-i-test.true (λ e. c.if-kind-eq4.false (c.kind.ensures ∙ e))
 
 -- src/lib.rt:96:1
 returns-2 : tie.Need-returns invariant-loop decreases-loop
-returns-2 c = no_atom _ _ _ c.before.loop-i.invariant c.loop-i-test.false
+returns-2 c = no_atom _ _ _ c.loop-i.invariant c.loop-i-test.false
 
 pub next_atom_spec : {M : Type 1} → statement M
 next_atom_spec =

@@ -12,8 +12,8 @@ behind-requires c κs = search rules
 
 returns : tie.Need-returns
 returns c =
-    let asked = c.before.before.before.args in
-    record { few = c.behind.ensures.few; is = c.behind.ensures.is ∙ ap (behind 3 2 asked.occurrence) c.before.module_from-from.ensures.is }
+    let asked = c.args in
+    record { few = c.behind.ensures.few; is = c.behind.ensures.is ∙ ap (behind 3 2 asked.occurrence) c.module_from-from.ensures.is }
 
 pub occurrence_from_spec : {M : Type 1} → statement M
 occurrence_from_spec = tie.close (tie.spec module-from-requires behind-requires returns)

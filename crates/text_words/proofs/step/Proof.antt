@@ -16,7 +16,7 @@ kind-requires : tie.Need-kind-requires
 kind-requires c κs = search rules
 
 -- The code of the byte.
-code : (c : tie.After-kind) {n : ℕ} → c.kind.result ≡ n → kind_code (kind_of c.before.args.b) ≡ n
+code : (c : tie.After-kind) {n : ℕ} → c.kind.result ≡ n → kind_code (kind_of c.args.b) ≡ n
 code c e = sym c.kind.ensures ∙ e
 
 -- src/lib.rt:33:28
@@ -25,11 +25,11 @@ add-t8 c = search rules
 
 -- src/lib.rt:31:17
 returns : tie.Need-returns-then-depth-level
-returns c = opens_other _ _ _ _ (code c.before.before c.before.in-1.keys1) c.if-depth-level.true
+returns c = opens_other _ _ _ _ (code c.before.before c.in-1.is) c.if-depth-level.true
 
 -- src/lib.rt:38:17
 returns-2 : tie.Need-returns-then-more-eq0
-returns-2 c = opens_it _ _ _ _ (code c.before.before.before c.before.before.in-1.keys1) c.before.if-depth-level.false c.if-more-eq0.true
+returns-2 c = opens_it _ _ _ _ (code c.before.before.before c.in-1.is) c.if-depth-level.false c.if-more-eq0.true
 
 -- src/lib.rt:46:24
 add-t9 : tie.Need-overflow_add-result-in-1
@@ -42,8 +42,8 @@ sub-t10 c = search rules
 -- src/lib.rt:52:17
 returns-3 : tie.Need-returns-then-depth-eq0
 returns-3 c =
-    let depth = c.before.before.before.args.depth in
-    closes _ _ depth _ (code c.before.before c.before.in-2.keys2) depth (omega arith)
+    let depth = c.args.depth in
+    closes _ _ depth _ (code c.before.before c.in-2.is) depth (omega arith)
 
 -- src/lib.rt:60:24
 sub-t12 : tie.Need-overflow_sub-result-in-2
@@ -51,16 +51,16 @@ sub-t12 c = search rules
 
 -- src/lib.rt:24:1
 returns-4 : tie.Need-returns-else-more-eq0
-returns-4 c = opens_like _ _ _ _ (code c.before.before.before c.before.before.in-1.keys1) c.before.if-depth-level.false c.if-more-eq0.false
+returns-4 c = opens_like _ _ _ _ (code c.before.before.before c.in-1.is) c.if-depth-level.false c.if-more-eq0.false
 
 -- src/lib.rt:24:1
 returns-5 : tie.Need-returns-else-depth-eq0
-returns-5 c = closes _ _ _ _ (code c.before.before c.before.in-2.keys2) _ refl
+returns-5 c = closes _ _ _ _ (code c.before.before c.in-2.is) _ refl
 
 -- src/lib.rt:24:1
 returns-6 : tie.Need-returns-in_default
 returns-6 c =
-    passes (kind_code (kind_of c.before.before.args.b)) _ _ _ (λ e. c.in_default.rest.0.1 (c.before.kind.ensures ∙ e)) (λ e. c.in_default.rest.1 (c.before.kind.ensures ∙ e))
+    passes (kind_code (kind_of c.args.b)) _ _ _ (λ e. c.in_default.in_default-own.rest.0.1 (c.kind.ensures ∙ e)) (λ e. c.in_default.in_default-own.rest.1 (c.kind.ensures ∙ e))
 
 pub step_spec : {M : Type 1} → statement M
 step_spec =

@@ -23,12 +23,8 @@ copy-requires-3 c κs = omega arith
 returns : tie.Need-returns
 unfolding module_numbers occurrence_numbers each
 returns c =
-    let third = c.before.before in
-    let second = third.before.before.before.before.before in
-    let first = second.before.before.before.before.before in
-    let start = first.before.before.before.before in
-    let fits : start.args.at ≤ length start.args.bytes-1.now = omega (arith, start.requires) in
-    put-more (put-more first.copy-passes.ensures fits second.copy-either.ensures) fits third.copy.ensures
+    let fits : c.args.at ≤ length c.args.bytes.now = omega (arith, c.requires) in
+    put-more (put-more c.copy-passes.ensures fits c.copy-either.ensures) fits c.copy.ensures
 
 pub carry_one_spec : {M : Type 1} → statement M
 carry_one_spec =

@@ -27,14 +27,9 @@ copy-requires-4 c κs = omega arith
 returns : tie.Need-returns
 unfolding module_numbers occurrence_numbers each
 returns c =
-    let fourth = c.before.before in
-    let third = fourth.before.before.before.before.before in
-    let second = third.before.before.before.before.before in
-    let first = second.before.before.before.before.before in
-    let start = first.before.before.before.before in
-    let fits : start.args.at ≤ length start.args.bytes-1.now = omega (arith, start.requires) in
-    let two = put-more first.copy-makes.ensures fits second.copy-passes.ensures in
-    put-more (put-more two fits third.copy-either.ensures) fits fourth.copy.ensures
+    let fits : c.args.at ≤ length c.args.bytes.now = omega (arith, c.requires) in
+    let two = put-more c.copy-makes.ensures fits c.copy-passes.ensures in
+    put-more (put-more two fits c.copy-either.ensures) fits c.copy.ensures
 
 pub carry_two_spec : {M : Type 1} → statement M
 carry_two_spec =

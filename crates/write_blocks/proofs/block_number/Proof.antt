@@ -12,7 +12,7 @@ unfolding block_number
 returns c = rw c.if-level-eq0.true
 
 returns-2 : tie.Need-returns-else-level-eq0
-returns-2 c = sym (number-above c.before.args.level (omega arith))
+returns-2 c = sym (number-above c.args.level (omega arith))
 
 pub block_number_spec : {M : Type 1} → statement M
 block_number_spec = tie.close (tie.spec (λ c. search rules) returns returns-2)

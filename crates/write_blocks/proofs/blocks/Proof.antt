@@ -20,30 +20,27 @@ decreases-loop level bytes₀ at at₀ left₀ bytes at' left = left
 
 loop-holds : tie.Need-loop-left-init invariant-loop decreases-loop
 loop-holds c =
-    let start = c.before in
-    (start.requires.0, laying-none start.args.bytes-1.now start.args.at refl start.requires.1.fits)
+    (c.requires.0, laying-none c.args.bytes.now c.args.at refl c.requires.1.fits)
 
 block-requires : tie.Need-block-at-requires invariant-loop decreases-loop
 block-requires c κs =
-    let turn = c.before in
-    let loop = turn.before.loop-left in
+    let loop = c.loop-left in
     omega (
       arith,
-      laying-room loop.invariant.1 (module_numbers (block (loop.left - 1))) _ (rest-of-blocks loop.left turn.loop-left-test.true),
+      laying-room loop.invariant.1 (module_numbers (block (loop.left - 1))) _ (rest-of-blocks loop.left c.loop-left-test.true),
     )
 
 loop-again : tie.Need-loop-left-preserved invariant-loop decreases-loop
 loop-again c =
-    let turn = c.before.before.before.before in
-    let loop = turn.before.loop-left in (
+    let loop = c.loop-left in (
       omega arith,
       laying-more loop.invariant.1 (module_numbers (block (loop.left - 1))) _
-          (rest-of-blocks loop.left turn.loop-left-test.true)
-          c.before.before.block-at.ensures,
+          (rest-of-blocks loop.left c.loop-left-test.true)
+          c.block-at.ensures,
     )
 
 returns : tie.Need-returns invariant-loop decreases-loop
-returns c = laying-all c.before.loop-left.invariant.1 (no_blocks c.before.loop-left.left c.loop-left-test.false)
+returns c = laying-all c.loop-left.invariant.1 (no_blocks c.loop-left.left c.loop-left-test.false)
 
 pub blocks_spec : {M : Type 1} → statement M
 blocks_spec =
@@ -56,5 +53,5 @@ blocks_spec =
     block-requires
     (λ c. omega arith)
     loop-again
-    (λ c. laying-length c.before.loop-left.invariant.1)
+    (λ c. laying-length c.loop-left.invariant.1)
     returns)

@@ -23,11 +23,8 @@ gate-requires-2 c κs = omega arith
 returns : tie.Need-returns
 unfolding module_numbers occurrence_numbers each head_numbers up_from
 returns c =
-    let third = c.before.before in
-    let second = third.before.before.before.before in
-    let first = second.before.before.before.before in
-    let two = put-more first.head-empty.ensures (omega arith) second.gate-count.ensures in
-    put-more two (omega arith) third.gate.ensures
+    let two = put-more c.head-empty.ensures (omega arith) c.gate-count.ensures in
+    put-more two (omega arith) c.gate.ensures
 
 pub pair_block_spec : {M : Type 1} → statement M
 pair_block_spec = tie.close (tie.spec head-requires gate-requires gate-requires-2 (λ c. search rules) returns)

@@ -17,28 +17,22 @@ room : (c : tie.Start)
     → Room
     (head_numbers 32 (up_from 0 c.args.width) (up_from c.args.shape.last c.args.shape.digits) c.args.shape.occurrences
     ++ each occurrence_numbers (counter_module c.args.width).occurrences)
-    c.args.bytes-1.now
+    c.args.bytes.now
     c.args.at
 room c = rw (module_of-parts c.args.width c.args.shape c.requires.1) at c.requires.2
 
 head-requires : tie.Need-head-first_part-requires
 head-requires c κs =
-    let start = c.before.before in
-    (omega (arith, few-digits start.args.width start.requires.0), room-first _ (room start))
+    (omega (arith, few-digits c.args.width c.requires.0), room-first _ (room c.before.before))
 
 parts-requires : tie.Need-parts-requires
 parts-requires c κs =
-    let head = c.before.before.before in
-    let start = head.before.before.before in
-    (start.requires.0, laying-left (laying-put head.head-first_part.ensures (laying-start (room start))))
+    (c.requires.0, laying-left (laying-put c.head-first_part.ensures (laying-start (room c.before.before.before.before.before.before))))
 
 returns : tie.Need-returns
 returns c =
-    let parts = c.before.before in
-    let head = parts.before.before.before.before in
-    let start = head.before.before.before in
-    rw (module_of-parts start.args.width start.args.shape start.requires.1)
-    (laying-last parts.parts.ensures (laying-put head.head-first_part.ensures (laying-start (room start))))
+    rw (module_of-parts c.args.width c.args.shape c.requires.1)
+    (laying-last c.parts.ensures (laying-put c.head-first_part.ensures (laying-start (room c.before.before.before.before.before.before.before.before.before))))
 
 pub counter_module_spec : {M : Type 1} → statement M
 counter_module_spec = tie.close (tie.spec head-requires parts-requires (λ c. search rules) returns)

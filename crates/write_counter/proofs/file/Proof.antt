@@ -15,62 +15,42 @@ use Rattle.write_counter.proofs.CounterFile.{file-of-counter}
 use Rattle.write_counter.proofs.file.Statement.{statement}
 use Rattle.write_counter.proofs.file.Tie as tie
 
--- The places behind the count of modules and behind the shape.
-abbrev behind-count : tie.After-counter_module-second → tie.After-copy-first
-behind-count c = c.before.before.before.before
-
-abbrev shaped : tie.After-copy-first → tie.After-shape_of-shape
-shaped c = c.before.before.before
-
-abbrev start : tie.After-shape_of-shape → tie.Start
-start c = c.before.before
-
 room : (c : tie.After-shape_of-shape)
     → Room
     (c.shape_of-shape.result.digits
-    ∷ (module_numbers (counter_module (start c).args.width) ++ each module_numbers (blocks (c.shape_of-shape.result.digits - 1))))
-    (start c).args.bytes-1.now
+    ∷ (module_numbers (counter_module c.args.width) ++ each module_numbers (blocks (c.shape_of-shape.result.digits - 1))))
+    c.args.bytes.now
     0
 room c =
-    let n = (start c).args.width in
-    rw (← file-of-counter n c.shape_of-shape.result c.shape_of-shape.ensures (start c).requires.0)
-    (omega (arith, counter-numbers-few n (start c).requires.0 (start c).requires.1))
+    let n = c.args.width in
+    rw (← file-of-counter n c.shape_of-shape.result c.shape_of-shape.ensures c.requires.0)
+    (omega (arith, counter-numbers-few n c.requires.0 c.requires.1))
 
 counter-module-requires : tie.Need-counter_module-second-requires
 counter-module-requires c κs =
-    let count = c.before.before.before in
-    let shape = shaped count in
-    let one = laying-put count.copy-first.ensures (laying-start (room shape)) in
-    ((start shape).requires.1, shape.shape_of-shape.ensures, room-first _ (laying-left one))
+    let one = laying-put c.copy-first.ensures (laying-start (room c.before.before.before.before.before.before)) in
+    (c.requires.1, c.shape_of-shape.ensures, room-first _ (laying-left one))
 
 sub-blocks : tie.Need-overflow_sub-shape
 sub-blocks c =
-    let shape = shaped (behind-count c.before.before.before) in
-    omega (arith, some-digit (start shape).args.width (start shape).requires.0, shape.shape_of-shape.ensures)
+    omega (arith, some-digit c.args.width c.requires.0, c.shape_of-shape.ensures)
 
 blocks-requires : tie.Need-blocks-requires
 blocks-requires c κs =
-    let first = c.before.before.before.before in
-    let count = behind-count first in
-    let shape = shaped count in
-    let one = laying-put count.copy-first.ensures (laying-start (room shape)) in (
-      omega (arith, few-digits (start shape).args.width (start shape).requires.1, shape.shape_of-shape.ensures),
-      laying-left (laying-put first.counter_module-second.ensures one),
+    let one = laying-put c.copy-first.ensures (laying-start (room c.before.before.before.before.before.before.before.before.before.before.before)) in (
+      omega (arith, few-digits c.args.width c.requires.1, c.shape_of-shape.ensures),
+      laying-left (laying-put c.counter_module-second.ensures one),
     )
 
 returns : tie.Need-returns
 returns c =
-    let rest = c.before.before in
-    let first = rest.before.before.before.before.before in
-    let count = behind-count first in
-    let shape = shaped count in
-    let one = laying-put count.copy-first.ensures (laying-start (room shape)) in
-    let n = (start shape).args.width in
+    let one = laying-put c.copy-first.ensures (laying-start (room c.before.before.before.before.before.before.before.before.before.before.before.before.before.before)) in
+    let n = c.args.width in
     rw (
-      bytes-of-counter n (start shape).requires.0 (start shape).requires.1,
-      file-of-counter n shape.shape_of-shape.result shape.shape_of-shape.ensures (start shape).requires.0,
+      bytes-of-counter n c.requires.0 c.requires.1,
+      file-of-counter n c.shape_of-shape.result c.shape_of-shape.ensures c.requires.0,
     )
-    (put_front (laying-last rest.blocks-2.ensures (laying-put first.counter_module-second.ensures one)))
+    (put_front (laying-last c.blocks-2.ensures (laying-put c.counter_module-second.ensures one)))
 
 pub file_spec : {M : Type 1} → statement M
 file_spec =

@@ -20,18 +20,17 @@ decreases-loop width bytes₀ at at₀ left₀ level₀ bits₀ count₀ below�
 
 loop-holds : tie.Need-loop-left-init invariant-loop decreases-loop
 unfolding counter_module
-loop-holds c = parting-start c.before.args.width c.before.requires.0 c.before.requires.1
+loop-holds c = parting-start c.args.width c.requires.0 c.requires.1
 
 -- In a turn a digit is left.
-within : (c : tie.In-loop-left invariant-loop decreases-loop) → c.before.loop-left.level ≤ 6
-within c = level_within c.before.loop-left.invariant.running c.loop-left-test.true
+within : (c : tie.In-loop-left invariant-loop decreases-loop) → c.loop-left.level ≤ 6
+within c = level_within c.loop-left.invariant.running c.loop-left-test.true
 
 part-requires : tie.Need-part-at-requires invariant-loop decreases-loop
 part-requires c κs =
-    let digit = c.before in
-    let parting = digit.before.before.loop-left.invariant in
-    let most = within digit.before in
-    (most, bits-within parting digit.if-left-eq1.true, omega arith, omega arith, part_room parting digit.if-left-eq1.true)
+    let parting = c.loop-left.invariant in
+    let most = within c.before.before in
+    (most, bits-within parting c.if-left-eq1.true, omega arith, omega arith, part_room parting c.if-left-eq1.true)
 
 -- Behind a part's block is still that turn.
 abbrev turn : tie.After-bits_of-bits invariant-loop decreases-loop → tie.In-loop-left invariant-loop decreases-loop
@@ -39,20 +38,19 @@ turn c = c.before.before.before.before.before.before
 
 add-bits : tie.Need-overflow_add-bits invariant-loop decreases-loop
 add-bits c =
-    let digit = c.before.before.before.before.before in
-    omega (arith, bits-within (turn c).before.loop-left.invariant digit.if-left-eq1.true, c.bits_of-bits.ensures)
+    omega (arith, bits-within c.loop-left.invariant c.if-left-eq1.true, c.bits_of-bits.ensures)
 
 loop-again : tie.Need-loop-left-preserved invariant-loop decreases-loop
 loop-again c =
-    let parting = c.before.before.loop-left.invariant in
+    let parting = c.loop-left.invariant in
     ⊎_elim
     (λ w. rw (w.6, w.7, w.8, w.9, w.10) (parting-one parting w.0.taken w.5.ensures.0 w.2.ensures))
-    (λ w. rw (w.1, w.2, w.3, w.4, w.5) (parting-zero parting c.before.loop-left-test.true w.0.left))
+    (λ w. rw (w.1, w.2, w.3, w.4, w.5) (parting-zero parting c.loop-left-test.true w.0.left))
     c.if-left-eq1.branch
 
 returns : tie.Need-returns invariant-loop decreases-loop
 unfolding counter_module
-returns c = laying-all c.before.loop-left.invariant.laying (no_parts _ _ _ _ _ c.loop-left-test.false)
+returns c = laying-all c.loop-left.invariant.laying (no_parts _ _ _ _ _ c.loop-left-test.false)
 
 pub parts_spec : {M : Type 1} → statement M
 parts_spec =
@@ -64,11 +62,11 @@ parts_spec =
     part-requires
     (λ c κs. within c.before.before.before.before.before)
     add-bits
-    (λ c. omega (arith, within (turn c)))
-    (λ c. omega (arith, within (turn c)))
-    (λ c. omega (arith, within (turn c)))
+    (λ c. omega (arith, within c.before.before.before.before.before.before))
+    (λ c. omega (arith, within c.before.before.before.before.before.before))
+    (λ c. omega (arith, within c.before.before.before.before.before.before))
     (λ c. omega (arith, within c.before))
     (λ c. omega arith)
     loop-again
-    (λ c. laying-length c.before.loop-left.invariant.laying)
+    (λ c. laying-length c.loop-left.invariant.laying)
     returns)

@@ -15,20 +15,19 @@ abbrev decreases-loop : tie.decreases-loop-left
 decreases-loop width left₀ level₀ count₀ below₀ occurrences₀ left level count below occurrences = left
 
 -- In a turn a digit is left.
-within : (c : tie.In-loop-left invariant-loop decreases-loop) → c.before.loop-left.level ≤ 6
-within c = level_within c.before.loop-left.invariant.running c.loop-left-test.true
+within : (c : tie.In-loop-left invariant-loop decreases-loop) → c.loop-left.level ≤ 6
+within c = level_within c.loop-left.invariant.running c.loop-left-test.true
 
 loop-again : tie.Need-loop-left-preserved invariant-loop decreases-loop
 loop-again c =
-    let turn = c.before in
-    let shaping = turn.before.loop-left.invariant in
+    let shaping = c.loop-left.invariant in
     ⊎_elim
     (λ w. rw (w.1, w.2, w.3) (shaping_one shaping w.0.taken))
-    (λ w. rw (w.1, w.2, w.3) (shaping_zero shaping turn.loop-left-test.true w.0.left))
+    (λ w. rw (w.1, w.2, w.3) (shaping_zero shaping c.loop-left-test.true w.0.left))
     c.if-left-eq1.branch
 
 returns : tie.Need-returns invariant-loop decreases-loop
-returns c = shaping_end c.before.loop-left.invariant c.loop-left-test.false
+returns c = shaping_end c.loop-left.invariant c.loop-left-test.false
 
 pub shape_of_spec : {M : Type 1} → statement M
 shape_of_spec =

@@ -26,43 +26,39 @@ decreases-loop width bytes₀ at at₀ carry-in₀ i₀ bytes at' carry_in i = w
 
 loop-holds : tie.Need-loop-i-init invariant-loop decreases-loop
 unfolding ripple_adder cells_numbers
-loop-holds c =
-    let start = c.before in (
-      omega arith,
-      laying-none start.args.bytes-1.now start.args.at (ap (each number_bytes) (all-cells start.args.width)) start.requires.1.fits,
-    )
+loop-holds c = (
+  omega arith,
+  laying-none c.args.bytes.now c.args.at (ap (each number_bytes) (all-cells c.args.width)) c.requires.1.fits,
+)
 
 -- In a turn the bytes of a cell come first of those left.
 next : (c : tie.In-loop-i invariant-loop decreases-loop)
-    → (let n = c.before.before.before.args.width in
-    let loop = c.before.loop-i in
+    → (let n = c.args.width in
+    let loop = c.loop-i in
     each number_bytes (cells_from n loop.i loop.carry_in)
     ≡ each number_bytes (cell_of n loop.i loop.carry_in) ++ each number_bytes (cells_from n (loop.i + 1) (3 * n + 1 + loop.i)))
 next c =
-    let loop = c.before.loop-i in
-    bytes-of-piece _ _ (rest-of-cells c.before.before.before.args.width loop.i loop.carry_in c.loop-i-test.true)
+    let loop = c.loop-i in
+    bytes-of-piece _ _ (rest-of-cells c.args.width loop.i loop.carry_in c.loop-i-test.true)
 
 put-list-requires : tie.Need-put_list-at-requires invariant-loop decreases-loop
 put-list-requires c κs =
-    let turn = c.before.before in
-    let loop = turn.before.loop-i in
-    let start = turn.before.before.before in (
-      small-cell start.args.width loop.i loop.carry_in start.requires.0 turn.loop-i-test.true loop.invariant.0,
-      omega (arith, laying-room loop.invariant.1 (each number_bytes (cell_of start.args.width loop.i loop.carry_in)) _ (next turn)),
+    let loop = c.loop-i in (
+      small-cell c.args.width loop.i loop.carry_in c.requires.0 c.loop-i-test.true loop.invariant.0,
+      omega (arith, laying-room loop.invariant.1 (each number_bytes (cell_of c.args.width loop.i loop.carry_in)) _ (next c.before.before)),
     )
 
 loop-again : tie.Need-loop-i-preserved invariant-loop decreases-loop
 loop-again c =
-    let turn = c.before.before.before.before.before in
-    let loop = turn.before.loop-i in
-    (omega arith, laying-more loop.invariant.1 _ _ (next turn) c.before.before.put_list-at.ensures)
+    let loop = c.loop-i in
+    (omega arith, laying-more loop.invariant.1 _ _ (next c.before.before.before.before.before) c.put_list-at.ensures)
 
 returns : tie.Need-returns invariant-loop decreases-loop
 unfolding ripple_adder cells_numbers
 returns c =
-    let loop = c.before.loop-i in
+    let loop = c.loop-i in
     laying-all loop.invariant.1
-    (no_bytes (no_cells c.before.before.before.args.width loop.i loop.carry_in c.loop-i-test.false))
+    (no_bytes (no_cells c.args.width loop.i loop.carry_in c.loop-i-test.false))
 
 pub cells_spec : {M : Type 1} → statement M
 cells_spec =
@@ -85,5 +81,5 @@ cells_spec =
     (λ c. omega arith)
     (λ c. omega arith)
     loop-again
-    (λ c. laying-length c.before.loop-i.invariant.1)
+    (λ c. laying-length c.loop-i.invariant.1)
     returns)

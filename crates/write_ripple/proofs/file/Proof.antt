@@ -13,20 +13,10 @@ use Rattle.write_ripple.proofs.Modules.{file-of-modules}
 use Rattle.write_ripple.proofs.file.Statement.{statement}
 use Rattle.write_ripple.proofs.file.Tie as tie
 
--- The places behind the count of modules and behind modules 18 and 17.
-abbrev start : tie.After-copy-first → tie.Start
-start c = c.before.before.before.before
-
-abbrev behind-count : tie.After-ripple_adder-second → tie.After-copy-first
-behind-count c = c.before.before.before.before
-
-abbrev behind-first : tie.After-full_adder-third → tie.After-ripple_adder-second
-behind-first c = c.before.before.before.before
-
 room : (c : tie.Start)
     → Room
     (3 ∷ (each number_bytes (module_numbers (ripple_adder c.args.width)) ++ (module_numbers full_adder ++ module_numbers half_adder)))
-    c.args.bytes-1.now
+    c.args.bytes.now
     0
 room c =
     let n = c.args.width in
@@ -34,34 +24,24 @@ room c =
 
 ripple-adder-requires : tie.Need-ripple_adder-second-requires
 ripple-adder-requires c κs =
-    let count = c.before.before.before in
-    let one = laying-put count.copy-first.ensures (laying-start (room (start count))) in
-    ((start count).requires.1, room-first _ (laying-left one))
+    let one = laying-put c.copy-first.ensures (laying-start (room c.before.before.before.before.before.before.before.before)) in
+    (c.requires.1, room-first _ (laying-left one))
 
 full-adder-requires : tie.Need-full_adder-third-requires
 full-adder-requires c κs =
-    let first = c.before.before.before in
-    let count = behind-count first in
-    let one = laying-put count.copy-first.ensures (laying-start (room (start count))) in
-    room-first _ (laying-left (laying-put first.ripple_adder-second.ensures one))
+    let one = laying-put c.copy-first.ensures (laying-start (room c.before.before.before.before.before.before.before.before.before.before.before.before)) in
+    room-first _ (laying-left (laying-put c.ripple_adder-second.ensures one))
 
 half-adder-requires : tie.Need-half_adder-requires
 half-adder-requires c κs =
-    let second = c.before.before.before in
-    let first = behind-first second in
-    let count = behind-count first in
-    let one = laying-put count.copy-first.ensures (laying-start (room (start count))) in
-    laying-left (laying-put second.full_adder-third.ensures (laying-put first.ripple_adder-second.ensures one))
+    let one = laying-put c.copy-first.ensures (laying-start (room c.before.before.before.before.before.before.before.before.before.before.before.before.before.before.before.before)) in
+    laying-left (laying-put c.full_adder-third.ensures (laying-put c.ripple_adder-second.ensures one))
 
 returns : tie.Need-returns
 returns c =
-    let third = c.before.before in
-    let second = third.before.before.before.before in
-    let first = behind-first second in
-    let count = behind-count first in
-    let one = laying-put count.copy-first.ensures (laying-start (room (start count))) in
-    let three = laying-put second.full_adder-third.ensures (laying-put first.ripple_adder-second.ensures one) in
-    rw (file-of-modules (start count).args.width) (put_front (laying-last third.half_adder.ensures three))
+    let one = laying-put c.copy-first.ensures (laying-start (room c.before.before.before.before.before.before.before.before.before.before.before.before.before.before.before.before.before.before.before)) in
+    let three = laying-put c.full_adder-third.ensures (laying-put c.ripple_adder-second.ensures one) in
+    rw (file-of-modules c.args.width) (put_front (laying-last c.half_adder.ensures three))
 
 pub file_spec : {M : Type 1} → statement M
 file_spec =

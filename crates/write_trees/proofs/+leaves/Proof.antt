@@ -27,12 +27,12 @@ below t = and 0 leaves-kinds.ps (falls 0 leaves-kinds.ps ◌<◌ μ-leaves t) le
 module _ (t : ℕ) where
   -- The node, and its bits.
   joined : (c : lts.In-Node (split-reads.Asked, split-reads.Learnt, below t, leaves.Post) (given t) leaves.Post)
-      → (let told = c.before.x-1.given.0 in
+      → (let told = c.before.x.given.0 in
       Joined c.before.before.before.before.args.tree told.0 told.1.0 told.1.1.0)
-  joined c = subst (Parted c.before.before.before.before.args.tree) c.before.x-1.given.1 c.before.before.before.split.ensures
+  joined c = subst (Parted c.before.before.before.before.args.tree) c.before.x.given.1 c.before.before.before.split.ensures
 
   bits : (c : lts.In-Node (split-reads.Asked, split-reads.Learnt, below t, leaves.Post) (given t) leaves.Post)
-      → (let told = c.before.x-1.given.0 in
+      → (let told = c.before.x.given.0 in
       Counted (tree_of c.before.before.before.before.args.tree) (tree_of told.0) (tree_of told.1.0) (tree_of told.1.1.0))
   bits c = counted _ _ _ (joined c).is
 
@@ -43,33 +43,32 @@ pub +leaves_spec : {M : Type 1} → statement M
     (λ c κs. c.requires.1.0)
     (λ c. search rules)
     (λ c. search rules)
-    (λ c κs. let entry = c.before.before.before.before in let b = bits t c in (omega (arith, entry.requires), ((joined t c).low, omega (arith, entry.requires))))
+    (λ c κs. let b = bits t c in (omega (arith, c.before.before.before.before.requires), ((joined t c).low, omega (arith, c.before.before.before.before.requires))))
     (λ c κs.
-    let node = c.before in
-    let entry = node.before.before.before.before in
-    let b = bits t node in
-    (omega (arith, entry.requires), ((joined t node).middle, omega (arith, entry.requires))))
+    let c.before.before.before.before = c.before.before.before.before.before in
+    let b = bits t c.before in
+    (omega (arith, c.before.before.before.before.requires), ((joined t c.before).middle, omega (arith, c.before.before.before.before.requires))))
     (λ c.
-    let node = c.before.before in
-    omega (arith, node.before.before.before.before.requires, bits t node, c.leaves-in-Node.ensures, c.before.leaves.ensures))
+    let c.before = c.before.before in
+    omega (arith, c.before.before.before.before.before.requires, bits t c.before, c.leaves2.ensures, c.before.leaves.ensures))
     (λ c κs.
-    let node = c.before.before in
-    let entry = node.before.before.before.before in
-    let b = bits t node in
-    (omega (arith, entry.requires), ((joined t node).high, omega (arith, entry.requires))))
+    let c.before = c.before.before in
+    let c.before.before.before.before = c.before.before.before.before.before in
+    let b = bits t c.before in
+    (omega (arith, c.before.before.before.before.requires), ((joined t c.before).high, omega (arith, c.before.before.before.before.requires))))
     (λ c.
-    let node = c.before.before.before in
+    let c.before = c.before.before.before in
     omega (
       arith,
-      node.before.before.before.before.requires,
-      bits t node,
-      c.leaves-in-Node-2.ensures,
-      c.before.leaves-in-Node.ensures,
+      c.before.before.before.before.before.requires,
+      bits t c.before,
+      c.leaves3.ensures,
+      c.before.leaves2.ensures,
       c.before.before.leaves.ensures,
     ))
     (λ c.
-    let entry = c.before.before.before in
-    one_bit (subst (Parted entry.args.tree) c.enum_told-1.given.1 c.before.before.split.ensures))
+    let c.before.before.before.before = c.before.before.before in
+    one_bit (subst (Parted c.before.before.before.before.args.tree) c.enum_told.given.1 c.before.before.split.ensures))
     (λ c.
-    let node = c.before.before.before in
-    omega (arith, bits t node, c.leaves-in-Node-2.ensures, c.before.leaves-in-Node.ensures, c.before.before.leaves.ensures))
+    let c.before = c.before.before.before in
+    omega (arith, bits t c.before, c.leaves3.ensures, c.before.leaves2.ensures, c.before.before.leaves.ensures))

@@ -14,10 +14,9 @@ decreases-loop width height₀ height = 5 - height
 
 -- A height that is too low is below 5.
 further : (c : tie.In-loop-height invariant-loop decreases-loop)
-    → (let loop = c.before.before in Searching loop.before.args.width (loop.loop-height.height + 1))
+    → (Searching c.args.width (c.loop-height.height + 1))
 further c =
-    let loop = c.before.before in
-    searching_more loop.loop-height.invariant loop.before.requires (omega (arith, c.loop-height-test.true, c.before.leaves.ensures))
+    searching_more c.loop-height.invariant c.requires (omega (arith, c.loop-height-test.true, c.leaves.ensures))
 
 pub height_spec : {M : Type 1} → statement M
 height_spec =
@@ -32,4 +31,4 @@ height_spec =
     further
     (λ c.
     let loop = c.before.before in
-    (searching_end loop.loop-height.invariant (omega (arith, c.loop-height-test.false, c.before.leaves.ensures)), loop.loop-height.invariant.low)))
+    (searching_end loop.loop.invariant (omega (arith, c.if1.false, c.before.leaves.ensures)), loop.loop.invariant.low)))

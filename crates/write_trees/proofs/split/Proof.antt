@@ -11,22 +11,22 @@ use Rattle.write_trees.proofs.split.Statement.{statement}
 use Rattle.write_trees.proofs.split.Tie as tie
 
 returns : tie.Need-returns-then-late-lt3
-returns c = rw c.before.before.tree-1.given.1 (early-leaf _ _ c.if-late-lt3.true)
+returns c = rw c.in-Grown.is (early-leaf _ _ c.if-late-lt3.true)
 
 returns-2 : tie.Need-returns-then-height-eq0
-returns-2 c = rw (c.before.before.before.tree-1.given.1, c.if-height-eq0.true) (low-leaf _)
+returns-2 c = rw (c.in-Grown.is, c.if-height-eq0.true) (low-leaf _)
 
 returns-3 : tie.Need-returns-then-height-eq0-2
-returns-3 c = rw (c.before.before.tree-in-Spine-1.given.1, c.if-height-eq0-2.true) (spine-leaf _)
+returns-3 c = rw (c.in-Spine.is, c.if-height-eq0-2.true) (spine-leaf _)
 
 -- The step and the height of a spine.
-steps : (c : tie.In-Spine) → c.before.tree-in-Spine-1.given.0.0 + c.before.tree-in-Spine-1.given.0.1.0 ≤ 100
-steps c = subst Sound c.before.tree-in-Spine-1.given.1 c.before.before.before.requires
+steps : (c : tie.In-Spine) → c.in-Spine.step + c.in-Spine.height ≤ 100
+steps c = subst Sound c.in-Spine.is c.requires
 
 returns-4 : tie.Need-returns-else-height-eq0
 returns-4 c =
     record {
-      is = rw c.before.before.before.tree-1.given.1 (grown-node _ _ (omega arith) c.if-height-eq0.false);
+      is = rw c.in-Grown.is (grown-node _ _ (omega arith) c.if-height-eq0.false);
       low = tt;
       middle = tt;
       high = tt;
@@ -36,7 +36,7 @@ returns-5 : tie.Need-returns-else-height-eq0-2
 returns-5 c =
     let h = steps c.before in
     record {
-      is = rw c.before.before.tree-in-Spine-1.given.1 (spine-node _ _ c.if-height-eq0-2.false);
+      is = rw c.in-Spine.is (spine-node _ _ c.if-height-eq0-2.false);
       low = tt;
       middle = tt;
       high = omega arith;

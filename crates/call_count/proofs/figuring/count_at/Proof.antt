@@ -6,8 +6,7 @@ use Rattle.call_count.proofs.figuring.count_at.Tie as tie
 
 returns-2 : tie.Need-returns
 returns-2 c s =
-    let figured = c.before.before.before.before in
-    answer-counts s _ _ figured.before.before.before.if-scratch-site.false figured.figures_at-figures.result (figured.figures_at-figures.ensures s)
+    answer-counts s _ _ c.if-scratch-site.false c.figures_at-figures.result (c.figures_at-figures.ensures s)
 
 pub count_at_spec : {M : Type 1} → statement M
 count_at_spec =
@@ -15,7 +14,7 @@ count_at_spec =
     (tie.spec
     (λ c. search rules)
     (λ c κs. search rules)
-    (λ c s. short-counts s _ _ c.before.if-scratch-site.true c.refused.ensures)
+    (λ c s. short-counts s _ _ c.if-scratch-site.true c.refused.ensures)
     (λ c κs. search rules)
     (λ c. search rules)
     (λ c. search rules)

@@ -16,92 +16,77 @@ use Rattle.call_count.proofs.Outcomes.{scratch-is, figures-are}
 use Rattle.call_count.proofs.figuring.figures_at.Statement.{statement}
 use Rattle.call_count.proofs.figuring.figures_at.Tie as tie
 
--- Back from each walk to what was done before it, and to the function's entry.
-abbrev start : tie.After-slice_known-2-1 → tie.Start
-start c = c.before.before.before.before.before
-
 abbrev entered : tie.After-module_at-header → tie.Start
-entered c = start c.before.before
+entered c = c.before.before.before.before.before.before.before
 
 abbrev header : tie.After-delays-delays → tie.After-module_at-header
-header c = let figured = c.before.before in figured.before.before.before
+header c = c.before.before.before.before.before
 
 abbrev timed : tie.After-weigh-weighed → tie.After-delays-delays
-timed c = let lent = c.before.before.before in lent.before.before.before.before
-
-abbrev weighed : tie.After-reached-1 → tie.After-weigh-weighed
-weighed c = c.before.before.before.before.before
+timed c = c.before.before.before.before.before.before.before
 
 cast-inputs : tie.Need-overflow_cast-inputs
 cast-inputs c =
-    let s = (entered c.before).requires.0 in
-    omega (arith, inputs_are s c.before.module_at-header.ensures, (module_within s).inputs.count)
+    let s = c.requires.0 in
+    omega (arith, inputs_are s c.module_at-header.ensures, (module_within s).inputs.count)
 
 sub-outputs : tie.Need-overflow_sub-outputs
 sub-outputs c =
-    let headed = c.before.before in
-    omega (arith, outputs-are (entered headed).requires.0 headed.module_at-header.ensures)
+    omega (arith, outputs-are c.requires.0 c.module_at-header.ensures)
 
 cast-outputs : tie.Need-overflow_cast-outputs
 cast-outputs c =
-    let headed = c.before.before in
-    let s = (entered headed).requires.0 in
-    omega (arith, outputs-are s headed.module_at-header.ensures, (module_within s).outputs.count)
+    let s = c.requires.0 in
+    omega (arith, outputs-are s c.module_at-header.ensures, (module_within s).outputs.count)
 
 -- Delays are bytes.
-byte : (c : tie.Start) (kind : ℕ) → Fits w8 (get_or c.args.family.delays-delays kind 0)
+byte : (c : tie.Start) (kind : ℕ) → Fits w8 (get_or c.args.family.delays kind 0)
 byte c kind = search rules
 
-family-small : (c : tie.Start) (kind : ℕ) → delay_in c.args.family.delays-delays kind ≤ 255
+family-small : (c : tie.Start) (kind : ℕ) → delay_in c.args.family.delays kind ≤ 255
 family-small c kind = omega (arith, byte c kind)
 
 -- Both lists have the module's room.
 delays-requires : tie.Need-delays-delays-requires
 delays-requires c κs =
-    let from = entered c.before.before.before.before in
-    let s = from.requires.0 in
-    (callable s from.requires.1.0, callable s (loads-roomy from.args.loads-1.now s from.requires.1.1))
+    let s = c.requires.0 in
+    (callable s c.requires.1.0, callable s (loads-roomy c.args.loads.now s c.requires.1.1))
 
 weigh-requires : tie.Need-weigh-weighed-requires
 weigh-requires c κs =
-    let lent = c.before.before in
-    let ran = lent.before.before.before.before in
-    let given = (entered (header ran)).requires in (
+    let given = (entered (header c.before.before.before.before.before.before)).requires in (
       loadable given.0,
       (
         countable given.0,
         (
-          omega (arith, ran.delays-delays.auto.1.1.1.1.1.1.0, given.1.0),
-          omega (arith, ran.delays-delays.auto.1.1.1.1.1.1.1.0, given.1.1),
+          omega (arith, c.delays-delays.auto.1.1.1.1.1.1.0, given.1.0),
+          omega (arith, c.delays-delays.auto.1.1.1.1.1.1.1.0, given.1.1),
         ),
       ),
     )
 
 gates-of-requires : tie.Need-gates_of-gates-requires
 gates-of-requires c κs =
-    let w = weighed c in
-    let s = (entered (header (timed w))).requires.0 in
-    tally-fits s (tally-is s w.weigh-weighed.ensures.1.0)
+    let s = (entered (header (timed c.before.before.before.before.before))).requires.0 in
+    tally-fits s (tally-is s c.weigh-weighed.ensures.1.0)
 
 returns : tie.Need-returns
 returns c s =
-    let summed = c.before in
-    let w = weighed summed.before in
-    let headed = header (timed w) in
-    let given = (entered headed).requires in
-    let ran = (timed w).delays-delays.ensures in
-    let tally = tally-is s w.weigh-weighed.ensures.1.0 in
+    let headed = header (timed c.before.before.before.before.before.before.before) in
+    let given = headed.before.before.before.before.before.before.before.pre in
+    let ran = (timed c.before.before.before.before.before.before.before).delays.ensures in
+    let tally = tally-is s c.weigh-weighed.ensures.1.0 in
     record {
       is =
           figures-are s _
-          (inputs_are s headed.module_at-header.ensures)
-          (omega (arith, outputs-are s headed.module_at-header.ensures))
+          (inputs_are s headed.module-at.ensures)
+          (omega (arith, outputs-are s headed.module-at.ensures))
           tally
-          (gates-are s tally summed.gates_of-gates.ensures)
+          (gates-are s tally c.gates_of-gates.ensures)
           (unit-is s (ran.0 (callable s given.1.0)))
-          (load_is s w.weigh-weighed.ensures.0)
-          (family-is s _ (family-small (entered headed)) (ran.1.0 (callable s (loads-roomy (entered headed).args.loads-1.now s given.1.1))));
-      clean = scratch-is s _ ran.1.1 w.weigh-weighed.ensures.1.1;
+          (load_is s c.weigh-weighed.ensures.0)
+          (family-is s _ (family-small headed.before.before.before.before.before.before.before) (ran.1.0 (callable s (loads-roomy headed.before.before.before.before.before.before.before.args.loads.now s given.1.1))));
+      clean = scratch-is s _ ran.1.1 c.weigh-weighed.ensures.1.1;
     }
 
 pub figures_at_spec : {M : Type 1} → statement M
@@ -109,9 +94,9 @@ figures_at_spec =
     tie.close
     (tie.spec
     (λ c. search rules)
-    (λ c. omega (arith, in_starts (scene (start c).requires.0)))
-    (λ c. in_starts (scene (start c.before).requires.0))
-    (λ c κs. module_there (scene (start c.before).requires.0))
+    (λ c. omega (arith, in_starts (scene c.requires.0)))
+    (λ c. in_starts (scene c.requires.0))
+    (λ c κs. module_there (scene c.requires.0))
     cast-inputs
     sub-outputs
     cast-outputs

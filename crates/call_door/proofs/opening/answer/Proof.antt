@@ -3,7 +3,7 @@ use Rattle.call_door.proofs.opening.answer.Statement.{statement}
 use Rattle.call_door.proofs.opening.answer.Tie as tie
 
 ask-short-requires : tie.Need-ask_short-requires
-ask-short-requires c κs = c.before.before.before.is_short.ensures c.before.before.if-is_short.true
+ask-short-requires c κs = c.is_short.ensures c.if-is_short.true
 
 pub answer_spec : {M : Type 1} → statement M
 answer_spec =

@@ -14,31 +14,22 @@ use Rattle.call_door.proofs.opening.ask_large.Tie as tie
 abbrev made : tie.After-slots-1 → tie.After-slice_known-2-1
 made c = c.before.before.before.before.before.before.before.before
 
-abbrev prepared : tie.After-slots-2-1 → tie.After-prepare
-prepared c = c.before.before.before.before.before.before.before.before
-
-abbrev counted : tie.After-rooms-in-Ready-1 → tie.In-Ready-2
-counted c = c.before.before.before.before.before.before.before
-
 ask-open-requires : tie.Need-ask_open-requires
 ask-open-requires c κs =
-    let known = counted c.before.before in
-    let p = (prepared known.before.before).prepare in (
-      record { file = _; opened = opened _ _ _ _ _ _ _ p.result p.ensures _ known.modules-1.given.1 },
+    let p = c.prepare in (
+      record { file = _; opened = opened _ _ _ _ _ _ _ p.result p.ensures _ c.in-Ready.is },
       omega (arith, p.kept.1.0, length-replicate {A = ℕ} 65535 0),
     )
 
 returns : tie.Need-returns-in-Refused
 returns c =
-    let p = (prepared c.before.before.before.before).prepare in
-    refused_meets _ (broken _ _ _ _ _ _ _ p.result p.ensures _ _ c.before.before.number-1.given.1) c.refused.ensures
+    let p = c.prepare in
+    refused_meets _ (broken _ _ _ _ _ _ _ p.result p.ensures _ _ c.in-Refused.is) c.refused.ensures
 
 returns-2 : tie.Need-returns-in-Ready
 returns-2 c =
-    let done = c.before.before.before.before in
-    let known = counted done.before.before.before in
-    let p = (prepared known.before.before).prepare in
-    done.ask_open.ensures (record { file = _; opened = opened _ _ _ _ _ _ _ p.result p.ensures _ known.modules-1.given.1 })
+    let p = c.prepare in
+    c.ask_open.ensures (record { file = _; opened = opened _ _ _ _ _ _ _ p.result p.ensures _ c.in-Ready.is })
 
 pub ask_large_spec : {M : Type 1} → statement M
 ask_large_spec =
@@ -52,7 +43,7 @@ ask_large_spec =
     (λ c. search rules)
     (λ c. search rules)
     (λ c. search rules)
-    (λ c κs. any-space _ (bytes-all _ (λ i. ((made c).before.before.before.shared_slice_known-1.given i).fits)))
+    (λ c κs. any-space _ (bytes-all _ (λ i. (c.shared_slice_known-1.given i).fits)))
     (λ c. search rules)
     (λ c κs. search rules)
     (λ c. search rules)

@@ -6,15 +6,14 @@ use Rattle.call_door.proofs.working.in_short.Statement.{statement}
 use Rattle.call_door.proofs.working.in_short.Tie as tie
 
 returns : tie.Need-returns-in-Count
-returns c _ = rw c.enum_told-1.given.1 (omega arith)
+returns c _ = rw c.in-Count.is (omega arith)
 
 returns-2 : tie.Need-returns-then-size-le832
-returns-2 c e = rw c.before.enum_told-in-Flatten-1.given.1 (c.if-size-le832.true, leb-true _ _ e)
+returns-2 c e = rw c.in-Flatten.is (c.if-size-le832.true, leb-true _ _ e)
 
 returns-3 : tie.Need-returns-else-size-le832
 returns-3 c e =
-    let start = c.before.before.before in
-    absurd (omega (arith, leb-true start.args.site.size 832 e, c.if-size-le832.false))
+    absurd (omega (arith, leb-true c.args.site.size 832 e, c.if-size-le832.false))
 
 pub in_short_spec : {M : Type 1} → statement M
 in_short_spec = tie.close (tie.spec (λ c. search rules) (λ c. search rules) returns returns-2 returns-3)

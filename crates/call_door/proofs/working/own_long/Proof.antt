@@ -9,14 +9,11 @@ use Rattle.call_door.proofs.working.own_long.Tie as tie
 
 returns : tie.Need-returns-in-Count
 returns c s values =
-    let done = c.before.before.before in
-    counts s (ap (λ (k : Kind). Own k) done.before.before.enum_told-1.given.1) c.counted.ensures (done.count_large.ensures s)
+    counts s (ap (λ (k : Kind). Own k) c.in-Count.is) c.counted.ensures (c.count_large.ensures s)
 
 returns-2 : tie.Need-returns-in-Flatten
 returns-2 c s values =
-    let written = c.before in
-    let done = written.before.before.before.before in
-    flattens s (ap (λ (k : Kind). Own k) done.before.before.before.enum_told-in-Flatten-1.given.1) c.wrote.ensures (done.flatten_at.ensures s)
+    flattens s (ap (λ (k : Kind). Own k) c.in-Flatten.is) c.wrote.ensures (c.flatten_at.ensures s)
 
 pub own_long_spec : {M : Type 1} → statement M
 own_long_spec =

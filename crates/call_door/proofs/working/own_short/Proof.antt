@@ -7,26 +7,19 @@ use Rattle.call_door.proofs.Works.{small, counts, flattens}
 use Rattle.call_door.proofs.working.own_short.Statement.{statement}
 use Rattle.call_door.proofs.working.own_short.Tie as tie
 
-abbrev entered : tie.After-slice_known-2-1 → tie.Start
-entered c = c.before.before.before.before.before
-
 -- A flattening has short lists only where the module is small.
 flatten-small-requires : tie.Need-flatten_small-requires
 flatten-small-requires c κs =
-    let told = c.before.before in
-    let given = (entered told.before.before).requires in
-    (given.0, small _ told.enum_told-in-Flatten-1.given.1 given.1.1)
+    let given = c.requires in
+    (given.0, small _ c.in-Flatten.is given.1.1)
 
 returns : tie.Need-returns-in-Count
 returns c s values =
-    let done = c.before.before.before in
-    counts s (ap (λ (k : Kind). Own k) done.before.before.enum_told-1.given.1) c.counted.ensures (done.count_small.ensures s)
+    counts s (ap (λ (k : Kind). Own k) c.in-Count.is) c.counted.ensures (c.count_small.ensures s)
 
 returns-2 : tie.Need-returns-in-Flatten
 returns-2 c s values =
-    let written = c.before in
-    let done = written.before.before.before.before in
-    flattens s (ap (λ (k : Kind). Own k) done.before.before.before.enum_told-in-Flatten-1.given.1) c.wrote.ensures (done.flatten_small.ensures s)
+    flattens s (ap (λ (k : Kind). Own k) c.in-Flatten.is) c.wrote.ensures (c.flatten_small.ensures s)
 
 pub own_short_spec : {M : Type 1} → statement M
 own_short_spec =

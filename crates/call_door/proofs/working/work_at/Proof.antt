@@ -7,39 +7,28 @@ use Rattle.call_door.proofs.working.work_at.Tie as tie
 
 returns : tie.Need-returns-then-image-gt1024
 returns c s =
-    let done = c.before.before.before.before in
-    let known = done.before.before.before.before in
-    told s (Own _) known.before.task-in-Own-1.given.1 (done.own_long.ensures s _)
+    told s (Own _) c.in-Own.is (c.own_long.ensures s _)
 
 own-short-requires : tie.Need-own_short-requires
 own-short-requires c κs =
-    let small = c.before.before in
-    (search rules, (search rules, small.before.in_short.ensures small.if-in_short.true))
+    (search rules, (search rules, c.in_short.ensures c.if-in_short.true))
 
 -- Where it was asked whether short lists serve, the task is known.
 returns-2 : tie.Need-returns-then-in_short
 returns-2 c s =
-    let done = c.before.before.before.before in
-    let asked = done.before.before.before.before in
-    told s (Own _) asked.before.before.before.task-in-Own-1.given.1 (done.own_short.ensures s _)
+    told s (Own _) c.in-Own.is (c.own_short.ensures s _)
 
 returns-3 : tie.Need-returns-in-Evaluate
 returns-3 c s =
-    let written = c.before in
-    let done = written.before.before.before.before in
-    runs s done.before.before.before.enum_told-1.given.1 c.ran.ensures (done.run_at.ensures s)
+    runs s c.in-Evaluate.is c.ran.ensures (c.run_at.ensures s)
 
 returns-4 : tie.Need-returns-in-Rows
 returns-4 c s =
-    let written = c.before in
-    let done = written.before.before.before.before in
-    runs-rows s _ done.before.before.before.before.task-1.given.1 c.ran-in-Rows.ensures (done.run_at-in-Rows.ensures s)
+    runs-rows s _ c.in-Rows.is c.ran-in-Rows.ensures (c.run_at-in-Rows.ensures s)
 
 returns-5 : tie.Need-returns-else-in_short
 returns-5 c s =
-    let done = c.before.before.before.before in
-    let asked = done.before.before.before.before in
-    told s (Own _) asked.before.before.before.task-in-Own-1.given.1 (done.own_long-in-Own.ensures s _)
+    told s (Own _) c.in-Own.is (c.own_long-in-Own.ensures s _)
 
 pub work_at_spec : {M : Type 1} → statement M
 work_at_spec =

@@ -39,9 +39,9 @@ shared-slice-read-if1 c = omega arith
 
 returns : tie.Need-returns-then-values-i-gt-FLOATING invariant-loop decreases-loop
 returns c =
-    let l = c.before.before.before.loop-i in
-    let v = c.before.before.before.before.args.values.now in
-    omega (arith, above v l.i c.before.before.loop-i-test.true c.if-values-i-gt-FLOATING.true)
+    let l = c.loop-i in
+    let v = c.args.values.now in
+    omega (arith, above v l.i c.loop-i-test.true c.if-values-i-gt-FLOATING.true)
 
 add-i : tie.Need-overflow_add-i invariant-loop decreases-loop
 add-i c = omega arith
@@ -51,14 +51,14 @@ loop-less c = omega arith
 
 loop-again : tie.Need-loop-i-preserved invariant-loop decreases-loop
 loop-again c =
-    let l = c.before.before.before.loop-i in
-    let v = c.before.before.before.before.args.values.now in
-    (omega arith, omega (arith, below v l.i c.before.before.loop-i-test.true c.if-values-i-gt-FLOATING.false))
+    let l = c.loop-i in
+    let v = c.args.values.now in
+    (omega arith, omega (arith, below v l.i c.loop-i-test.true c.if-values-i-gt-FLOATING.false))
 
 returns-2 : tie.Need-returns invariant-loop decreases-loop
 returns-2 c =
-    let l = c.before.loop-i in
-    let v = c.before.before.args.values.now in
+    let l = c.loop-i in
+    let v = c.args.values.now in
     omega (arith, none v l.i c.loop-i-test.false)
 
 pub first_above_spec : {M : Type 1} → statement M

@@ -10,19 +10,17 @@ use Rattle.call_look_up.proofs.seeking.seek_with.Tie as tie
 
 -- Back from where the file's modules are noted to the noting, and to the function's entry.
 abbrev noted : tie.In-Modules → tie.After-note
-noted k = k.before.before.before.before.before.before.before
+noted k = k.before.before.before.before.before
 
 abbrev entered : tie.After-note → tie.Start
 entered n = n.before.before.before.before.before.before
 
 shelf :
     (k : tie.In-Modules)
-    → (let n = noted k in
-    Shelved (entered n).args.file.now k.before.modules-1.given.0.0 n.note.last.1.1.0 n.note.last.1.1.1.0)
+    → (Shelved k.args.file.now k.in-Modules.modules k.note.last.1.1.0 k.note.last.1.1.1.0)
 shelf k =
-    let n = noted k in
-    noted-shelved (entered n).args.file.now n.note.last.1.1.0 n.note.last.1.1.1.0 n.note.result n.note.ensures
-    k.before.modules-1.given.0.0 k.before.modules-1.given.1
+    noted-shelved k.args.file.now k.note.last.1.1.0 k.note.last.1.1.1.0 k.note.result k.note.ensures
+    k.in-Modules.modules k.in-Modules.is
 
 -- From the search to where the modules are noted.
 abbrev known : tie.After-find → tie.In-Modules
@@ -30,32 +28,28 @@ known f = f.before.before
 
 finds :
     (f : tie.After-find)
-    → Finds f.find.result (shelf (known f)).ms (entered (noted (known f))).args.number
-finds f = f.find.ensures (searchable (shelf (known f)))
+    → Finds f.find.result (shelf f.before.before).ms f.args.number
+finds f = f.find.ensures (searchable (shelf f.before.before))
 
 abbrev found : tie.In-At → tie.After-find
-found c = c.before.before.before
+found c = c.before
 
-index : (c : tie.In-At) → c.before.k-1.given.0.0 < 128
+index : (c : tie.In-At) → c.in-At.k < 128
 index c =
-    let f = found c in
-    sought_index (shelf (known f)) (entered (noted (known f))).args.number f.find.result (finds f) c.before.k-1.given.0.0 c.before.k-1.given.1
+    sought_index (shelf c.before.before.before) c.args.number c.find.result (finds c.before) c.in-At.k c.in-At.is
 
 returns : tie.Need-returns-in-Refused
 returns c =
-    let n = c.before.before.before.before.before.before.before in
-    noted-refused (entered n).args.file.now n.note.new.1.1.0 n.note.new.1.1.1.0 n.note.result n.note.ensures
-    (entered n).args.number c.before.refusal-1.given.0.0 c.before.refusal-1.given.0.1.0 c.before.refusal-1.given.1
+    noted-refused c.args.file.now c.note.new.1.1.0 c.note.new.1.1.1.0 c.note.result c.note.ensures
+    c.args.number c.in-Refused.refusal c.in-Refused.place c.in-Refused.is
 
 returns-2 : tie.Need-returns-in-Nowhere
 returns-2 c =
-    let f = c.before.before in
-    sought_nowhere (shelf (known f)) (entered (noted (known f))).args.number f.find.result (finds f) c.enum_told-1.given.1
+    sought_nowhere (shelf c.before.before.before) c.args.number c.find.result (finds c.before) c.in-Nowhere.is
 
 returns-3 : tie.Need-returns-in-At
 returns-3 c =
-    let f = found c in
-    sought_at (shelf (known f)) (entered (noted (known f))).args.number f.find.result (finds f) c.before.k-1.given.0.0 c.before.k-1.given.1
+    sought_at (shelf c.before.before.before) c.args.number c.find.result (finds c.before) c.in-At.k c.in-At.is
 
 pub seek_with_spec : {M : Type 1} → statement M
 seek_with_spec =
@@ -77,7 +71,7 @@ seek_with_spec =
     (λ c. omega (arith, index c))
     (λ c.
     let f = found c in
-    sought_order (shelf (known f)) (entered (noted (known f))).args.number f.find.result (finds f) c.before.k-1.given.0.0 c.before.k-1.given.1)
+    sought_order (shelf (known f)) (entered (noted (known f))).args.number f.find.result (finds f) c.before.k.given.0.0 c.before.k.given.1)
     (λ c. search rules)
     returns
     (λ c. search rules)

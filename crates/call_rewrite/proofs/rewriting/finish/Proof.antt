@@ -11,26 +11,22 @@ use Rattle.call_rewrite.proofs.rewriting.finish.Statement.{statement}
 use Rattle.call_rewrite.proofs.rewriting.finish.Tie as tie
 
 abbrev entered : tie.After-put_file-long → tie.Start
-entered p = let known = p.before.before.before.before in known.before.before.before.before.before
+entered p = p.before.before.before.before.before.before.before.before.before
 
 -- It is no longer than the list.
-inside : (p : tie.After-put_file-long) → p.put_file-long.result ≤ length p.put_file-long.new-1.1.1.1.1.1.1.0
+inside : (p : tie.After-put_file-long) → p.put_file-long.result ≤ length p.put_file-long.new.1.1.1.1.1.1.0
 inside p =
     let s = (entered p).requires in
     omega (arith, (p.put_file-long.ensures s).place, s.room, p.put_file-long.auto.1.1.1.1.1.1.0)
 
 returns : tie.Need-returns-then-long-gt65535
 returns c s =
-    let p = c.before.before.before in
-    let out = (entered p).args.out-1.now in
-    too_long (rewrite_file s.ms) (p.put_file-long.ensures s) (length out) out c.if-long-gt65535.true
+    let out = (entered c.before.before.before).args.out.now in
+    too_long (rewrite_file s.ms) (c.put_file-long.ensures s) (length out) out c.if-long-gt65535.true
 
 returns-2 : tie.Need-returns
 returns-2 c s =
-    let a = c.before.before in
-    let left = a.before.before.before in
-    let p = left.before.before.before in
-    short-answers (rewrite_file s.ms) (p.put_file-long.ensures s) (length (entered p).args.out-1.now) (omega (arith, left.if-long-gt65535.false)) a.answer.ensures
+    short-answers (rewrite_file s.ms) (c.put_file-long.ensures s) (length (entered c.before.before.before.before.before.before.before).args.out.now) (omega (arith, c.if-long-gt65535.false)) c.answer.ensures
 
 pub finish_spec : {M : Type 1} → statement M
 finish_spec =
@@ -40,7 +36,7 @@ finish_spec =
     (λ c. search rules)
     returns
     (λ c. inside c.before.before.before)
-    (λ c. sym (length-take-le _ _ (inside c.before.before.before.before)))
+    (λ c. sym (length-take-le _ _ (inside c.before.before.before)))
     (λ c κs. search rules)
     (λ c. search rules)
     (λ c. search rules)

@@ -10,17 +10,15 @@ use Rattle.call_rewrite.proofs.rewriting.rewrite_in.Tie as tie
 
 -- The preparing from where the lists are back, and the function's entry from there.
 abbrev prepared : tie.After-slice_known-9-1 → tie.After-prepare
-prepared c = let half = c.before.before.before.before.before.before.before in half.before.before.before.before.before.before.before
+prepared c = c.before.before.before.before.before.before.before.before.before.before.before.before.before.before
 
 abbrev entered : tie.After-prepare → tie.Start
 entered p =
-    let lists = p.before.before.before.before.before.before.before.before in
-    let slices = lists.before.before.before.before in
-    slices.before.before.before.before.before
+    p.before.before.before.before.before.before.before.before.before.before.before.before.before.before.before.before.before
 
 -- From where all is lent on to where the file is known to be ready.
 abbrev ready : tie.After-rewrite-ready-arg3 → tie.In-Ready-2
-ready c = let lists = c.before.before.before.before in lists.before.before.before.before
+ready c = c.before.before.before.before.before.before.before.before
 
 rewrite-ready-requires : tie.Need-rewrite_ready-requires
 rewrite-ready-requires c κs =
@@ -30,16 +28,16 @@ rewrite-ready-requires c κs =
     record {
       names = p.last.1.1.1.1.1.0;
       rooms = p.last.1.1.1.1.1.1.1.1.0;
-      beside = opened-beside _ _ _ _ _ _ _ _ _ p.result p.ensures _ _ k.modules-1.given.1;
+      beside = opened-beside _ _ _ _ _ _ _ _ _ p.result p.ensures _ _ k.modules.given.1;
       offsets_long = omega (arith, p.kept.1.1.0, length-replicate {A = ℕ} 129 0);
     }
 
 returns : tie.Need-returns-in-Refused
 returns c =
-    let q = prepared c.before.before.before in
+    let q = prepared c.before in
     let p = q.prepare in
-    let out = (entered q).args.out-1.now in
-    file-refused (entered q).args.file.now (length out) out (broken-beside _ _ _ _ _ _ _ _ _ p.result p.ensures _ _ c.before.number-1.given.1)
+    let out = (entered q).args.out.now in
+    file-refused (entered q).args.file.now (length out) out (broken-beside _ _ _ _ _ _ _ _ _ p.result p.ensures _ _ c.in-Refused.is)
 
 pub rewrite_in_spec : {M : Type 1} → statement M
 rewrite_in_spec =
@@ -69,4 +67,4 @@ rewrite_in_spec =
     (λ c. search rules)
     (λ c. search rules)
     (λ c. search rules)
-    (λ c. c.before.before.before.rewrite_ready.ensures))
+    (λ c. c.rewrite_ready.ensures))

@@ -19,10 +19,10 @@ abbrev known : tie.After-own-1 → tie.After-shared_slice_known-1
 known c = c.before.before.before.before.before.before.before.before
 
 abbrev entered : tie.After-own-1 → tie.Start
-entered c = (known c).before
+entered c = c.before.before.before.before.before.before.before.before.before
 
 bytes : (c : tie.After-own-1) → Bytes (entered c).args.file.now
-bytes c = bytes-all (entered c).args.file.now (λ i. ((known c).shared_slice_known-1.given i).fits)
+bytes c = bytes-all (entered c).args.file.now (λ i. (c.shared_slice_known-1.given i).fits)
 
 decide-requires : tie.Need-decide-requires
 decide-requires c κs =
@@ -39,61 +39,48 @@ decide-requires c κs =
 returns : tie.Need-returns-in-Refused
 unfolding decide-requires
 returns c =
-    let d = c.before.before.before.before in
-    let s = entered d.before in
-    let out = s.args.out-1.now in
-    new-refused s.requires.beside.opened (d.decide.ensures (decide-requires d.before d.decide.lifetimes)) (length out) out c.before.number-1.given.1
+    let s = entered c.before.before.before in
+    let out = s.args.out.now in
+    new-refused s.pre.beside.opened (c.decide.ensures (decide-requires c.before.before.before c.decide.lifetimes)) (length out) out c.in-Refused.is
 
 returns-2 : tie.Need-returns-in-Stays
 unfolding decide-requires
 returns-2 c =
-    let a = c.before.before in
-    let told = a.before.before in
-    let d = told.before.before.before in
-    let s = entered d.before in
-    same-written s.requires.beside.opened (d.decide.ensures (decide-requires d.before d.decide.lifetimes))
-    (length s.args.out-1.now)
-    (bytes d.before)
-    told.enum_told-1.given.1
-    a.answer.ensures
-
--- Where it is known that the new file is to be written.
-abbrev going : tie.After-write-new-arg3 → tie.In-Go
-going c = c.before.before.before.before
+    let s = entered c.before.before.before.before.before.before.before in
+    same-written s.pre.beside.opened (c.decide.ensures (decide-requires c.before.before.before.before.before.before.before c.decide.lifetimes))
+    (length s.args.out.now)
+    (bytes c.before.before.before.before.before.before.before)
+    c.in-Stays.is
+    c.answer.ensures
 
 write-new-requires : tie.Need-write_new-requires
 unfolding decide-requires
 write-new-requires c κs =
-    let told = going c in
-    let d = told.before.before.before in
-    let r = (entered d.before).requires in
+    let r = (entered c.before.before.before.before.before.before).requires in
     let o = r.beside.opened in
-    let says = d.decide.ensures (decide-requires d.before d.decide.lifetimes) in
+    let says = c.decide.ensures (decide-requires c.before.before.before.before.before.before c.decide.lifetimes) in
     record {
       ms = o.ms;
       reads = o.reads;
       all = o.all;
       accepted = accepted o.held;
-      few = (decided says told.enum_told-in-Go-1.given.1).0;
+      few = (decided says c.in-Go.is).0;
       numbers_are = numbers-are r.beside;
       starts_are = r.beside.kept.starts_are;
       offsets_are = r.beside.kept.offsets_are;
       owned = says.owned;
       starts_long = o.held.shelved.started;
       offsets_long = r.offsets_long;
-      own_long = omega (arith, d.decide.kept.1.1.1.1.1.0, length-replicate {A = ℕ} 128 0);
+      own_long = omega (arith, c.decide.kept.1.1.1.1.1.0, length-replicate {A = ℕ} 128 0);
     }
 
 returns-3 : tie.Need-returns-in-Go
 unfolding write-new-requires decide-requires
 returns-3 c =
-    let w = c.before.before.before.before in
-    let told = going w.before in
-    let d = told.before.before.before in
-    let s = entered d.before in
-    new-written s.requires.beside.opened (d.decide.ensures (decide-requires d.before d.decide.lifetimes)) (length s.args.out-1.now)
-    told.enum_told-in-Go-1.given.1
-    (w.write_new.ensures (write-new-requires w.before w.write_new.lifetimes))
+    let s = entered c.before.before.before.before.before.before.before.before.before.before.before in
+    new-written s.pre.beside.opened (c.decide.ensures (decide-requires c.before.before.before.before.before.before.before.before.before.before.before c.decide.lifetimes)) (length s.args.out.now)
+    c.in-Go.is
+    (c.write_new.ensures (write-new-requires c.before.before.before.before.before c.write_new.lifetimes))
 
 pub rewrite_ready_spec : {M : Type 1} → statement M
 rewrite_ready_spec =
@@ -105,7 +92,7 @@ rewrite_ready_spec =
     (λ c. search rules)
     (λ c κs. search rules)
     (λ c. search rules)
-    (λ c. let d = c.before.before.before.before in sym (length-take-le _ _ (numbers-inside (entered d.before).requires.beside)))
+    (λ c. sym (length-take-le _ _ (numbers-inside (entered c.before.before.before).requires.beside)))
     (λ c. search rules)
     write-new-requires
     returns

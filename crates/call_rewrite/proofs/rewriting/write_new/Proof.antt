@@ -15,10 +15,10 @@ abbrev known : tie.After-slice_known-2-1 → tie.After-shared_slice_known-1
 known c = c.before.before.before.before.before
 
 abbrev entered : tie.After-slice_known-2-1 → tie.Start
-entered c = (known c).before
+entered c = c.before.before.before.before.before.before
 
 bytes : (c : tie.After-slice_known-2-1) → Bytes (entered c).args.file.now
-bytes c = bytes-all (entered c).args.file.now (λ i. ((known c).shared_slice_known-1.given i).fits)
+bytes c = bytes-all (entered c).args.file.now (λ i. (c.shared_slice_known-1.given i).fits)
 
 -- Either list is long enough.
 short-enough : (long : ℕ) → long ≤ 1024 → 3 * long ≤ length (replicate {A = ℕ} 3072 0)
@@ -29,27 +29,20 @@ long-enough long few = omega (arith, length-replicate {A = ℕ} 196605 0)
 
 finish-requires : tie.Need-finish-requires
 finish-requires c κs =
-    let branch = c.before.before.before in
-    let lists = branch.before in
-    rewritable (bytes lists) (entered lists).requires _ (short-enough _ branch.if-file-le1024.true)
+    rewritable (bytes c.before.before.before) (entered c.before.before.before).requires _ (short-enough _ c.if-file-le1024.true)
 
 finish-requires-2 : tie.Need-finish-requires-2
 finish-requires-2 c κs =
-    let lists = c.before.before.before.before in
-    let k = (entered lists).requires in
-    rewritable (bytes lists) k _ (long-enough _ (file-short (bytes lists) k))
+    let k = (entered c.before.before.before).requires in
+    rewritable (bytes c.before.before.before) k _ (long-enough _ (file-short (bytes c.before.before.before) k))
 
 returns : tie.Need-returns-then-file-le1024
 returns c k =
-    let f = c.before.before.before in
-    let branch = f.before.before.before.before in
-    f.finish.ensures (rewritable (bytes branch.before) k _ (short-enough _ branch.if-file-le1024.true))
+    c.finish.ensures (rewritable (bytes c.before.before.before.before.before.before.before) k _ (short-enough _ c.if-file-le1024.true))
 
 returns-2 : tie.Need-returns
 returns-2 c k =
-    let f = c.before.before.before in
-    let lists = f.before.before.before.before.before in
-    f.finish-2.ensures (rewritable (bytes lists) k _ (long-enough _ (file-short (bytes lists) k)))
+    c.finish-2.ensures (rewritable (bytes c.before.before.before.before.before.before.before) k _ (long-enough _ (file-short (bytes c.before.before.before.before.before.before.before) k)))
 
 pub write_new_spec : {M : Type 1} → statement M
 write_new_spec =

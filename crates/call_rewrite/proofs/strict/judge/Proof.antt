@@ -13,7 +13,7 @@ use Rattle.call_rewrite.proofs.strict.judge.Tie as tie
 
 -- The start, from where the gates are counted.
 abbrev start : tie.After-count_fours → tie.Start
-start c = let tables = c.before.before in tables.before.before.before
+start c = c.before.before.before.before.before
 
 abbrev counted : tie.After-first_user → tie.After-count_fours
 counted c = c.before.before.before.before
@@ -27,16 +27,16 @@ judge_spec =
     (tie.spec
     (λ c. search rules)
     (λ c. search rules)
-    (λ c κs. countable c.before.before.before.before.requires long long)
+    (λ c κs. countable c.requires long long)
     (λ c. search rules)
-    (λ c κs. let count = c.before.before.before in own-table (start count).requires (omega (arith, count.count_fours.auto.1.1.1.0, long)) (count.count_fours.ensures (countable (start count).requires long long)))
+    (λ c κs. own-table (start c.before.before.before).requires (omega (arith, c.count_fours.auto.1.1.1.0, long)) (c.count_fours.ensures (countable (start c.before.before.before).requires long long)))
     (λ c. search rules)
     (λ c. search rules)
     (λ c s.
     let user = c.before.before in
     let count = counted user in
-    sym (ap check_of (user.first_user.ensures (own-table s (omega (arith, count.count_fours.kept.1.1.1.0, long)) (count.count_fours.ensures (countable s long long))) ∙ ap (verdict_by 28) c.enum_told-1.given.1)))
+    sym (ap check_of (user.first-user.ensures (own-table s (omega (arith, count.count-fours.kept.1.1.1.0, long)) (count.count-fours.ensures (countable s long long))) ∙ ap (verdict_by 28) c.enum_told.given.1)))
     (λ c s.
     let user = c.before.before.before in
     let count = counted user in
-    sym (ap check_of (user.first_user.ensures (own-table s (omega (arith, count.count_fours.kept.1.1.1.0, long)) (count.count_fours.ensures (countable s long long))) ∙ ap (verdict_by 28) c.before.place-1.given.1))))
+    sym (ap check_of (user.first-user.ensures (own-table s (omega (arith, count.count-fours.kept.1.1.1.0, long)) (count.count-fours.ensures (countable s long long))) ∙ ap (verdict_by 28) c.before.place.given.1))))

@@ -10,7 +10,7 @@ strict_check_spec =
     (λ c κs. search rules)
     (λ c. search rules)
     (λ c κs. search rules)
-    (λ c κs. c.before.is_short.ensures c.if-is_short.true)
+    (λ c κs. c.is_short.ensures c.if-is_short.true)
     (λ c κs. search rules)
     (λ c. search rules)
     (λ c. search rules))

@@ -9,28 +9,23 @@ use Rattle.call_rewrite.proofs.strict.strict_in.Tie as tie
 
 -- The preparing from where the lists are back, and the count of modules from where they are lent on.
 abbrev prepared : tie.After-slice_known-6-1 → tie.After-prepare
-prepared c = let half = c.before.before.before.before.before.before in half.before.before.before.before.before
-
-abbrev counted : tie.After-starts-in-Ready-1 → tie.In-Ready-2
-counted c = c.before.before.before
+prepared c = c.before.before.before.before.before.before.before.before.before.before.before
 
 judge-requires : tie.Need-judge-requires
 judge-requires c κs =
-    let known = counted c in
-    let p = (prepared known.before.before).prepare in
-    let o = opened _ _ _ _ _ _ _ p.result p.ensures _ known.modules-1.given.1 in
+    let p = (prepared c.before.before).prepare in
+    let o = opened _ _ _ _ _ _ _ p.result p.ensures _ c.in-Ready.is in
     record { ms = o.ms; nets = _; held = o.held; all = o.all }
 
 returns : tie.Need-returns-in-Refused
 returns c =
-    let p = (prepared c.before.before.before).prepare in
-    sym (ap check_of (strict_refused _ _ _ (broken _ _ _ _ _ _ _ p.result p.ensures _ _ c.before.number-1.given.1)))
+    let p = (prepared c.before).prepare in
+    sym (ap check_of (strict_refused _ _ _ (broken _ _ _ _ _ _ _ p.result p.ensures _ _ c.in-Refused.is)))
 
 returns-2 : tie.Need-returns-in-Ready
 returns-2 c =
-    let known = counted c.before in
-    let p = (prepared known.before.before).prepare in
-    let o = opened _ _ _ _ _ _ _ p.result p.ensures _ known.modules-1.given.1 in
+    let p = (prepared c.before.before.before).prepare in
+    let o = opened _ _ _ _ _ _ _ p.result p.ensures _ c.in-Ready.is in
     c.judge.ensures (record { ms = o.ms; nets = _; held = o.held; all = o.all })
     ∙ sym (ap check_of (strict_accepted _ o.ms o.reads o.held.good))
 

@@ -12,5 +12,5 @@ strict_long_spec =
     (λ c. search rules)
     (λ c. search rules)
     (λ c. search rules)
-    (λ c κs. any-space _ (bytes-all _ (λ i. (c.before.before.before.shared_slice_known-1.given i).fits)))
+    (λ c κs. any-space _ (bytes-all _ (λ i. (c.shared_slice_known-1.given i).fits)))
     (λ c. search rules))

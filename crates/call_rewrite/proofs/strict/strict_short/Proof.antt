@@ -11,5 +11,5 @@ strict_short_spec =
     (λ c. search rules)
     (λ c. search rules)
     (λ c. search rules)
-    (λ c κs. short-space _ c.before.before.before.before.requires)
+    (λ c κs. short-space _ c.requires)
     (λ c. search rules))

@@ -7,9 +7,7 @@ use Rattle.call_rows.proofs.values.first_above.Tie as tie
 
 returns : tie.Need-returns-then-first_above-eq1
 returns c =
-    let asked = c.before in
-    let found = asked.before.before in
-    sym (largest-decides found.before.before.args.values.now found.largest.ensures (sym asked.first_above.ensures ∙ c.if-first_above-eq1.true))
+    sym (largest-decides c.args.values.now c.largest.ensures (sym c.first_above.ensures ∙ c.if-first_above-eq1.true))
 
 pub first_above_spec : {M : Type 1} → statement M
 first_above_spec =

@@ -28,11 +28,10 @@ end values i h = ap largest (drop_of_length-le values h)
 
 loop-again : tie.Need-loop-i-preserved invariant-loop decreases-loop
 loop-again c =
-    let turn = c.before.before in
-    let l = turn.before.loop-i in
-    let v = turn.before.before.args.values.now in
-    let here = next v l.i turn.loop-i-test.true in
-    (omega (arith, turn.loop-i-test.true), ⊎_elim (λ w. omega (arith, here, l.invariant.1)) (λ w. omega (arith, here, l.invariant.1)) c.if-most-x.branch)
+    let l = c.loop-i in
+    let v = c.args.values.now in
+    let here = next v l.i c.loop-i-test.true in
+    (omega (arith, c.loop-i-test.true), ⊎_elim (λ w. omega (arith, here, l.invariant.1)) (λ w. omega (arith, here, l.invariant.1)) c.if-most-x.branch)
 
 pub largest_spec : {M : Type 1} → statement M
 largest_spec =
@@ -41,8 +40,8 @@ largest_spec =
     invariant-loop
     decreases-loop
     (λ c. (omega arith, omega arith))
-    (λ c. c.before.loop-i-test.true)
-    (λ c. omega (arith, c.before.before.loop-i-test.true))
-    (λ c. omega (arith, c.before.before.loop-i-test.true))
+    (λ c. c.loop-i-test.true)
+    (λ c. omega (arith, c.loop-i-test.true))
+    (λ c. omega (arith, c.loop-i-test.true))
     loop-again
-    (λ c. let l = c.before.loop-i in omega (arith, l.invariant.1, end c.before.before.args.values.now l.i c.loop-i-test.false)))
+    (λ c. let l = c.loop-i in omega (arith, l.invariant.1, end c.args.values.now l.i c.loop-i-test.false)))

@@ -18,7 +18,7 @@ decreases-loop numbers₀ from count k first inputs outputs slots₀ base width 
 
 -- Back to the function's entry from before the loop and from the loop, from the call to its turn, and from an arm of the match to the call.
 abbrev begun : tie.After-nothing-so_far invariant-loop decreases-loop → tie.Start invariant-loop decreases-loop
-begun c = let back = c.before.before.before.before in back.before.before.before.before
+begun c = c.before.before.before.before.before.before.before.before
 
 abbrev entered : tie.At-loop-i invariant-loop decreases-loop → tie.Start invariant-loop decreases-loop
 entered l = begun l.before
@@ -27,48 +27,45 @@ abbrev turn : tie.After-check_occurrence invariant-loop decreases-loop → tie.I
 turn s = s.before.before.before
 
 abbrev broken : tie.In-Broken invariant-loop decreases-loop → tie.After-check_occurrence invariant-loop decreases-loop
-broken c = let lists = c.before.before.before in lists.before.before.before.before
+broken c = c.before.before.before.before.before
 
 abbrev fine : tie.In-Fine invariant-loop decreases-loop → tie.After-check_occurrence invariant-loop decreases-loop
-fine c = let lists = c.before.before.before in lists.before.before.before.before
+fine c = c.before.before.before.before.before
 
 loop-holds : tie.Need-loop-i-init invariant-loop decreases-loop
 loop-holds c = walk_begins (begun c).requires c.nothing-so_far.ensures
 
 check-occurrence-requires : tie.Need-check_occurrence-requires invariant-loop decreases-loop
 check-occurrence-requires c κs =
-    let t = c.before.before in
-    step-ready (entered t.before).requires t.before.loop-i.invariant t.loop-i-test.true
+    step-ready (entered c.before.before.before).pre c.loop-i.invariant c.loop-i-test.true
 
 same_length : tie.Need-shape_of-numbers-in-Broken invariant-loop decreases-loop
-same_length c = let s = broken c in s.check_occurrence.kept.0 ∙ (turn s).before.loop-i.inv.numbers_long
+same_length c = let s = broken c in s.check-occurrence.kept.0 ∙ s.before.before.before.before.loop.inv.numbers_long
 
 same-length-2 : tie.Need-shape_of-slots-in-Broken invariant-loop decreases-loop
-same-length-2 c = let s = broken c in s.check_occurrence.kept.1.1.1.1.1.1.0 ∙ (turn s).before.loop-i.inv.slots_long
+same-length-2 c = let s = broken c in s.check-occurrence.kept.1.1.1.1.1.1.0 ∙ s.before.before.before.before.loop.inv.slots_long
 
 returns : tie.Need-returns-in-Broken invariant-loop decreases-loop
 returns c =
     let s = broken c in
-    let t = turn s in
-    walk-stops (entered t.before).requires t.before.loop-i.inv t.loop-i-test.taken s.check_occurrence.ensures c.before.rule-1.given.1
+    walk-stops (entered s.before.before.before.before).pre s.before.before.before.before.loop.inv s.before.before.before.loop-test.taken s.check-occurrence.ensures c.in-Broken.is
 
 add-i : tie.Need-overflow_add-i invariant-loop decreases-loop
 add-i c =
     let t = turn (fine c) in
-    omega (arith, t.loop-i-test.taken, (entered t.before).fits.count)
+    omega (arith, t.loop-test.taken, (entered t.before).fits.count)
 
 loop-less : tie.Need-loop-i-smaller invariant-loop decreases-loop
-loop-less c = omega (arith, (turn (fine c)).loop-i-test.taken)
+loop-less c = omega (arith, (turn (fine c)).loop-test.taken)
 
 loop-again : tie.Need-loop-i-preserved invariant-loop decreases-loop
 loop-again c =
     let s = fine c in
-    let t = turn s in
-    walk-goes-on (entered t.before).requires t.before.loop-i.inv t.loop-i-test.taken s.check_occurrence.ensures
-    c.before.next-1.given.1 s.check_occurrence.kept.0 s.check_occurrence.kept.1.1.1.1.1.1.0
+    walk-goes-on (entered s.before.before.before.before).pre s.before.before.before.before.loop.inv s.before.before.before.loop-test.taken s.check-occurrence.ensures
+    c.in-Fine.is s.check-occurrence.kept.0 s.check-occurrence.kept.1.1.1.1.1.1.0
 
 returns-2 : tie.Need-returns invariant-loop decreases-loop
-returns-2 c = walk_ends (entered c.before).requires c.before.loop-i.invariant c.loop-i-test.false
+returns-2 c = walk_ends (entered c.before).pre c.loop-i.invariant c.loop-i-test.false
 
 pub check_body_spec : {M : Type 1} → statement M
 check_body_spec =
@@ -87,6 +84,6 @@ check_body_spec =
     add-i
     loop-less
     loop-again
-    (λ c. c.before.loop-i.invariant.numbers_long)
-    (λ c. c.before.loop-i.invariant.slots_long)
+    (λ c. c.loop-i.invariant.numbers_long)
+    (λ c. c.loop-i.invariant.slots_long)
     returns-2)

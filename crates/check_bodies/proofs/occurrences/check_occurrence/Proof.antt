@@ -17,7 +17,7 @@ use Rattle.check_bodies.proofs.occurrences.check_occurrence.Tie as tie
 -- new, to that from behind the pass over the second, to that from where its nets are known, and to that from behind the reference; and all
 -- the way from where both are fine.
 abbrev begun : tie.After-entry-arg → tie.Start
-begun c = let back = c.before.before.before.before in back.before.before.before.before
+begun c = c.before.before.before.before.before.before.before.before
 
 abbrev entered : tie.After-learn_list-learnt → tie.Start
 entered c = begun c.before.before.before.before
@@ -26,19 +26,16 @@ abbrev passed : tie.After-slice_known-4-1 → tie.After-learn_list-learnt
 passed c = c.before.before.before.before
 
 abbrev learnt : tie.Else-learnt-driven → tie.After-learn_list-learnt
-learnt c = passed c.before
+learnt c = c.before.before.before.before.before
 
 abbrev new : tie.After-write_list-written → tie.Else-learnt-driven
-new c = let count = c.before.before.before in count.before.before
-
-abbrev written : tie.Else-written-taken → tie.After-write_list-written
-written c = c.before.before.before
+new c = c.before.before.before.before.before
 
 abbrev known : tie.After-judge_reference → tie.Else-written-taken
 known c = c.before.before
 
 abbrev started : tie.Else-written-taken → tie.Start
-started c = entered (learnt (new (written c)))
+started c = entered (learnt (new c.before.before.before))
 
 learn-list-requires : tie.Need-learn_list-learnt-requires
 learn-list-requires c κs =
@@ -48,62 +45,53 @@ learn-list-requires c κs =
 -- The nets of the first list are new.
 learning :
     (c : tie.Else-learnt-driven)
-    → (let l = learnt c in
-    let a = (entered l).args in
-    Learning a.numbers-1.now a.slots-1.now a.base a.at a.filled l.before.before.before.entry-driven.result
-    l.learn_list-learnt.result l.learn_list-learnt.last.1.1.0 l.learn_list-learnt.last.0)
+    → (let a = (entered c.before.before.before.before.before).args in
+    Learning a.numbers.now a.slots.now a.base a.at a.filled c.entry-driven.result
+    c.learn_list-learnt.result c.learn_list-learnt.last.1.1.0 c.learn_list-learnt.last.0)
 learning c =
-    let l = learnt c in
-    record { counted = l.before.before.before.entry-driven.ensures; list = l.learn_list-learnt.ensures; all = c.if-learnt-driven.false }
+    record { counted = c.entry-driven.ensures; list = c.learn_list-learnt.ensures; all = c.if-learnt-driven.false }
 
 -- Behind them places fit.
 fits :
     (c : tie.Else-learnt-driven)
-    → (let l = learnt c in
-    ((entered l).args.at + 3 + l.learn_list-learnt.result ≤ length l.learn_list-learnt.last.0) × (length l.learn_list-learnt.last.0 ≤ 65535))
+    → (((entered c.before.before.before.before.before).args.at + 3 + c.learn_list-learnt.result ≤ length c.learn_list-learnt.last.0) × (length c.learn_list-learnt.last.0 ≤ 65535))
 fits c =
-    let l = learnt c in
-    let p = (entered l).requires in
-    (omega (arith, (driven-here (learning c) p).behind.within), omega (arith, l.learn_list-learnt.kept.0, p.placed.short))
+    let p = (entered c.before.before.before.before.before).pre in
+    (omega (arith, (driven-here (learning c) p).behind.within), omega (arith, c.learn_list-learnt.kept.0, p.placed.short))
 
 write-list-requires : tie.Need-write_list-written-requires
 write-list-requires c κs =
-    let n = c.before.before.before.before in
-    let l = learnt n in
-    let p = (entered l).requires in
-    list-ready p l.learn_list-learnt.kept.0 l.learn_list-learnt.kept.1.1.0 p.o.takes
-    (stands-tail (driven-here (learning n) p).behind) (takes-below p.o p.indexes.in_slots)
+    let p = (entered c.before.before.before.before.before.before.before).pre in
+    list-ready p c.learn_list-learnt.kept.0 c.learn_list-learnt.kept.1.1.0 p.o.takes
+    (stands-tail (driven-here (learning c.before.before) p).behind) (takes-below p.o p.indexes.in_slots)
 
 -- Those of the second list are known.
 writing :
     (c : tie.Else-written-taken)
-    → (let w = written c in
-    let l = learnt (new w) in
+    → (let l = learnt (new c.before.before.before) in
     let a = (entered l).args in
-    Writing a.numbers-1.now a.slots-1.now a.base a.at a.filled l.before.before.before.entry-driven.result
-    l.learn_list-learnt.result w.before.before.before.entry-taken.result w.write_list-written.result l.learn_list-learnt.last.1.1.0
-    l.learn_list-learnt.last.0 w.write_list-written.last.0)
+    Writing a.numbers.now a.slots.now a.base a.at a.filled l.before.before.before.entry.result
+    l.learn-list.result c.entry-taken.result c.write_list-written.result l.learn-list.last.1.1.0
+    l.learn-list.last.0 c.write_list-written.last.0)
 writing c =
-    let w = written c in
     record {
-      learning = learning (new w);
-      counted = w.before.before.before.entry-taken.ensures;
-      list = w.write_list-written.ensures;
+      learning = learning (new c.before.before.before);
+      counted = c.entry-taken.ensures;
+      list = c.write_list-written.ensures;
       all = c.if-written-taken.false;
     }
 
 -- Behind them the numbers are as many as they were, and places fit.
-sized : (c : tie.Else-written-taken) → length (written c).write_list-written.new.0 ≡ length (started c).args.numbers-1.now
-sized c = (written c).write_list-written.auto.0 ∙ (learnt (new (written c))).learn_list-learnt.auto.0
+sized : (c : tie.Else-written-taken) → length c.write_list-written.new.0 ≡ length (started c).args.numbers.now
+sized c = c.write_list-written.auto.0 ∙ (learnt (new c.before.before.before)).learn-list.auto.0
 
 room :
     (c : tie.Else-written-taken)
-    → (let w = written c in
-    let l = learnt (new w) in
+    → (let l = learnt (new c.before.before.before) in
     let a = (entered l).args in
-    (a.filled + l.before.before.before.entry-driven.result ≤ length w.write_list-written.last.0)
-    × (a.at + 3 + l.learn_list-learnt.result + w.write_list-written.result ≤ length w.write_list-written.last.0)
-    × (length w.write_list-written.last.0 ≤ 65535))
+    (a.filled + l.before.before.before.entry.result ≤ length c.write_list-written.last.0)
+    × (a.at + 3 + l.learn-list.result + c.write_list-written.result ≤ length c.write_list-written.last.0)
+    × (length c.write_list-written.last.0 ≤ 65535))
 room c =
     let p = (started c).requires in
     let n = driven-here (writing c).learning p in
@@ -128,20 +116,19 @@ judge-reference-requires c κs =
 -- A module that is meant has its position in the file.
 inside :
     (c : tie.In-Module)
-    → c.before.j-1.given.0.0 < length (started (known c.before.before.before)).requires.scene.ms
+    → c.in-Module.j < length (started c.before.before.before).requires.scene.ms
 inside c =
-    let j = c.before.before.before in
-    let p = (started (known j)).requires in
-    (judged (writing (known j)) j.judge_reference.ensures c.before.j-1.given.1 p.scene p.o p.nets p.nets p.stands
+    let p = (started c.before.before.before).requires in
+    (judged (writing c.before.before.before) c.judge_reference.ensures c.in-Module.is p.scene p.o p.nets p.nets p.stands
     p.knows p.wide (record { same = λ x. refl })).2
 
 with-module-requires : tie.Need-with_module-requires
 with-module-requires c κs =
     let h = inside c in
-    let p = (started (known c.before.before.before)).requires in
+    let p = (started c.before.before.before).requires in
     let f = p.figured in (
       (omega (arith, f.sizes_long), omega (arith, f.rooms_long)),
-      omega (arith, p.fits, f.small.below c.before.j-1.given.0.0),
+      omega (arith, p.fits, f.small.below c.in-Module.j),
     )
 
 pub check_occurrence_spec : {M : Type 1} → statement M
@@ -155,46 +142,46 @@ check_occurrence_spec =
     (λ c. search rules)
     (λ c.
     let l = passed c.before in
-    step-drives l.before.before.before.entry-driven.ensures l.learn_list-learnt.ensures c.if-learnt-driven.true)
+    step-drives l.before.before.before.entry.ensures l.learn-list.ensures c.if1.true)
     (λ c. let h = fits c in omega arith)
     (λ c. let h = fits c in omega arith)
     (λ c. let h = fits c in omega arith)
-    (λ c κs. let h = fits c.before in omega arith)
+    (λ c κs. let h = fits c in omega arith)
     (λ c. search rules)
     write-list-requires
     (λ c. search rules)
     (λ c. search rules)
     (λ c.
     let w = c.before.before.before in
-    step-takes (learning (new w)) w.before.before.before.entry-taken.ensures w.write_list-written.ensures c.if-written-taken.true)
+    step-takes (learning (new w)) w.before.before.before.entry2.ensures w.write-list.ensures c.if2.true)
     (λ c. let h = room c in omega arith)
     (λ c. let h = room c.before in omega arith)
     judge-reference-requires
     (λ c. search rules)
     (λ c. search rules)
-    (λ c. let h = room (known c.before.before) in omega arith)
-    (λ c. let h = room (known c.before.before) in omega arith)
-    (λ c. let h = room (known c.before.before) in omega arith)
+    (λ c. let h = room c.before.before.before in omega arith)
+    (λ c. let h = room c.before.before.before in omega arith)
+    (λ c. let h = room c.before.before.before in omega arith)
     (λ c κs. search rules)
     (λ c. search rules)
-    (λ c. let h = inside c in omega (arith, (started (known c.before.before.before)).requires.scene.few))
-    (λ c. let h = inside c in omega (arith, (started (known c.before.before.before)).requires.scene.few))
-    (λ c. let h = room (known c.before.before.before) in omega arith)
-    (λ c. let h = room (known c.before.before.before) in omega arith)
-    (λ c. let h = room (known c.before.before.before) in omega arith)
-    (λ c. let h = room (known c.before.before.before) in omega arith)
-    (λ c. let h = room (known c.before.before.before) in omega arith)
+    (λ c. let h = inside c in omega (arith, (started c.before.before.before).requires.scene.few))
+    (λ c. let h = inside c in omega (arith, (started c.before.before.before).requires.scene.few))
+    (λ c. let h = room c.before.before.before in omega arith)
+    (λ c. let h = room c.before.before.before in omega arith)
+    (λ c. let h = room c.before.before.before in omega arith)
+    (λ c. let h = room c.before.before.before in omega arith)
+    (λ c. let h = room c.before.before.before in omega arith)
     with-module-requires
     (λ c. search rules)
     (λ c. search rules)
-    (λ c. let j = c.before.before.before in step-broken (writing (known j)) j.judge_reference.ensures c.before.rule-1.given.1)
+    (λ c. step-broken (writing c.before.before.before) c.judge_reference.ensures c.in-Broken.is)
     (λ c. search rules)
     (λ c. search rules)
     (λ c.
     let j = c.before.before.before in
-    step-gate (writing (known j)) j.judge_reference.ensures c.before.enum_told-1.given.1 c.with_gate.ensures)
-    (λ c. simp length-set (sized (known c.before.before.before.before)))
+    step-gate (writing (known j)) j.judge-reference.ensures c.before.enum_told.given.1 c.with-gate.ensures)
+    (λ c. simp length-set (sized c.before.before.before.before))
     (λ c. search rules)
     (λ c.
     let j = c.before.before.before.before in
-    step_module (writing (known j)) j.judge_reference.ensures c.before.before.j-1.given.1 c.with_module.ensures))
+    step_module (writing (known j)) j.judge-reference.ensures c.before.before.j.given.1 c.with-module.ensures))

@@ -7,8 +7,8 @@ use borrow.Fn.Kinds.{In}
 use borrow.Fn.PlainCycle.{Measures, is, falls, and}
 use Rattle.check_steps.specs.Going.{Reached}
 use Rattle.check_files.proofs.FileEnds.{walk_none}
-use Rattle.check_files.proofs.files.check_from-behind.Reads as check-from
-use Rattle.check_files.proofs.files.check_from-behind.Kinds as check-from-kinds
+use Rattle.check_files.proofs.files.check_from.Reads as check-from
+use Rattle.check_files.proofs.files.check_from.Kinds as check-from-kinds
 use Rattle.check_files.proofs.files.+check_from.Lts-check_from as check-from-lts
 use Rattle.check_steps.proofs.steps.check_at.Reads as check-at-reads
 use Rattle.check_files.proofs.files.+check_from.{statement}
@@ -47,21 +47,18 @@ Turn t = check-from-lts.After-check_at-arg-5-1 (claims t) (check-from-at t) chec
 
 -- From each back to the one before it.
 abbrev begun : (t : ℕ) → Known t → Start t
-begun t c = let back = c.before.before.before.before in let more = back.before.before.before.before in more.before
+begun t c = c.before.before.before.before.before.before.before.before.before
 
 abbrev left : (t : ℕ) → Behind t → Left t
-left t c = let args = c.before.before.before in args.before.before.before
+left t c = c.before.before.before.before.before.before
 
 abbrev behind : (t : ℕ) → Turn t → Behind t
 behind t c =
-    let args = c.before.before.before.before in
-    let lists = args.before.before.before.before in
-    let more = lists.before.before.before.before in
-    more.before.before.before
+    c.before.before.before.before.before.before.before.before.before.before.before.before.before.before.before
 
 reached :
     (t : ℕ) (c : Turn t)
-    → (let call = (behind t c).check_from-behind in
+    → (let call = (behind t c).check-from in
     let last = call.last.1.1.1.1.1.1.1.1 in
     let args = (begun t (left t (behind t c)).before).args in
     Reached call.last.0 args.starts.now args.modules args.k call.result args.first.now args.inputs.now
@@ -70,15 +67,15 @@ reached t c =
     let later = behind t c in
     let start = begun t (left t later).before in
     record {
-      numbers₀ = start.args.numbers-1.now;
+      numbers₀ = start.args.numbers.now;
       found₀ = start.args.found;
-      slots₀ = start.args.slots-1.now;
-      nets₀ = start.args.nets-1.now;
-      sizes₀ = start.args.sizes-1.now;
-      rooms₀ = start.args.rooms-1.now;
-      ready = start.requires.1.0;
-      inside = (left t later).if-modules-k.left;
-      walk = later.check_from-behind.ensures;
+      slots₀ = start.args.slots.now;
+      nets₀ = start.args.nets.now;
+      sizes₀ = start.args.sizes.now;
+      rooms₀ = start.args.rooms.now;
+      ready = start.pre.1.0;
+      inside = (left t later).if1.left;
+      walk = later.check-from.ensures;
     }
 
 pub +check_from_spec : {M : Type 1} → statement M
@@ -89,13 +86,11 @@ unfolding reached
     check-from-lts.spec (claims t)
     (check-from-at t)
     check-from.Post
-    (λ c. let start = begun t c.before in walk_none start.requires.1.0 start.requires.1.1 c.if-modules-k.true)
+    (λ c. let start = begun t c.before in walk_none start.pre.1.0 start.pre.1.1 c.if1.true)
     (λ c. omega arith)
     (λ c κs.
-    let args = c.before.before in
-    let one = args.before.before.before in
-    let start = begun t one.before in
-    (omega (arith, start.requires.0, one.if-modules-k.false), (start.requires.1.0, omega (arith, one.if-modules-k.false))))
+    let start = begun t c.before.before.before.before.before.before in
+    (omega (arith, start.pre.0, c.before.before.before.before.before.if1.false), (start.pre.1.0, omega (arith, c.before.before.before.before.before.if1.false))))
     (λ c κs. reached t c)
     (λ c. search rules)
     (λ c. search rules)
@@ -103,7 +98,4 @@ unfolding reached
     (λ c. search rules)
     (λ c. search rules)
     (λ c.
-    let lists = c.before.before.before.before in
-    let more = lists.before.before.before.before in
-    let turn = more.before.before in
-    turn.check_at.ensures (reached t turn.before)))
+    c.before.before.before.before.before.before.before.before.before.before.check-at.ensures (reached t c.before.before.before.before.before.before.before.before.before.before.before)))

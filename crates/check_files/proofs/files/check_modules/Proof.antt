@@ -11,19 +11,16 @@ use Rattle.check_files.proofs.files.check_modules.Tie as tie
 -- Back to the function's entry from before its first call and from the numbering, and from where the modules in front of the first repeat
 -- end to the calls before; and to there from the check of those modules.
 abbrev begun : tie.After-slice_known-7-1 → tie.Start
-begun c = let back = c.before.before.before.before in back.before.before.before.before
+begun c = c.before.before.before.before.before.before.before.before
 
 abbrev lent : tie.After-outputs-1 → tie.After-slice_known-7-1
-lent c = let arrays = c.before.before in arrays.before.before.before
+lent c = c.before.before.before.before.before
 
 abbrev entered : tie.After-number_modules-repeated → tie.Start
 entered n = begun (lent n.before)
 
 abbrev numbered : tie.After-at_repeat-known → tie.After-number_modules-repeated
-numbered a = let arrays = a.before.before.before.before in arrays.before.before.before.before
-
-abbrev known : tie.After-end_before-end → tie.After-at_repeat-known
-known d = d.before.before
+numbered a = a.before.before.before.before.before.before.before.before
 
 number-modules-requires : tie.Need-number_modules-repeated-requires
 number-modules-requires c κs =
@@ -31,42 +28,34 @@ number-modules-requires c κs =
 
 at-repeat-requires : tie.Need-at_repeat-known-requires
 at-repeat-requires c κs =
-    let arrays = c.before.before.before in
-    let n = arrays.before.before.before.before in
-    let p = (entered n).requires in
-    repeating p n.number_modules-repeated.ensures p.ms p.laidout
+    let p = (entered c.before.before.before.before.before.before).requires in
+    repeating p c.number_modules-repeated.ensures p.ms p.laidout
 
 slice-relend-prefix-check-from : tie.Need-slice_bounds-check_from-end
 slice-relend-prefix-check-from d =
-    let a = known d in
-    let n = numbered a in
-    let p = (entered n).requires in
-    end-inside p n.number_modules-repeated.ensures n.number_modules-repeated.kept.1.1.1.0 a.at_repeat-known.ensures d.end_Before.ensures p.ms p.laidout
+    let n = numbered d.before in
+    let p = (entered n).pre in
+    end-inside p n.number-modules.ensures n.number-modules.kept.1.1.1.0 d.at_repeat-known.ensures d.end_before-end.ensures p.ms p.laidout
 
 slice-aggregate-check-from : tie.Need-slice_bounds-check_from-end-2
 slice-aggregate-check-from c = sym (length-take-le _ _ (slice-relend-prefix-check-from c.before))
 
 abbrev ended : tie.After-check-from-arg6 → tie.After-end_before-end
-ended c = let arrays = c.before.before.before.before in arrays.before.before.before.before
+ended c = c.before.before.before.before.before.before.before.before
 
 check-from-requires : tie.Need-check_from-requires
 check-from-requires c κs =
     let d = ended c in
-    let a = known d in
-    let n = numbered a in
-    let p = (entered n).requires in
-    (each-ready p n.number_modules-repeated.ensures n.number_modules-repeated.kept.1.1.1.0 a.at_repeat-known.ensures d.end_Before.ensures p.ms p.laidout, omega arith)
+    let n = numbered d.before.before in
+    let p = (entered n).pre in
+    (each-ready p n.number-modules.ensures n.number-modules.kept.1.1.1.0 d.before.before.at-repeat.ensures d.end_Before.ensures p.ms p.laidout, omega arith)
 
 returns : tie.Need-returns
 returns c ms l =
-    let lists = c.before.before.before.before in
-    let more = lists.before.before.before in
-    let e = more.before.before.before in
-    let d = ended e.before in
-    let a = known d in
-    let n = numbered a in
-    file-found (entered n).requires n.number_modules-repeated.ensures n.number_modules-repeated.kept.1.1.1.0 a.at_repeat-known.ensures d.end_Before.ensures ms l
-    e.check_from.auto.0 (walk_ends e.check_from.ensures (omega arith))
+    let d = ended c.before.before.before.before.before.before.before.before.before.before.before in
+    let n = numbered d.before.before in
+    file-found (entered n).pre n.number-modules.ensures n.number-modules.kept.1.1.1.0 d.before.before.at-repeat.ensures d.end_Before.ensures ms l
+    c.check_from.auto.0 (walk_ends c.check_from.ensures (omega arith))
 
 pub check_modules_spec : {M : Type 1} → statement M
 check_modules_spec =

@@ -7,44 +7,33 @@ use Rattle.check_lists.proofs.Listing.{ListAt, list_at, learnable, list-repeats,
 use Rattle.check_lists.proofs.lists.learn_list.Statement.{statement}
 use Rattle.check_lists.proofs.lists.learn_list.Tie as tie
 
--- Back to the function's entry, and to where the list's end was read.
-abbrev entered : tie.After-list_end-e → tie.Start
-entered c = c.before.before.before.before
-
-abbrev ended : tie.After-has_repeat → tie.After-list_end-e
-ended c = c.before.before.before
-
 -- What is known once the list's end is read.
 found :
     (c : tie.After-list_end-e)
-    → (let s = entered c in ListAt s.args.numbers-1.now s.args.at c.list_end-e.result s.requires.0.listed.list)
-found c = let l = (entered c).requires.0.listed in list_at l.list l.stands c.list_end-e.ensures
+    → (ListAt c.args.numbers.now c.args.at c.list_end-e.result c.requires.0.listed.list)
+found c = let l = c.requires.0.listed in list_at l.list l.stands c.list_end-e.ensures
 
 part-has-repeat-start : tie.Need-slice_bounds-has_repeat-start
-part-has-repeat-start c = let l = found c.before in omega arith
+part-has-repeat-start c = let l = found c in omega arith
 
 returns : tie.Need-returns-then-has_repeat
-returns c = list-repeats (ended c.before).list_end-e.ensures (sym c.if-has_repeat.true ∙ c.before.has_repeat.ensures)
+returns c = list-repeats c.list_end-e.ensures (sym c.if-has_repeat.true ∙ c.has_repeat.ensures)
 
 sub-learn-new : tie.Need-slice_bounds-learn_new-count
-sub-learn-new c = let l = found (ended c.before) in omega arith
+sub-learn-new c = let l = found c.before.before.before in omega arith
 
 part-learn-new-start : tie.Need-slice_bounds-learn_new-start
-part-learn-new-start c = let l = found (ended c.before) in omega arith
+part-learn-new-start c = let l = found c.before.before.before in omega arith
 
 learn-new-requires : tie.Need-learn_new-requires
 learn-new-requires c κs =
-    let once = c.before.before in
-    let l = ended once.before in
-    let p = (entered l).requires in
-    learnable p.0 (found l) p.1 (sym once.before.has_repeat.ensures ∙ once.if-has_repeat.false)
+    let p = c.requires in
+    learnable p.0 (found c.before.before.before.before.before) p.1 (sym c.has_repeat.ensures ∙ c.if-has_repeat.false)
 
 returns-2 : tie.Need-returns
 returns-2 c =
-    let learnt = c.before.before.before.before in
-    let once = learnt.before.before.before in
-    let e = learnt.learn_new.ensures in
-    list-learnt (ended once.before).list_end-e.ensures (sym once.before.has_repeat.ensures ∙ once.if-has_repeat.false) e.0 e.1
+    let e = c.learn_new.ensures in
+    list-learnt c.list_end-e.ensures (sym c.has_repeat.ensures ∙ c.if-has_repeat.false) e.0 e.1
 
 pub learn_list_spec : {M : Type 1} → statement M
 learn_list_spec =
@@ -55,14 +44,14 @@ learn_list_spec =
     (λ c. search rules)
     (λ c. let l = found c in omega arith)
     part-has-repeat-start
-    (λ c. (found c.before).end)
+    (λ c. (found c).end)
     (λ c κs. search rules)
     (λ c. search rules)
     returns
     (λ c. search rules)
     sub-learn-new
     part-learn-new-start
-    (λ c. (found (ended c.before)).end)
+    (λ c. (found c.before.before.before).end)
     learn-new-requires
     (λ c. search rules)
     (λ c. search rules)

@@ -10,11 +10,11 @@ add-result : tie.Need-overflow_add-result
 add-result c = search rules
 
 entry-requires : tie.Need-entry-requires
-entry-requires c κs = let s = c.before.requires.stands in omega (arith, s.within)
+entry-requires c κs = let s = c.requires.stands in omega (arith, s.within)
 
 add-result-2 : tie.Need-overflow_add-result-2
 add-result-2 c =
-    let s = c.before.before.requires.stands in omega (arith, s.within, c.entry.ensures ∙ stands-head s)
+    let s = c.requires.stands in omega (arith, s.within, c.entry.ensures ∙ stands-head s)
 
 returns : tie.Need-returns
 returns c list s = omega (arith, c.entry.ensures ∙ stands-head s)

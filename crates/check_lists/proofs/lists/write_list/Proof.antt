@@ -8,8 +8,8 @@ use Rattle.check_lists.proofs.lists.write_list.Tie as tie
 -- What is known once the list's end is read.
 found :
     (c : tie.After-list_end-e)
-    → (let s = c.before.before.before.before in ListAt s.args.numbers-1.now s.args.at c.list_end-e.result s.requires.listed.list)
-found c = let l = c.before.before.before.before.requires.listed in list_at l.list l.stands c.list_end-e.ensures
+    → (ListAt c.args.numbers.now c.args.at c.list_end-e.result c.requires.listed.list)
+found c = let l = c.requires.listed in list_at l.list l.stands c.list_end-e.ensures
 
 sub-resolve-known : tie.Need-slice_bounds-resolve_known-count
 sub-resolve-known c = let l = found c in omega arith
@@ -21,12 +21,11 @@ part-resolve-known-end : tie.Need-slice_bounds-resolve_known-end
 part-resolve-known-end c = (found c).end
 
 resolve-known-requires : tie.Need-resolve_known-requires
-resolve-known-requires c κs = let l = c.before in resolvable l.before.before.before.before.requires (found l)
+resolve-known-requires c κs = resolvable c.requires (found c.before)
 
 returns : tie.Need-returns
 returns c =
-    let r = c.before.before in
-    list_written r.before.before.list_end-e.ensures r.resolve_known.auto.0 r.resolve_known.ensures
+    list_written c.list_end-e.ensures c.resolve_known.auto.0 c.resolve_known.ensures
 
 pub write_list_spec : {M : Type 1} → statement M
 write_list_spec =

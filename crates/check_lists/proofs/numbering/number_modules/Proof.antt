@@ -67,7 +67,7 @@ readable {starts = starts} c k h =
 
 -- The function's entry, from behind what is known of its slices.
 abbrev begun : tie.After-slice_known-4-1 invariant-loop decreases-loop → tie.Start invariant-loop decreases-loop
-begun c = let shared = c.before.before.before.before in shared.before.before
+begun c = c.before.before.before.before.before.before
 
 loop-holds : tie.Need-loop-k-init invariant-loop decreases-loop
 loop-holds c =
@@ -76,51 +76,35 @@ loop-holds c =
       refl,
       refl,
       refl,
-      record { within = omega arith; known = λ ms f e. known-none ms s.args.modules e s.requires.clear },
+      record { within = omega arith; known = λ ms f e. known-none ms s.args.modules e s.pre.clear },
     )
 
 -- The entry from a turn, the turn from behind its test and what follows it, and the module that it is about.
 abbrev entered : tie.In-loop-k invariant-loop decreases-loop → tie.Start invariant-loop decreases-loop
 entered c = begun c.before.before
 
-abbrev tested : tie.Joined-first-x-ne0 invariant-loop decreases-loop → tie.In-loop-k invariant-loop decreases-loop
-tested c = c.before.before.before.before
-
-abbrev named : tie.After-shared_slice_known-in-loop-k-2-1 invariant-loop decreases-loop → tie.In-loop-k invariant-loop decreases-loop
-named c = tested c.before
-
-abbrev ported : tie.After-shared_slice_known-in-loop-k-3-1 invariant-loop decreases-loop → tie.In-loop-k invariant-loop decreases-loop
-ported c = named c.before
-
 turn :
     (c : tie.In-loop-k invariant-loop decreases-loop)
     → (let a = (entered c).args in
-    Readable a.numbers.now a.starts.now a.first.now a.names.now a.inputs.now a.outputs.now (c.before.loop-k.k - 1))
-turn c = readable (entered c).requires (c.before.loop-k.k - 1) (omega (arith, c.before.loop-k.invariant.4.within))
+    Readable a.numbers.now a.starts.now a.first.now a.names.now a.inputs.now a.outputs.now (c.loop-k.k - 1))
+turn c = readable (entered c).requires (c.loop-k.k - 1) (omega (arith, c.loop-k.invariant.4.within))
 
 -- The number read is an index of the table.
-indexed : (c : tie.After-entry-x invariant-loop decreases-loop) → c.entry-x.result < length c.before.before.before.loop-k.first
-indexed c = let h = turn c.before.before in omega (arith, c.entry-x.ensures, c.before.before.before.loop-k.invariant.0)
+indexed : (c : tie.After-entry-x invariant-loop decreases-loop) → c.entry-x.result < length c.loop-k.first
+indexed c = let h = turn c.before.before in omega (arith, c.entry-x.ensures, c.loop-k.invariant.0)
 
 list-end-requires : tie.Need-list_end-requires invariant-loop decreases-loop
 list-end-requires c κs =
-    let h = turn (ported c) in
+    let h = turn c.before.before.before.before.before.before in
     record { list = h.m.inputs; stands = inputs-stand h.m h.stands }
 
--- Back to a turn from behind the inputs, and the place there.
-abbrev turned : tie.After-list_end invariant-loop decreases-loop → tie.In-loop-k invariant-loop decreases-loop
-turned c = ported c.before
-
-counted : (c : tie.After-list_end invariant-loop decreases-loop) → c.list_end.result < length (entered (turned c)).args.numbers.now
-counted c = let h = turn (turned c) in omega (arith, c.list_end.ensures h.m.inputs (inputs-stand h.m h.stands))
+counted : (c : tie.After-list_end invariant-loop decreases-loop) → c.list_end.result < length (entered c.before.before.before.before.before.before.before).args.numbers.now
+counted c = let h = turn c.before.before.before.before.before.before.before in omega (arith, c.list_end.ensures h.m.inputs (inputs-stand h.m h.stands))
 
 loop-again : tie.Need-loop-k-preserved invariant-loop decreases-loop
 loop-again c =
-    let t = turned c.before in
-    let l = t.before.loop-k in
-    let joined = c.before.before.before.before in
-    let x = joined.before.before in
-    let h = turn t in
+    let l = c.loop-k in
+    let h = turn c.before.before.before.before.before.before.before.before in
     let back : l.k ≡ l.k - 1 + 1 = omega arith in (
       rw length-set l.inv.0,
       rw length-set l.inv.1,
@@ -134,22 +118,22 @@ loop-again c =
             let q = module_at p.m s in
             let behind = subst (λ (n : ℕ). Known ms n l.first l.names l.inputs l.outputs l.repeated) back (l.inv.4.known ms f e) in
             known_more p behind
-            (x.entry-x.ensures ∙ q.number)
+            (c.entry-x.ensures ∙ q.number)
             q.number
             (q.input_count _ refl)
-            (q.output_count _ (c.before.list_end.ensures p.m.inputs (inputs-stand p.m s) ∙ omega arith))
-            (indexed x)
+            (q.output_count _ (c.list_end.ensures p.m.inputs (inputs-stand p.m s) ∙ omega arith))
+            (indexed c.before.before.before.before.before.before)
             (omega (arith, h.in_names, l.inv.1))
             (omega (arith, h.in_inputs, l.inv.2))
             (omega (arith, h.in_outputs, l.inv.3))
-            (⊎_elim (λ w. inl (w.0.taken, w.1)) (λ w. inr (w.0.left, w.1)) joined.if-first-x-ne0.branch);
+            (⊎_elim (λ w. inl (w.0.taken, w.1)) (λ w. inr (w.0.left, w.1)) c.if-first-x-ne0.branch);
       },
     )
 
 returns : tie.Need-returns invariant-loop decreases-loop
 returns c ms f e =
-    let l = c.before.loop-k in
-    let p = (begun c.before.before).requires in
+    let l = c.loop-k in
+    let p = (begun c.before.before).pre in
     let done : l.k ≡ 0 = omega arith in
     known-all
     (subst (λ (n : ℕ). Known ms n l.first l.names l.inputs l.outputs l.repeated) done (l.invariant.4.known ms f e))
@@ -170,29 +154,29 @@ number_modules_spec =
     (λ c κs. let h = turn c.before in omega arith)
     (λ c. let h = indexed c in omega arith)
     (λ c. indexed c.before)
-    (λ c. let h = turn (tested c) in omega arith)
-    (λ c. let h = turn (tested c) in omega arith)
+    (λ c. let h = turn c.before.before.before.before in omega arith)
+    (λ c. let h = turn c.before.before.before.before in omega arith)
     (λ c. let h = indexed c.before.before in omega arith)
     (λ c. indexed c.before.before)
-    (λ c. let h = turn (tested c) in omega arith)
-    (λ c. let h = turn (named c) in omega arith)
-    (λ c. let h = turn (named c) in omega arith)
-    (λ c. let t = named c in let h = turn t in omega (arith, t.before.loop-k.inv.1))
-    (λ c. let h = turn (named c) in omega arith)
-    (λ c. let h = turn (named c) in omega arith)
-    (λ c. let h = turn (ported c) in omega arith)
-    (λ c. let h = turn (ported c) in omega arith)
-    (λ c. let t = ported c in let h = turn t in omega (arith, t.before.loop-k.inv.2))
-    (λ c. let h = turn (ported c) in omega arith)
+    (λ c. let h = turn c.before.before.before.before in omega arith)
+    (λ c. let h = turn c.before.before.before.before.before in omega arith)
+    (λ c. let h = turn c.before.before.before.before.before in omega arith)
+    (λ c. let h = turn c.before.before.before.before.before in omega (arith, c.loop-k.inv.1))
+    (λ c. let h = turn c.before.before.before.before.before in omega arith)
+    (λ c. let h = turn c.before.before.before.before.before in omega arith)
+    (λ c. let h = turn c.before.before.before.before.before.before in omega arith)
+    (λ c. let h = turn c.before.before.before.before.before.before in omega arith)
+    (λ c. let h = turn c.before.before.before.before.before.before in omega (arith, c.loop-k.inv.2))
+    (λ c. let h = turn c.before.before.before.before.before.before in omega arith)
     list-end-requires
     (λ c. let h = counted c in omega arith)
     (λ c. counted c.before)
-    (λ c. let h = turn (turned c.before) in omega arith)
-    (λ c. let t = turned c.before in let h = turn t in omega (arith, t.before.loop-k.inv.3))
+    (λ c. let h = turn c.before.before.before.before.before.before.before.before in omega arith)
+    (λ c. let h = turn c.before.before.before.before.before.before.before.before in omega (arith, c.loop-k.inv.3))
     (λ c. omega arith)
     loop-again
-    (λ c. c.before.loop-k.invariant.0)
-    (λ c. c.before.loop-k.invariant.1)
-    (λ c. c.before.loop-k.invariant.2)
-    (λ c. c.before.loop-k.invariant.3)
+    (λ c. c.loop-k.invariant.0)
+    (λ c. c.loop-k.invariant.1)
+    (λ c. c.loop-k.invariant.2)
+    (λ c. c.loop-k.invariant.3)
     returns)

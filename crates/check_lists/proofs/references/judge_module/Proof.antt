@@ -11,40 +11,34 @@ use Rattle.check_lists.proofs.Targets.{Target, target, to_none, inputs-differ, o
 use Rattle.check_lists.proofs.references.judge_module.Statement.{statement}
 use Rattle.check_lists.proofs.references.judge_module.Tie as tie
 
--- The function's entry, from where the number's place is read.
-abbrev entered : tie.After-entry-place → tie.Start
-entered c = c.before.before.before.before
-
 -- Behind the first test: the module that is meant, in any file that the tables know.
 meant :
     (c : tie.Else-place-k) (ms : List Module)
-    → (let a = (entered c.before).args in
+    → (let a = c.args in
     Numbered a.first.now ms → Ported a.inputs.now a.outputs.now ms → a.k < first_repeat ms
-    → Target a.inputs.now a.outputs.now ms a.k a.number c.before.entry-place.result)
+    → Target a.inputs.now a.outputs.now ms a.k a.number c.entry-place.result)
 meant c ms numbered ported unrepeated =
-    let a = (entered c.before).args in
-    target a.first.now a.inputs.now a.outputs.now ms a.k a.number c.before.entry-place.result
-    numbered ported unrepeated c.before.entry-place.ensures c.if-place-k.false
+    let a = c.args in
+    target a.first.now a.inputs.now a.outputs.now ms a.k a.number c.entry-place.result
+    numbered ported unrepeated c.entry-place.ensures c.if-place-k.false
 
 -- The same in the file that the call rests on.
 own :
     (c : tie.Else-place-k)
-    → (let s = entered c.before in
-    Target s.args.inputs.now s.args.outputs.now s.requires.0.ms s.args.k s.args.number c.before.entry-place.result)
+    → (Target c.args.inputs.now c.args.outputs.now c.requires.0.ms c.args.k c.args.number c.entry-place.result)
 own c =
-    let p = (entered c.before).requires.0 in
+    let p = c.requires.0 in
     meant c p.ms p.numbered p.ported p.unrepeated
 
 add-if1 : tie.Need-overflow_add-k
 add-if1 c =
-    let p = (entered c).requires.0 in
+    let p = c.requires.0 in
     omega (arith, p.unrepeated, repeat_inside p.ms, p.ported.inputs_listed)
 
 returns : tie.Need-returns-then-place-k
 returns c ms takes drives numbered ported unrepeated taken driven =
-    let s = entered c.before in
-    sym (to_none ms s.args.k s.args.number takes drives s.requires.1
-    (later-none ms s.args.k s.args.number unrepeated (omega (arith, numbered.place s.args.number))))
+    sym (to_none ms c.args.k c.args.number takes drives c.requires.1
+    (later-none ms c.args.k c.args.number unrepeated (omega (arith, numbered.place c.args.number))))
 
 entry-requires-2 : tie.Need-entry-requires
 entry-requires-2 c κs = (own c).in_inputs
@@ -52,27 +46,25 @@ entry-requires-2 c κs = (own c).in_inputs
 returns-2 : tie.Need-returns-then-taken-entry
 returns-2 c ms takes drives numbered ported unrepeated taken driven =
     let t = meant c.before.before ms numbered ported unrepeated in
-    let g = (entered c.before.before.before).requires.1 in
-    sym (inputs-differ t g takes drives (λ same. c.if-taken-entry.true (taken ∙ same ∙ sym (c.before.entry.ensures ∙ t.input_count))))
+    let g = c.requires.1 in
+    sym (inputs-differ t g takes drives (λ same. c.if-taken-entry.true (taken ∙ same ∙ sym (c.entry.ensures ∙ t.input_count))))
 
 entry-requires-3 : tie.Need-entry-requires-2
 entry-requires-3 c κs = (own c.before.before).in_outputs
 
 returns-3 : tie.Need-returns-then-driven-entry
 returns-3 c ms takes drives numbered ported unrepeated taken driven =
-    let one = c.before.before.before.before in
-    let t = meant one ms numbered ported unrepeated in
-    let g = (entered one.before).requires.1 in
-    sym (outputs-differ t g takes drives (λ same. c.if-driven-entry.true (driven ∙ same ∙ sym (c.before.entry-2.ensures ∙ t.output_count))))
+    let t = meant c.before.before.before.before ms numbered ported unrepeated in
+    let g = c.requires.1 in
+    sym (outputs-differ t g takes drives (λ same. c.if-driven-entry.true (driven ∙ same ∙ sym (c.entry-2.ensures ∙ t.output_count))))
 
 returns-4 : tie.Need-returns
 returns-4 c ms takes drives numbered ported unrepeated taken driven =
-    let one = c.before.before.before.before in
-    let t = meant one ms numbered ported unrepeated in
-    let g = (entered one.before).requires.1 in
+    let t = meant c.before.before.before.before ms numbered ported unrepeated in
+    let g = c.requires.1 in
     sym (counts-agree t g takes drives
-    (sym taken ∙ c.before.before.if-taken-entry.false ∙ c.before.before.before.entry.ensures ∙ t.input_count)
-    (sym driven ∙ c.if-driven-entry.false ∙ c.before.entry-2.ensures ∙ t.output_count))
+    (sym taken ∙ c.if-taken-entry.false ∙ c.entry.ensures ∙ t.input_count)
+    (sym driven ∙ c.if-driven-entry.false ∙ c.entry-2.ensures ∙ t.output_count))
 
 pub judge_module_spec : {M : Type 1} → statement M
 judge_module_spec =

@@ -11,42 +11,32 @@ use Rattle.check_lists.proofs.Targets.{to-gate}
 use Rattle.check_lists.proofs.references.judge_reference.Statement.{statement}
 use Rattle.check_lists.proofs.references.judge_reference.Tie as tie
 
--- The function's entry, from where the number's kind is known.
-abbrev entered : tie.After-kind_of → tie.Start
-entered c = c.before.before.before.before
-
 returns : tie.Need-returns-then-taken-arity
 returns c ms takes drives numbered ported unrepeated taken driven =
-    let k = c.before.before.before.before in
-    let a = (entered k).args in
-    let g = gate-of-kind a.number (sym k.kind_of.ensures ∙ c.before.before.arity-1.given.1) in
+    let a = c.args in
+    let g = gate-of-kind a.number (sym c.kind_of.ensures ∙ c.in-Gate.is) in
     sym (to-gate ms a.k a.number takes drives (lt-ltb a.number 16 g.below) false
-    (ap (λ (b : Bool). b && eqb 1 (length drives)) (ne_eqb (gate a.number).arity-1 (length takes) (λ e. c.if-taken-arity.true (taken ∙ sym e ∙ sym g.arity-is)))))
+    (ap (λ (b : Bool). b && eqb 1 (length drives)) (ne_eqb (gate a.number).arity (length takes) (λ e. c.if-taken-arity.true (taken ∙ sym e ∙ sym g.arity-is)))))
 
 returns-2 : tie.Need-returns-then-driven-ne1
 returns-2 c ms takes drives numbered ported unrepeated taken driven =
-    let arity = c.before.before.before in
-    let k = arity.before.before in
-    let a = (entered k).args in
-    let g = gate-of-kind a.number (sym k.kind_of.ensures ∙ arity.arity-1.given.1) in
+    let a = c.args in
+    let g = gate-of-kind a.number (sym c.kind_of.ensures ∙ c.in-Gate.is) in
     sym (to-gate ms a.k a.number takes drives (lt-ltb a.number 16 g.below) false
-    (ap (λ (b : Bool). eqb (gate a.number).arity-1 (length takes) && b) (ne_eqb 1 (length drives) (λ e. c.if-driven-ne1.true (driven ∙ sym e)))
-    ∙ and-false (eqb (gate a.number).arity-1 (length takes))))
+    (ap (λ (b : Bool). eqb (gate a.number).arity (length takes) && b) (ne_eqb 1 (length drives) (λ e. c.if-driven-ne1.true (driven ∙ sym e)))
+    ∙ and-false (eqb (gate a.number).arity (length takes))))
 
 judge-module-requires : tie.Need-judge_module-requires
 judge-module-requires c κs =
-    let s = entered c.before.before in
-    (s.pre, le-ltb s.args.number 16 (module_of-kind s.args.number (sym c.before.before.kind_of.ensures ∙ c.enum_told-1.given.1)))
+    (c.requires, le-ltb c.args.number 16 (module_of-kind c.args.number (sym c.kind_of.ensures ∙ c.in-Module.is)))
 
 returns-3 : tie.Need-returns-else-driven-ne1
 returns-3 c ms takes drives numbered ported unrepeated taken driven =
-    let arity = c.before.before.before in
-    let k = arity.before.before in
-    let a = (entered k).args in
-    let g = gate-of-kind a.number (sym k.kind_of.ensures ∙ arity.arity-1.given.1) in
+    let a = c.args in
+    let g = gate-of-kind a.number (sym c.kind_of.ensures ∙ c.in-Gate.is) in
     sym (to-gate ms a.k a.number takes drives (lt-ltb a.number 16 g.below) true
     (ap₂ ◌&&◌
-    (eq-eqb (gate a.number).arity-1 (length takes) (sym g.arity-is ∙ sym c.before.if-taken-arity.false ∙ taken))
+    (eq-eqb (gate a.number).arity (length takes) (sym g.arity-is ∙ sym c.if-taken-arity.false ∙ taken))
     (eq-eqb 1 (length drives) (sym c.if-driven-ne1.false ∙ driven))))
 
 pub judge_reference_spec : {M : Type 1} → statement M

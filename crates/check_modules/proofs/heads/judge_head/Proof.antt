@@ -53,23 +53,23 @@ module _ {numbers slots : List ℕ} {base n e : ℕ} where
       }
 
 shared-slice-read-if1 : tie.Need-bounds-numbers-0
-shared-slice-read-if1 c = let h = c.before.before.before.requires in (module_at h.m (stands-whole h.own)).inside
+shared-slice-read-if1 c = let h = c.requires in (module_at h.m (stands-whole h.own)).inside
 
 returns : tie.Need-returns-then-numbers-lt16
 returns c =
-    let h = c.before.before.before.before.requires in
+    let h = c.requires in
     gate (below_more _ (omega arith) h.earlier) c.if-numbers-lt16.true
 
 -- Back to the function's entry from where the inputs end, and from where the outputs do.
 abbrev entered : tie.After-list_end-n → tie.Start
-entered c = let tested = c.before.before in tested.before.before.before
+entered c = c.before.before.before.before.before
 
 abbrev listed : tie.After-list_end-e → tie.Start
 listed c = entered c.before
 
 list-end-requires : tie.Need-list_end-n-requires
 list-end-requires c κs =
-    let h = c.before.before.before.before.requires in record { list = h.m.inputs; stands = inputs-stand h.m (stands-whole h.own) }
+    let h = c.requires in record { list = h.m.inputs; stands = inputs-stand h.m (stands-whole h.own) }
 
 -- Outputs stand behind the inputs' end.
 add-o : tie.Need-overflow_add-o
@@ -88,10 +88,10 @@ list-end-requires-2 c κs =
 place :
     (c : tie.After-list_end-e)
     → (let s = listed c in
-    Places s.args.numbers.now 0 c.before.list_end-n.result c.list_end-e.result s.requires.m)
+    Places s.args.numbers.now 0 c.list_end-n.result c.list_end-e.result s.pre.m)
 place c =
     let h = (listed c).requires in
-    places c.before.list_end-n.ensures c.list_end-e.ensures h.m (stands-whole h.own)
+    places c.list_end-n.ensures c.list_end-e.ensures h.m (stands-whole h.own)
 
 sub-judge-ports : tie.Need-slice_bounds-judge_ports-count
 sub-judge-ports c = let p = place c in omega arith
@@ -116,14 +116,11 @@ part-judge-ports-end-2 c = let p = place c.before in omega arith
 
 judge-ports-requires : tie.Need-judge_ports-requires
 judge-ports-requires c κs =
-    let l = c.before.before.before in
-    ready (listed l).requires (place l)
+    ready (listed c.before.before.before).requires (place c.before.before.before)
 
 returns-2 : tie.Need-returns
 returns-2 c =
-    let j = c.before.before in
-    let l = j.before.before.before.before in
-    judged l.before.before.if-numbers-lt16.false l.before.list_end-n.ensures l.list_end-e.ensures j.judge_ports.ensures
+    judged c.if-numbers-lt16.false c.list_end-n.ensures c.list_end-e.ensures c.judge_ports.ensures
 
 pub judge_head_spec : {M : Type 1} → statement M
 judge_head_spec =

@@ -50,58 +50,39 @@ module _ {inputs outputs : List ℕ} {base : ℕ} {slots : List ℕ} where
             low = known-below 65536 knows few;
           }
 
--- Back to the function's entry from behind each search.
-abbrev entered : tie.After-has_repeat → tie.Start
-entered c = c.before.before.before.before
-
-abbrev first : tie.After-has_repeat-2 → tie.After-has_repeat
-first c = c.before.before
-
-abbrev second : tie.After-learn → tie.After-has_repeat-2
-second c = c.before.before.before
-
-abbrev learnt : tie.After-any_known → tie.After-learn
-learnt c = c.before.before.before.before
-
 -- Neither inputs nor outputs repeat a net.
-inputs-single : (c : tie.Else-has_repeat) → duplicates (entered c.before).args.inputs.now ≡ false
-inputs-single c = sym c.before.has_repeat.ensures ∙ c.if-has_repeat.false
+inputs-single : (c : tie.Else-has_repeat) → duplicates c.args.inputs.now ≡ false
+inputs-single c = sym c.has_repeat.ensures ∙ c.if-has_repeat.false
 
-outputs-single : (c : tie.Else-has_repeat-2) → duplicates (entered (first c.before)).args.outputs.now ≡ false
-outputs-single c = sym c.before.has_repeat-2.ensures ∙ c.if-has_repeat-2.false
+outputs-single : (c : tie.Else-has_repeat-2) → duplicates c.args.outputs.now ≡ false
+outputs-single c = sym c.has_repeat-2.ensures ∙ c.if-has_repeat-2.false
 
 returns : tie.Need-returns-then-has_repeat
 returns c =
-    inputs-repeat (below_more _ (omega arith) (entered c.before).requires.earlier) (sym c.before.has_repeat.ensures ∙ c.if-has_repeat.true)
+    inputs-repeat (below_more _ (omega arith) c.requires.earlier) (sym c.has_repeat.ensures ∙ c.if-has_repeat.true)
 
 returns-2 : tie.Need-returns-then-has_repeat-2
 returns-2 c =
-    let g = c.before in
-    outputs-repeat (inputs-single g.before) (below_more _ (omega arith) (entered (first g)).requires.earlier)
-    (sym g.has_repeat-2.ensures ∙ c.if-has_repeat-2.true)
+    outputs-repeat (inputs-single c.before.before) (below_more _ (omega arith) c.requires.earlier)
+    (sym c.has_repeat-2.ensures ∙ c.if-has_repeat-2.true)
 
 any-known-requires : tie.Need-any_known-requires
 any-known-requires c κs =
-    let l = c.before.before.before in
-    below-sized l.learn.auto.1.0 (entered (first (second l))).requires.outputs_index
+    below-sized c.learn.auto.1.0 c.requires.outputs_index
 
 -- A table with entries from before knows no net, and then it knows the inputs.
-known : (c : tie.After-learn) → (let s = entered (first (second c)) in Knows c.learn.new.1.0 s.args.base s.args.inputs.now)
-known c = c.learn.ensures (knows-none (entered (first (second c))).requires.earlier) (inputs-single (second c).before)
+known : (c : tie.After-learn) → (Knows c.learn.new.1.0 c.args.base c.args.inputs.now)
+known c = c.learn.ensures (knows-none c.requires.earlier) (inputs-single c.before.before.before.before)
 
 returns-3 : tie.Need-returns-then-any_known
 returns-3 c =
-    let l = learnt c.before in
-    let g = second l in
-    shared (inputs-single g.before) (entered (first g)).requires.few (outputs-single l.before.before) (known l)
-    (λ nets k. sym c.if-any_known.true ∙ c.before.any_known.ensures nets k)
+    shared (inputs-single c.before.before.before.before.before.before.before.before) c.requires.few (outputs-single c.before.before.before.before.before.before) (known c.before.before.before.before)
+    (λ nets k. sym c.if-any_known.true ∙ c.any_known.ensures nets k)
 
 returns-4 : tie.Need-returns
 returns-4 c =
-    let l = learnt c.before in
-    let g = second l in
-    fine (inputs-single g.before) (entered (first g)).requires.few (outputs-single l.before.before) (known l)
-    (λ nets k. sym c.if-any_known.false ∙ c.before.any_known.ensures nets k)
+    fine (inputs-single c.before.before.before.before.before.before.before.before) c.requires.few (outputs-single c.before.before.before.before.before.before) (known c.before.before.before.before)
+    (λ nets k. sym c.if-any_known.false ∙ c.any_known.ensures nets k)
 
 pub judge_ports_spec : {M : Type 1} → statement M
 judge_ports_spec =

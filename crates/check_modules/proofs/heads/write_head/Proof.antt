@@ -8,39 +8,30 @@ use Rattle.check_modules.proofs.HeadNumbers.{inputs-ready, outputs-ready, head-w
 use Rattle.check_modules.proofs.heads.write_head.Statement.{statement}
 use Rattle.check_modules.proofs.heads.write_head.Tie as tie
 
--- Back to the function's entry from where the inputs end.
-abbrev entered : tie.After-list_end-o → tie.Start
-entered c = c.before.before.before.before
-
 list-end-requires : tie.Need-list_end-o-requires
-list-end-requires c κs = let p = c.before.before.before.requires in record { list = p.m.inputs; stands = inputs_in_head p.m p.stands }
+list-end-requires c κs = let p = c.requires in record { list = p.m.inputs; stands = inputs_in_head p.m p.stands }
 
 write-list-requires : tie.Need-write_list-requires
-write-list-requires c κs = inputs-ready (entered c.before).requires
+write-list-requires c κs = inputs-ready c.requires
 
 -- What slots in the outputs' places ask, once the inputs have theirs.
 outputs :
     (c : tie.After-write_list)
-    → (let l = c.before.before in
-    let a = (entered l).args in
-    ListReady c.write_list.new.0 a.slots.now a.base l.list_end-o.result a.nets)
+    → (let a = c.args in
+    ListReady c.write_list.new.0 a.slots.now a.base c.list_end-o.result a.nets)
 outputs c =
-    let l = c.before.before in
-    outputs-ready (entered l).requires l.list_end-o.ensures c.write_list.auto.0 c.write_list.ensures
+    outputs-ready c.requires c.list_end-o.ensures c.write_list.auto.0 c.write_list.ensures
 
 entry-requires : tie.Need-entry-outputs-requires
-entry-requires c κs = omega (arith, (outputs c.before.before.before).listed.stands.within)
+entry-requires c κs = omega (arith, (outputs c.before.before).listed.stands.within)
 
 write-list-requires-2 : tie.Need-write_list-requires-2
-write-list-requires-2 c κs = (let counted = c.before in outputs counted.before.before.before.before)
+write-list-requires-2 c κs = (outputs c.before.before.before.before)
 
 returns : tie.Need-returns
 returns c =
-    let w₂ = c.before.before in
-    let e = w₂.before.before in
-    let w = e.before.before.before.before in
-    head-written w.before.before.list_end-o.ensures w.write_list.auto.0 w.write_list.ensures e.entry-outputs.ensures
-    w₂.write_list-2.ensures
+    head-written c.list_end-o.ensures c.write_list.auto.0 c.write_list.ensures c.entry-outputs.ensures
+    c.write_list-2.ensures
 
 pub write_head_spec : {M : Type 1} → statement M
 write_head_spec =

@@ -44,18 +44,15 @@ module _
 
 returns : tie.Need-returns-then-not-write_head
 returns c =
-    let w = c.before.before.before in
-    unanswered w.write_head.ensures (not-true w.write_head.result c.if-not-write_head.true)
+    unanswered c.write_head.ensures (not-true c.write_head.result c.if-not-write_head.true)
 
 returns-2 : tie.Need-returns-then-nets-gt4096
 returns-2 c =
-    let w = c.before.before.before.before in
-    many w.write_head.ensures (not-false w.write_head.result c.before.if-not-write_head.false) c.if-nets-gt4096.true
+    many c.write_head.ensures (not-false c.write_head.result c.if-not-write_head.false) c.if-nets-gt4096.true
 
 returns-3 : tie.Need-returns-else-nets-gt4096
 returns-3 c =
-    let w = c.before.before.before.before in
-    fine w.write_head.ensures (not-false w.write_head.result c.before.if-not-write_head.false) c.if-nets-gt4096.false
+    fine c.write_head.ensures (not-false c.write_head.result c.if-not-write_head.false) c.if-nets-gt4096.false
 
 pub finish_module_spec : {M : Type 1} → statement M
 finish_module_spec =

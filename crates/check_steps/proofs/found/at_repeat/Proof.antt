@@ -10,16 +10,16 @@ returns : tie.Need-returns-then-modules-repeated
 returns c b = none-repeats b c.if-modules-repeated.true
 
 mul-if2 : tie.Need-offset_bounds-numbers-start
-mul-if2 c = let p = c.before.before.requires in omega (arith, repeat_starts p c.before.if-modules-repeated.false, p.short)
+mul-if2 c = let p = c.requires in omega (arith, repeat_starts p c.if-modules-repeated.false, p.short)
 
 shared-slice-read-if2 : tie.Need-bounds-numbers-start
-shared-slice-read-if2 c = repeat_starts c.before.before.before.requires c.before.before.if-modules-repeated.false
+shared-slice-read-if2 c = repeat_starts c.requires c.if-modules-repeated.false
 
 returns-2 : tie.Need-returns-then-numbers-start-lt16
-returns-2 c b = repeat_of-gate b c.before.before.before.if-modules-repeated.false c.if-numbers-start-lt16.true
+returns-2 c b = repeat_of-gate b c.if-modules-repeated.false c.if-numbers-start-lt16.true
 
 returns-3 : tie.Need-returns-else-numbers-start-lt16
-returns-3 c b = repeat_of_module b c.before.before.before.if-modules-repeated.false c.if-numbers-start-lt16.false
+returns-3 c b = repeat_of_module b c.if-modules-repeated.false c.if-numbers-start-lt16.false
 
 pub at_repeat_spec : {M : Type 1} → statement M
 at_repeat_spec =

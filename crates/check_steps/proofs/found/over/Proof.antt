@@ -2,21 +2,21 @@
 use mathlib.Core.Path.{sym, ap}
 use borrow.Author.Rules.{rules}
 use Rattle.check_steps.specs.Found.{over_of}
-use Rattle.check_steps.proofs.found-1.over.Statement.{statement}
-use Rattle.check_steps.proofs.found-1.over.Tie as tie
-use Rattle.check_steps.specs.declared.found-1.Found.{Found}
+use Rattle.check_steps.proofs.found.over.Statement.{statement}
+use Rattle.check_steps.proofs.found.over.Tie as tie
+use Rattle.check_steps.specs.declared.found.Found.{Found}
 
 returns : tie.Need-returns-in-Fine
 unfolding over_of
-returns c = sym (ap (λ (f : Found). over_of f c.before.before.args.place) c.enum_told-1.given.1)
+returns c = sym (ap (λ (f : Found). over_of f c.args.place) c.in-Fine.is)
 
 returns-2 : tie.Need-returns-in-Over
 unfolding over_of
-returns-2 c = sym (ap (λ (f : Found). over_of f c.before.before.before.args.place) c.before.found-1.given.1)
+returns-2 c = sym (ap (λ (f : Found). over_of f c.args.place) c.in-Over.is)
 
 returns-3 : tie.Need-returns-in-Broken
 unfolding over_of
-returns-3 c = sym (ap (λ (f : Found). over_of f c.before.before.before.args.place) c.before.found-in-Broken-1.given.1)
+returns-3 c = sym (ap (λ (f : Found). over_of f c.args.place) c.in-Broken.is)
 
 pub over_spec : {M : Type 1} → statement M
 over_spec =

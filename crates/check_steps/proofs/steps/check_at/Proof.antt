@@ -8,82 +8,70 @@ use Rattle.check_steps.proofs.steps.check_at.Tie as tie
 
 -- Back to the function's entry from where the module's start is read and from where its end is known, and from the call to there.
 abbrev begun : tie.After-shared_slice_known-5-1 → tie.Start
-begun c = let back = c.before.before.before.before in let more = back.before.before.before.before in more.before.before
+begun c = c.before.before.before.before.before.before.before.before.before.before
 
 abbrev entered : tie.After-end_before-end → tie.Start
-entered d = begun d.before.before
+entered d = begun d.before
 
 abbrev ended : tie.After-check_module → tie.After-end_before-end
-ended m = let args = m.before.before.before.before in args.before
+ended m = m.before.before.before.before.before
 
 cast-base : tie.Need-overflow_cast-base
-cast-base d = omega (arith, few (entered d).requires d.end_Before.ensures)
+cast-base d = omega (arith, few (entered d).requires d.end_before-end.ensures)
 
 mul-base : tie.Need-overflow_mul-base
-mul-base d = omega (arith, few (entered d).requires d.end_Before.ensures)
+mul-base d = omega (arith, few (entered d).requires d.end_before-end.ensures)
 
 mul-check-module : tie.Need-offset_bounds-numbers-start
-mul-check-module d = omega (arith, start-below (entered d).requires d.end_Before.ensures)
+mul-check-module d = omega (arith, start-below (entered d).requires d.end_before-end.ensures)
 
 sub-check-module : tie.Need-slice_bounds-check_module-count
-sub-check-module d = (bounds (entered d).requires d.end_Before.ensures).0
+sub-check-module d = (bounds (entered d).requires d.end_before-end.ensures).0
 
 part-check-module-start : tie.Need-slice_bounds-check_module-start
-part-check-module-start d = (bounds (entered d).requires d.end_Before.ensures).0
+part-check-module-start d = (bounds (entered d).requires d.end_before-end.ensures).0
 
 part-check-module-end : tie.Need-slice_bounds-check_module-end
-part-check-module-end d = (bounds (entered d).requires d.end_Before.ensures).1
+part-check-module-end d = (bounds (entered d).requires d.end_before-end.ensures).1
 
 check-module-requires : tie.Need-check_module-requires
-check-module-requires c κs = let d = c.before.before.before.before in ready (entered d).requires d.end_Before.ensures
-
--- Back to the call from behind it and from the arm where the module is fine, and to the keeping of its figures from behind that.
-abbrev called : tie.After-slice_known-7-1 → tie.After-check_module
-called c = c.before.before.before.before
+check-module-requires c κs = ready (entered c.before.before).requires c.end_before-end.ensures
 
 abbrev fine : tie.In-Fine → tie.After-check_module
-fine c = called c.before.before.before
+fine c = c.before.before.before.before.before
 
 abbrev keeping : tie.After-slice_known-in-Fine-2-1 → tie.After-keep
 keeping c = c.before.before.before.before
 
 mul-nets : tie.Need-offset_bounds-nets-k
-mul-nets c = let d = ended (fine c) in omega (arith, few (entered d).requires d.end_Before.ensures)
+mul-nets c = let d = ended c.before.before.before.before.before in omega (arith, few (entered d).pre d.end_Before.ensures)
 
 slice-write-nets : tie.Need-bounds-nets-k
-slice-write-nets c = let d = ended (fine c) in nets-long (entered d).requires d.end_Before.ensures
+slice-write-nets c = let d = ended c.before.before.before.before.before in nets-long (entered d).pre d.end_Before.ensures
 
 keep-requires : tie.Need-keep-requires
 keep-requires c κs =
-    let m = fine c.before.before in
-    let d = ended m in
-    let kept = m.check_module.kept in
-    may_keep (entered d).requires d.end_Before.ensures m.check_module.ensures kept.0 kept.1.1.1.1.1.0 _ _ c.before.before.before.own-1.given.1
+    let d = ended c.before.before.before.before.before.before.before in
+    let kept = c.check_module.kept in
+    may_keep (entered d).pre d.end_Before.ensures c.check_module.ensures kept.0 kept.1.1.1.1.1.0 _ _ c.in-Fine.is
 
 returns : tie.Need-returns-in-Broken
 returns c b =
-    let m = called c.before.before.before in
-    let kept = m.check_module.kept in
-    gone-broken b (ended m).end_Before.ensures m.check_module.ensures kept.0 kept.1.1.1.1.1.0 _ c.before.rule-1.given.1
+    let kept = c.check_module.kept in
+    gone-broken b (ended c.before.before.before.before.before).end_Before.ensures c.check_module.ensures kept.0 kept.1.1.1.1.1.0 _ c.in-Broken.is
 
 returns-2 : tie.Need-returns-then-keep
 returns-2 c b =
-    let k = keeping c.before in
-    let f = k.before.before.before in
-    let m = fine f in
-    let kept = m.check_module.kept in
-    gone-kept b (ended m).end_Before.ensures m.check_module.ensures kept.0 kept.1.1.1.1.1.0 _ _ f.before.own-1.given.1
-    k.keep.ensures c.if-keep.true
+    let kept = c.check_module.kept in
+    gone-kept b (ended c.before.before.before.before.before.before.before.before.before.before.before.before.before).end_Before.ensures c.check_module.ensures kept.0 kept.1.1.1.1.1.0 _ _ c.in-Fine.is
+    c.keep.ensures c.if-keep.true
 
 returns-3 : tie.Need-returns-else-keep
 returns-3 c b =
-    let k = keeping c.before.before in
-    let f = k.before.before.before in
-    let m = fine f in
-    let kept = m.check_module.kept in
+    let kept = c.check_module.kept in
     rw c.over.ensures
-    (gone-over b (ended m).end_Before.ensures m.check_module.ensures kept.0 kept.1.1.1.1.1.0 _ _ f.before.own-1.given.1
-    k.keep.ensures c.before.if-keep.false)
+    (gone-over b (ended c.before.before.before.before.before.before.before.before.before.before.before.before.before.before).end_Before.ensures c.check_module.ensures kept.0 kept.1.1.1.1.1.0 _ _ c.in-Fine.is
+    c.keep.ensures c.if-keep.false)
 
 pub check_at_spec : {M : Type 1} → statement M
 check_at_spec =

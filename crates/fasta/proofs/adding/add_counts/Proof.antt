@@ -37,22 +37,20 @@ abbrev turn : tie.After-wrapping_add_u64 invariant-loop decreases-loop → tie.I
 turn c = c.before.before.before.before
 
 -- The entry of a turn is one of the table's.
-inside : (c : tie.In-loop-i invariant-loop decreases-loop) → c.before.loop-i.i < length c.before.loop-i.table
-inside c = omega (arith, (entry c.before).requires.1, c.before.loop-i.invariant.same, c.loop-i-test.true)
+inside : (c : tie.In-loop-i invariant-loop decreases-loop) → c.loop-i.i < length c.loop-i.table
+inside c = omega (arith, c.requires.1, c.loop-i.invariant.same, c.loop-i-test.true)
 
 loop-again : tie.Need-loop-i-preserved invariant-loop decreases-loop
 loop-again c =
-    let t = turn c in
-    let l = t.before.loop-i in
-    adds-more l.inv t.loop-i-test.taken (inside t)
-    (c.wrapping_add_u64.ensures ∙ ap (λ (x : ℕ). low (get_or l.table l.i 0 + x)) c.before.wide.ensures)
+    let l = c.loop-i in
+    adds-more l.inv c.loop-i-test.taken (inside c.before.before.before.before)
+    (c.wrapping_add_u64.ensures ∙ ap (λ (x : ℕ). low (get_or l.table l.i 0 + x)) c.wide.ensures)
 
 returns : tie.Need-returns invariant-loop decreases-loop
 returns c sums is =
-    let l = c.before.loop-i in
-    let s = entry c.before in
-    added s.args.table.now s.args.counts.now l.table sums l.invariant.same (s.requires.1 ∙ sym s.requires.0)
-    (λ k h. l.invariant.passed k (omega (arith, c.loop-i-test.false, s.requires.1))) is
+    let l = c.loop-i in
+    added c.args.table.now c.args.counts.now l.table sums l.invariant.same (c.requires.1 ∙ sym c.requires.0)
+    (λ k h. l.invariant.passed k (omega (arith, c.loop-i-test.false, c.requires.1))) is
 
 pub add_counts_spec : {M : Type 1} → statement M
 add_counts_spec =
@@ -64,13 +62,13 @@ add_counts_spec =
     (λ c. omega arith)
     (λ c. omega (arith, inside c.before))
     (λ c. omega arith)
-    (λ c. omega (arith, (entry c.before.before.before).requires.0))
+    (λ c. omega (arith, c.requires.0))
     (λ c κs. search rules)
     (λ c κs. search rules)
     (λ c. omega arith)
-    (λ c. omega (arith, inside (turn c)))
+    (λ c. omega (arith, inside c.before.before.before.before))
     (λ c. omega arith)
     (λ c. omega arith)
     loop-again
-    (λ c. c.before.loop-i.invariant.same)
+    (λ c. c.loop-i.invariant.same)
     returns)

@@ -4,10 +4,10 @@ use Rattle.fasta.proofs.lines.kind_in.Statement.{statement}
 use Rattle.fasta.proofs.lines.kind_in.Tie as tie
 
 returns : tie.Need-returns-then-byte-eq62
-returns c = rw (c.before.enum_told-1.given.1, eq-eqb c.before.before.before.args.byte 62 c.if-byte-eq62.true)
+returns c = rw (c.in-Fresh.is, eq-eqb c.args.byte 62 c.if-byte-eq62.true)
 
 returns-2 : tie.Need-returns-else-byte-eq62
-returns-2 c = rw (c.before.enum_told-1.given.1, ne_eqb c.before.before.before.args.byte 62 c.if-byte-eq62.false)
+returns-2 c = rw (c.in-Fresh.is, ne_eqb c.args.byte 62 c.if-byte-eq62.false)
 
 pub kind_in_spec : {M : Type 1} → statement M
 kind_in_spec =

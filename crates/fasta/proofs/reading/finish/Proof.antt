@@ -9,29 +9,23 @@ abbrev filed : tie.After-slice_known-in-Counted-1 → tie.After-file_record
 filed c = c.before.before
 
 abbrev taken : tie.After-file_record-arg-1 → tie.In-Counted-2
-taken c = c.before.before
-
-abbrev start : tie.In-Counted-2 → tie.Start
-start c = c.before.before.before.before
+taken c = c.before
 
 slice-aggregate-file-record : tie.Need-slice_bounds-file_record-end
 slice-aggregate-file-record c =
-    let s = start (taken c) in
-    sym (length-take-le s.args.reading.filled s.args.bases.now s.requires.0)
+    sym (length-take-le c.args.reading.filled c.args.bases.now c.requires.0)
 
 returns : tie.Need-returns-in-Counted
 returns c s h =
-    let f = filed c in
-    let t = taken f.before.before in
-    let a = (start t).args in
+    let a = c.args in
     closed-front a.letters s h.bases h.roomy
-    (after-counted a.letters (take a.reading.filled a.bases.now) s.sums h.sums t.tally-1.given.1 f.file_record.ensures)
+    (after-counted a.letters (take a.reading.filled a.bases.now) s.sums h.sums c.in-Counted.is c.file_record.ensures)
 
 returns-2 : tie.Need-returns-in-Refused
 returns-2 c s h =
-    let a = c.before.before.before.before.args in
+    let a = c.args in
     closed-front a.letters s h.bases h.roomy
-    (after-refused a.letters (take a.reading.filled a.bases.now) s.sums h.sums c.enum_told-1.given.1)
+    (after-refused a.letters (take a.reading.filled a.bases.now) s.sums h.sums c.in-Refused.is)
 
 pub finish_spec : {M : Type 1} → statement M
 finish_spec =

@@ -19,10 +19,6 @@ invariant-loop bytes letters bases₀ table₀ now₀ i₀ i-end bases table now
 abbrev decreases-loop : tie.decreases-loop-i
 decreases-loop bytes letters bases₀ table₀ now₀ i₀ i-end bases table now i = length bytes - i
 
--- Where a byte was read, its turn, and the entry.
-abbrev stepping : tie.After-slice_known-in-loop-i-2-1 invariant-loop decreases-loop → tie.After-step-now invariant-loop decreases-loop
-stepping c = c.before.before.before.before
-
 abbrev turn : tie.After-step-now invariant-loop decreases-loop → tie.In-loop-i invariant-loop decreases-loop
 turn c = c.before.before.before.before
 
@@ -31,32 +27,30 @@ entry c = c.before.before.before.before
 
 loop-holds : tie.Need-loop-i-init invariant-loop decreases-loop
 unfolding steps
-loop-holds c = record { inside = omega arith; same = refl; whole = refl; filled = c.before.before.before.requires.0; holds = λ s h. h }
+loop-holds c = record { inside = omega arith; same = refl; whole = refl; filled = c.requires.0; holds = λ s h. h }
 
 loop-again : tie.Need-loop-i-preserved invariant-loop decreases-loop
 loop-again c =
-    let k = stepping c in
-    let t = turn k in
-    let l = t.before.loop-i in
-    let a = (entry t.before).args in
+    let l = c.loop-i in
+    let a = c.args in
     record {
-      inside = omega (arith, t.loop-i-test.taken);
-      same = k.step-now.kept.1.1.0 ∙ l.inv.same;
-      whole = k.step-now.kept.1.1.1.0 ∙ l.inv.whole;
-      filled = omega (arith, k.step-now.ensures.0, l.inv.same);
+      inside = omega (arith, c.loop-i-test.taken);
+      same = c.step-now.kept.1.1.0 ∙ l.inv.same;
+      whole = c.step-now.kept.1.1.1.0 ∙ l.inv.whole;
+      filled = omega (arith, c.step-now.ensures.0, l.inv.same);
       holds =
           λ s h.
-          rw (← one_more a.letters s a.bytes.now l.i t.loop-i-test.taken)
-          (k.step-now.ensures.1 (steps a.letters s (take l.i a.bytes.now)) (l.inv.holds s h));
+          rw (← one_more a.letters s a.bytes.now l.i c.loop-i-test.taken)
+          (c.step-now.ensures.1 (steps a.letters s (take l.i a.bytes.now)) (l.inv.holds s h));
     }
 
 returns : tie.Need-returns invariant-loop decreases-loop
 returns c =
-    let l = c.before.loop-i in
-    let a = (entry c.before).args in (
+    let l = c.loop-i in
+    let a = c.args in (
       l.invariant.filled,
       λ s h.
-          subst (λ (bytes : List ℕ). Holds (steps a.letters s bytes) l.bases-1 l.table-1 l.now)
+          subst (λ (bytes : List ℕ). Holds (steps a.letters s bytes) l.bases l.table l.now)
           (take_all l.i a.bytes.now (omega (arith, c.loop-i-test.false))) (l.invariant.holds s h),
     )
 
@@ -69,11 +63,11 @@ read_block_spec =
     loop-holds
     (λ c. omega arith)
     (λ c κs.
-    let l = c.before.before.before.before.loop-i in
-    (omega (arith, l.invariant.same, l.invariant.filled), l.invariant.whole ∙ (entry c.before.before.before.before).requires.1))
+    let l = c.before.before.before.before.loop in
+    (omega (arith, l.invariant.same, l.invariant.filled), l.invariant.whole ∙ (entry c.before.before.before.before).pre.1))
     (λ c. omega arith)
     (λ c. omega arith)
     loop-again
-    (λ c. c.before.loop-i.invariant.same)
-    (λ c. c.before.loop-i.invariant.whole)
+    (λ c. c.loop-i.invariant.same)
+    (λ c. c.loop-i.invariant.whole)
     returns)

@@ -6,12 +6,12 @@ use Rattle.fasta.proofs.records.put.Tie as tie
 
 returns : tie.Need-returns-then-filled-bases
 returns c =
-    let a = c.before.args in
+    let a = c.args in
     (omega arith, λ gene f. front-full gene a.bases.now a.byte a.filled f c.if-filled-bases.true)
 
 returns-2 : tie.Need-returns
 returns-2 c =
-    let a = c.before.args in
+    let a = c.args in
     (omega arith, λ gene f. front-more gene a.bases.now a.byte a.filled f (omega arith))
 
 pub put_spec : {M : Type 1} → statement M

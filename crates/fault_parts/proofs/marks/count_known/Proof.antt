@@ -25,15 +25,14 @@ shared-slice-read-if1 : tie.Need-bounds-list-i invariant-loop decreases-loop
 shared-slice-read-if1 c = omega arith
 
 cast-if1 : tie.Need-overflow_cast-list invariant-loop decreases-loop
-cast-if1 c = omega (arith, c.shared_slice_known-1.given c.before.before.loop-i.i)
+cast-if1 c = omega (arith, c.shared_slice_known-1.given c.loop-i.i)
 
 shared-slice-read-if1-2 : tie.Need-bounds-marks-list invariant-loop decreases-loop
-shared-slice-read-if1-2 c = let seen = c.before in omega (arith, seen.shared_slice_known-1.given seen.before.before.loop-i.i)
+shared-slice-read-if1-2 c = omega (arith, c.shared_slice_known-1.given c.loop-i.i)
 
 returns : tie.Need-returns-then-marks-list-ne1 invariant-loop decreases-loop
 returns c known m =
-    let turn = c.before.before.before in
-    known-stops _ known _ m turn.before.loop-i.i (turn.before.loop-i.invariant known m) turn.loop-i-test.true c.if-marks-list-ne1.true
+    known-stops _ known _ m c.loop-i.i (c.loop-i.invariant known m) c.loop-i-test.true c.if-marks-list-ne1.true
 
 add-i : tie.Need-overflow_add-i invariant-loop decreases-loop
 add-i c = omega arith
@@ -43,11 +42,10 @@ loop-less c = omega arith
 
 loop-again : tie.Need-loop-i-preserved invariant-loop decreases-loop
 loop-again c known m =
-    let turn = c.before.before.before in
-    known_on _ known _ m turn.before.loop-i.i (turn.before.loop-i.invariant known m) turn.loop-i-test.true c.if-marks-list-ne1.false
+    known_on _ known _ m c.loop-i.i (c.loop-i.invariant known m) c.loop-i-test.true c.if-marks-list-ne1.false
 
 returns-2 : tie.Need-returns invariant-loop decreases-loop
-returns-2 c known m = known-last _ known _ m c.before.loop-i.i (c.before.loop-i.invariant known m) c.loop-i-test.false
+returns-2 c known m = known-last _ known _ m c.loop-i.i (c.loop-i.invariant known m) c.loop-i-test.false
 
 pub count_known_spec : {M : Type 1} → statement M
 count_known_spec =

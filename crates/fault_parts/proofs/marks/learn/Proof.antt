@@ -24,21 +24,20 @@ shared-slice-read-net : tie.Need-bounds-list-i invariant-loop decreases-loop
 shared-slice-read-net c = omega arith
 
 cast-net : tie.Need-overflow_cast-net invariant-loop decreases-loop
-cast-net c = omega (arith, c.shared_slice_known-1.given c.before.before.loop-i.i)
+cast-net c = omega (arith, c.shared_slice_known-1.given c.loop-i.i)
 
 slice-read-if1 : tie.Need-bounds-marks-net invariant-loop decreases-loop
-slice-read-if1 c = let seen = c.before in omega (arith, seen.shared_slice_known-1.given seen.before.before.loop-i.i, seen.before.before.loop-i.invariant.0)
+slice-read-if1 c = omega (arith, c.shared_slice_known-1.given c.loop-i.i, c.loop-i.invariant.0)
 
 same_length : tie.Need-shape_of-marks-then-marks-net-eq1 invariant-loop decreases-loop
-same_length c = c.before.before.before.before.loop-i.invariant.0
+same_length c = c.loop-i.invariant.0
 
 returns : tie.Need-returns-then-marks-net-eq1 invariant-loop decreases-loop
 returns c known m =
-    let turn = c.before.before.before in
-    (learning-stops _ known _ turn.before.loop-i.i turn.loop-i-test.true (turn.before.loop-i.invariant.1 known m) c.if-marks-net-eq1.true, λ e. absurd (omega (arith, turn.loop-i-test.true, e)))
+    (learning-stops _ known _ c.loop-i.i c.loop-i-test.true (c.loop-i.invariant.1 known m) c.if-marks-net-eq1.true, λ e. absurd (omega (arith, c.loop-i-test.true, e)))
 
 slice-write-marks : tie.Need-bounds-marks-net-in-loop-i invariant-loop decreases-loop
-slice-write-marks c = let seen = c.before.before in omega (arith, seen.shared_slice_known-1.given seen.before.before.loop-i.i, seen.before.before.loop-i.invariant.0)
+slice-write-marks c = omega (arith, c.shared_slice_known-1.given c.loop-i.i, c.loop-i.invariant.0)
 
 add-i : tie.Need-overflow_add-i invariant-loop decreases-loop
 add-i c = omega arith
@@ -47,21 +46,19 @@ loop-less : tie.Need-loop-i-smaller invariant-loop decreases-loop
 loop-less c = omega arith
 
 loop-again : tie.Need-loop-i-preserved invariant-loop decreases-loop
-loop-again c =
-    let seen = c.before.before in
-    let turn = seen.before in (
-      length-set turn.before.loop-i.marks _ 1 ∙ turn.before.loop-i.invariant.0,
-      λ known m.
-          learning-on _ known _ turn.before.loop-i.i turn.loop-i-test.true (turn.before.loop-i.invariant.1 known m)
-          (omega (arith, seen.shared_slice_known-1.given turn.before.loop-i.i, turn.before.loop-i.invariant.0)) c.if-marks-net-eq1.false,
-    )
+loop-again c = (
+  length-set c.loop-i.marks _ 1 ∙ c.loop-i.invariant.0,
+  λ known m.
+      learning-on _ known _ c.loop-i.i c.loop-i-test.true (c.loop-i.invariant.1 known m)
+      (omega (arith, c.shared_slice_known-1.given c.loop-i.i, c.loop-i.invariant.0)) c.if-marks-net-eq1.false,
+)
 
 same-length-2 : tie.Need-shape_of-marks invariant-loop decreases-loop
-same-length-2 c = c.before.loop-i.invariant.0
+same-length-2 c = c.loop-i.invariant.0
 
 returns-2 : tie.Need-returns invariant-loop decreases-loop
 returns-2 c known m =
-    let g = c.before.loop-i.invariant.1 known m in
+    let g = c.loop-i.invariant.1 known m in
     (learning-last _ known _ _ c.loop-i-test.false g, λ e. going-last _ known _ _ c.loop-i-test.false g.going)
 
 pub learn_spec : {M : Type 1} → statement M

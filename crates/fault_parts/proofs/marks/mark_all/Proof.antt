@@ -24,10 +24,10 @@ shared-slice-read-marks : tie.Need-bounds-list-i invariant-loop decreases-loop
 shared-slice-read-marks c = omega arith
 
 cast-marks : tie.Need-overflow_cast-marks invariant-loop decreases-loop
-cast-marks c = omega (arith, c.shared_slice_known-1.given c.before.before.loop-i.i)
+cast-marks c = omega (arith, c.shared_slice_known-1.given c.loop-i.i)
 
 slice-write-marks : tie.Need-bounds-marks-list invariant-loop decreases-loop
-slice-write-marks c = omega (arith, c.shared_slice_known-1.given c.before.before.loop-i.i, c.before.before.loop-i.invariant.0)
+slice-write-marks c = omega (arith, c.shared_slice_known-1.given c.loop-i.i, c.loop-i.invariant.0)
 
 add-i : tie.Need-overflow_add-i invariant-loop decreases-loop
 add-i c = omega arith
@@ -36,19 +36,18 @@ loop-less : tie.Need-loop-i-smaller invariant-loop decreases-loop
 loop-less c = omega arith
 
 loop-again : tie.Need-loop-i-preserved invariant-loop decreases-loop
-loop-again c =
-    let turn = c.before in (
-      length-set turn.before.loop-i.marks _ 1 ∙ turn.before.loop-i.invariant.0,
-      λ known m.
-          going_on _ known _ turn.before.loop-i.i turn.loop-i-test.true
-          (omega (arith, c.shared_slice_known-1.given turn.before.loop-i.i, turn.before.loop-i.invariant.0)) (turn.before.loop-i.invariant.1 known m),
-    )
+loop-again c = (
+  length-set c.loop-i.marks _ 1 ∙ c.loop-i.invariant.0,
+  λ known m.
+      going_on _ known _ c.loop-i.i c.loop-i-test.true
+      (omega (arith, c.shared_slice_known-1.given c.loop-i.i, c.loop-i.invariant.0)) (c.loop-i.invariant.1 known m),
+)
 
 same_length : tie.Need-shape_of-marks invariant-loop decreases-loop
-same_length c = c.before.loop-i.invariant.0
+same_length c = c.loop-i.invariant.0
 
 returns : tie.Need-returns invariant-loop decreases-loop
-returns c known m = going-last _ known _ _ c.loop-i-test.false (c.before.loop-i.invariant.1 known m)
+returns c known m = going-last _ known _ _ c.loop-i-test.false (c.loop-i.invariant.1 known m)
 
 pub mark_all_spec : {M : Type 1} → statement M
 mark_all_spec =

@@ -16,21 +16,20 @@ loop-holds : tie.Need-loop-j-init invariant-loop decreases-loop
 loop-holds c p = record { few = c.requires.1; is = refl }
 
 mul-start : tie.Need-offset_bounds-starts-j invariant-loop decreases-loop
-mul-start c = omega (arith, in_starts c.before.before.requires.0 c.before.loop-j.j c.loop-j-test.true)
+mul-start c = omega (arith, in_starts c.requires.0 c.loop-j.j c.loop-j-test.true)
 
 shared-slice-read-start : tie.Need-bounds-starts-j invariant-loop decreases-loop
-shared-slice-read-start c = in_starts c.before.before.before.requires.0 c.before.before.loop-j.j c.before.loop-j-test.true
+shared-slice-read-start c = in_starts c.requires.0 c.loop-j.j c.loop-j-test.true
 
 mul-if1 : tie.Need-offset_bounds-numbers-start invariant-loop decreases-loop
-mul-if1 c = omega (arith, (module_here c.before.before.before.requires.0 c.before.before.loop-j.j c.before.loop-j-test.true).inside)
+mul-if1 c = omega (arith, (module_here c.requires.0 c.loop-j.j c.loop-j-test.true).inside)
 
 shared-slice-read-if1 : tie.Need-bounds-numbers-start invariant-loop decreases-loop
-shared-slice-read-if1 c = let turn = c.before.before in (module_here turn.before.before.requires.0 turn.before.loop-j.j turn.loop-j-test.true).inside
+shared-slice-read-if1 c = (module_here c.requires.0 c.loop-j.j c.loop-j-test.true).inside
 
 returns : tie.Need-returns-then-numbers-start invariant-loop decreases-loop
 returns c p =
-    let turn = c.before.before.before in
-    seek_hit p _ _ turn.before.loop-j.j (turn.before.loop-j.invariant p) turn.loop-j-test.true c.if-numbers-start.true
+    seek_hit p _ _ c.loop-j.j (c.loop-j.invariant p) c.loop-j-test.true c.if-numbers-start.true
 
 add-j : tie.Need-overflow_add-j invariant-loop decreases-loop
 add-j c = omega arith
@@ -40,11 +39,10 @@ loop-less c = omega arith
 
 loop-again : tie.Need-loop-j-preserved invariant-loop decreases-loop
 loop-again c p =
-    let turn = c.before.before.before in
-    seek-on p _ _ turn.before.loop-j.j (turn.before.loop-j.invariant p) turn.loop-j-test.true c.if-numbers-start.false
+    seek-on p _ _ c.loop-j.j (c.loop-j.invariant p) c.loop-j-test.true c.if-numbers-start.false
 
 returns-2 : tie.Need-returns invariant-loop decreases-loop
-returns-2 c p = seek-none p _ _ _ (c.before.loop-j.invariant p) c.loop-j-test.false
+returns-2 c p = seek-none p _ _ _ (c.loop-j.invariant p) c.loop-j-test.false
 
 pub find_spec : {M : Type 1} → statement M
 find_spec =

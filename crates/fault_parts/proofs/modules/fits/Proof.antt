@@ -11,16 +11,10 @@ kind-of-requires c κs = search rules
 enum-known-arity : tie.Need-enum_known-arity
 enum-known-arity c = search rules
 
--- The start.
-abbrev start : tie.After-kind_of → tie.Start
-start c = c.before.before.before
-
 returns : tie.Need-returns-then-arity-taken
 returns c p takes drives t d =
-    let arity = c.before.before in
-    let kind = arity.before.before in
-    let number = (start kind).args.number in
-    let known = sym kind.kind_of.ensures ∙ arity.arity-1.given.1 in
+    let number = c.args.number in
+    let known = sym c.kind_of.ensures ∙ c.in-Gate.is in
     gate-unfit number takes drives _ (gate-told number known) (λ e. c.if-arity-taken.true ((gate-of-kind number known).arity-is ∙ e ∙ sym t))
 
 enum_told : tie.Need-enum_told-1
@@ -31,19 +25,15 @@ fits-module-requires c κs = search rules
 
 returns-2 : tie.Need-returns-else-arity-taken
 returns-2 c p takes drives t d =
-    let arity = c.before.before in
-    let kind = arity.before.before in
-    let number = (start kind).args.number in
-    let known = sym kind.kind_of.ensures ∙ arity.arity-1.given.1 in
+    let number = c.args.number in
+    let known = sym c.kind_of.ensures ∙ c.in-Gate.is in
     gate-fit number takes drives _ (gate-told number known) (sym (gate-of-kind number known).arity-is ∙ c.if-arity-taken.false ∙ t) _ d
 
 returns-3 : tie.Need-returns-in-Module
 returns-3 c p takes drives t d =
-    let told = c.before in
-    let kind = told.before.before in
     c.fits_module.ensures p takes drives t d
-    ∙ module_fit (start kind).args.number takes drives _
-    (module_told (start kind).args.number (sym kind.kind_of.ensures ∙ told.enum_told-1.given.1))
+    ∙ module_fit c.args.number takes drives _
+    (module_told c.args.number (sym c.kind_of.ensures ∙ c.in-Module.is))
 
 pub fits_spec : {M : Type 1} → statement M
 fits_spec =

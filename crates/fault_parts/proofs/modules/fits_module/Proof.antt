@@ -16,44 +16,41 @@ abbrev start : tie.Else-j-modules → tie.Start
 start c = c.before.before.before.before
 
 met :
-    (c : tie.Else-j-modules) (p : Placed (start c).args.numbers.now (start c).args.starts.now (start c).args.modules)
-    → Hit p.ms (assoc (start c).args.number (drop (start c).args.from p.ms)) c.before.find-j.result
-met c p = hit (c.before.find-j.ensures p) (λ e. c.if-j-modules.false (e ∙ sym p.counted))
+    (c : tie.Else-j-modules) (p : Placed c.args.numbers.now c.args.starts.now c.args.modules)
+    → Hit p.ms (assoc c.args.number (drop c.args.from p.ms)) c.find-j.result
+met c p = hit (c.find-j.ensures p) (λ e. c.if-j-modules.false (e ∙ sym p.counted))
 
 returns : tie.Need-returns-then-j-modules
 returns c p takes drives t d =
-    let e = missed (c.before.find-j.ensures p) (c.if-j-modules.true ∙ p.counted) in
+    let e = missed (c.find-j.ensures p) (c.if-j-modules.true ∙ p.counted) in
     ap (λ f. submodule_okp f takes drives) (sym e)
 
 mul-module-at : tie.Need-offset_bounds-starts-j
-mul-module-at c = let h = hit_in (start c).requires.0 (met c (start c).requires.0) in omega arith
+mul-module-at c = let h = hit_in c.requires.0 (met c c.requires.0) in omega arith
 
 shared-slice-read-module-at : tie.Need-bounds-starts-j
-shared-slice-read-module-at c = let e = c.before in hit_in (start e).requires.0 (met e (start e).requires.0)
+shared-slice-read-module-at c = hit_in c.requires.0 (met c.before c.requires.0)
 
 module-at-requires : tie.Need-module_at-header-requires
-module-at-requires c κs = let e = c.before in hit-there (start e).requires.0 (met e (start e).requires.0)
+module-at-requires c κs = hit-there c.requires.0 (met c.before c.requires.0)
 
 returns-2 : tie.Need-returns-then-taken-header
 returns-2 c p takes drives t d =
-    let read = c.before.before in
-    let h = met read.before.before p in
-    let header = read.module_at-header.ensures h.m (hit-stands p h) in
+    let h = met c.before.before.before.before p in
+    let header = c.module_at-header.ensures h.m (hit-stands p h) in
     unfit h.m takes drives _ _ t d _ header.inputs c.if-taken-header.true ∙ ap (λ f. submodule_okp f takes drives) (sym h.is)
 
 sub-result : tie.Need-overflow_sub-result
 sub-result c =
-    let read = c.before.before.before in
-    let p = (start read.before.before).requires.0 in
-    let h = met read.before.before p in
-    omega (arith, (read.module_at-header.ensures h.m (hit-stands p h)).to)
+    let p = c.requires.0 in
+    let h = met c.before.before.before.before.before p in
+    omega (arith, (c.module_at-header.ensures h.m (hit-stands p h)).to)
 
 returns-3 : tie.Need-returns
 returns-3 c p takes drives t d =
-    let read = c.before.before.before in
-    let h = met read.before.before p in
-    let header = read.module_at-header.ensures h.m (hit-stands p h) in
-    fit h.m takes drives _ _ t d _ _ header.inputs (omega (arith, header.to)) c.before.if-taken-header.false
+    let h = met c.before.before.before.before.before p in
+    let header = c.module_at-header.ensures h.m (hit-stands p h) in
+    fit h.m takes drives _ _ t d _ _ header.inputs (omega (arith, header.to)) c.if-taken-header.false
     ∙ ap (λ f. submodule_okp f takes drives) (sym h.is)
 
 pub fits_module_spec : {M : Type 1} → statement M

@@ -15,21 +15,19 @@ abbrev decreases-loop : tie.decreases-loop-left
 decreases-loop numbers from at₀ left₀ at left = left
 
 module-at-requires : tie.Need-module_at-header-requires invariant-loop decreases-loop
-module-at-requires c κs = c.before.requires
+module-at-requires c κs = c.requires
 
 add_at : tie.Need-overflow_add-at invariant-loop decreases-loop
 add_at c =
-    let start = c.before.before.before in
-    let h = c.before.module_at-header.ensures start.requires.m start.requires.stands in
-    omega (arith, h.body.within, start.well-formed)
+    let h = c.module_at-header.ensures c.requires.m c.requires.stands in
+    omega (arith, h.body.within, c.well-formed)
 
 loop-holds : tie.Need-loop-left-init invariant-loop decreases-loop
-loop-holds c m s = ahead-first m (c.before.module_at-header.ensures m s)
+loop-holds c m s = ahead-first m (c.module_at-header.ensures m s)
 
 occurrence-at-requires : tie.Need-occurrence_at-o-requires invariant-loop decreases-loop
 occurrence-at-requires c κs =
-    let start = c.before.before.before.before.before in
-    there (turn c.loop-left-test.true (c.before.loop-left.invariant start.requires.m start.requires.stands))
+    there (turn c.loop-left-test.true (c.loop-left.invariant c.requires.m c.requires.stands))
 
 sub-left : tie.Need-overflow_sub-left invariant-loop decreases-loop
 sub-left c = omega arith
@@ -39,11 +37,11 @@ loop-less c = omega arith
 
 loop-again : tie.Need-loop-left-preserved invariant-loop decreases-loop
 loop-again c m s =
-    let t = turn c.before.loop-left-test.true (c.before.before.loop-left.invariant m s) in
+    let t = turn c.loop-left-test.true (c.loop-left.invariant m s) in
     behind-it t (c.occurrence_at-o.ensures t.o t.there)
 
 returns : tie.Need-returns invariant-loop decreases-loop
-returns c m s = ahead_none c.loop-left-test.false (c.before.loop-left.invariant m s)
+returns c m s = ahead_none c.loop-left-test.false (c.loop-left.invariant m s)
 
 pub module_end_spec : {M : Type 1} → statement M
 module_end_spec =

@@ -6,25 +6,25 @@ use Rattle.filing.proofs.bases.base_of.Tie as tie
 
 returns : tie.Need-returns-in-65
 unfolding base
-returns c = rw c.in-65.keys1
+returns c = rw c.in-65.is
 
 returns-2 : tie.Need-returns-in-67
 unfolding base
-returns-2 c = rw c.in-67.keys2
+returns-2 c = rw c.in-67.is
 
 returns-3 : tie.Need-returns-in-71
 unfolding base
-returns-3 c = rw c.in-71.keys3
+returns-3 c = rw c.in-71.is
 
 returns-4 : tie.Need-returns-in-84
 unfolding base
-returns-4 c = rw c.in-84.keys4
+returns-4 c = rw c.in-84.is
 
 returns-5 : tie.Need-returns-in_default
 unfolding base
 returns-5 c =
-    let byte = c.before.args.byte in
-    let others = c.in_default.rest in
+    let byte = c.args.byte in
+    let others = c.in_default.in_default-own.rest in
     rw (
       ne_eqb byte 65 others.0.0.0.1,
       ne_eqb byte 67 others.0.0.1,

@@ -42,10 +42,9 @@ base-of-requires c κs = search rules
 
 returns : tie.Need-returns-then-base_of-gt3 invariant-loop decreases-loop
 returns c =
-    let t = c.before.before.before in
-    let l = t.before.loop-i in
-    let v = t.before.before.before.args.bytes.now in
-    omega (arith, other v l.i t.loop-i-test.true (omega (arith, c.if-base_of-gt3.true, c.before.base_of.ensures)))
+    let l = c.loop-i in
+    let v = c.args.bytes.now in
+    omega (arith, other v l.i c.loop-i-test.true (omega (arith, c.if-base_of-gt3.true, c.base_of.ensures)))
 
 add-i : tie.Need-overflow_add-i invariant-loop decreases-loop
 add-i c = omega arith
@@ -55,17 +54,16 @@ loop-less c = omega arith
 
 loop-again : tie.Need-loop-i-preserved invariant-loop decreases-loop
 loop-again c =
-    let t = c.before.before.before in
-    let l = t.before.loop-i in
-    let v = t.before.before.before.args.bytes.now in (
+    let l = c.loop-i in
+    let v = c.args.bytes.now in (
       omega arith,
-      omega (arith, passed v l.i t.loop-i-test.true (omega (arith, c.if-base_of-gt3.false, c.before.base_of.ensures))),
+      omega (arith, passed v l.i c.loop-i-test.true (omega (arith, c.if-base_of-gt3.false, c.base_of.ensures))),
     )
 
 returns-2 : tie.Need-returns invariant-loop decreases-loop
 returns-2 c =
-    let l = c.before.loop-i in
-    let v = c.before.before.before.args.bytes.now in
+    let l = c.loop-i in
+    let v = c.args.bytes.now in
     omega (arith, none v l.i c.loop-i-test.false)
 
 pub first_other_spec : {M : Type 1} → statement M

@@ -13,7 +13,7 @@ counter-requires : tie.Need-counter-requires
 counter-requires c κs = search rules
 
 returns : tie.Need-returns
-returns c = file-written (replicate 478 0) _ refl c.before.counter.ensures.out
+returns c = file-written (replicate 478 0) _ refl c.counter.ensures.out
 
 pub counter_file_spec : {M : Type 1} → statement M
 counter_file_spec = tie.close (tie.spec slice-aggregate-counter counter-requires returns)

@@ -16,9 +16,8 @@ same_length c = search rules
 
 returns : tie.Need-returns
 returns c r =
-    let ran = c.before.before.before in
-    let a = ran.before.before.before.before.before.before.args in
-    rows_run a.file.now a.values.now a.outputs-1.now _ a.rows 158 r (omega arith) ran.evaluate_rows.ensures.settled.answered.out
+    let a = c.args in
+    rows_run a.file.now a.values.now a.outputs.now _ a.rows 158 r (omega arith) c.evaluate_rows.ensures.settled.answered.out
 
 pub run_rows_spec : {M : Type 1} → statement M
 run_rows_spec =

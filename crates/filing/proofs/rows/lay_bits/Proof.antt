@@ -42,7 +42,7 @@ finished :
 finished bases bits₀ bits left at none all is = is ∙ rw (none, all)
 
 loop-holds : tie.Need-loop-left-init invariant-loop decreases-loop
-loop-holds c = (omega arith, omega arith, refl, bits-of-none c.before.before.args.bases.now c.before.before.args.bits.now)
+loop-holds c = (omega arith, omega arith, refl, bits-of-none c.args.bases.now c.args.bits.now)
 
 sub-left : tie.Need-overflow_sub-left invariant-loop decreases-loop
 sub-left c = omega arith
@@ -70,8 +70,8 @@ loop-less c = omega arith
 
 loop-again : tie.Need-loop-left-preserved invariant-loop decreases-loop
 loop-again c =
-    let l = c.before.before.before.loop-left in
-    let a = c.before.before.before.before.before.before.args in (
+    let l = c.loop-left in
+    let a = c.args in (
       omega arith,
       omega arith,
       simp length-set (omega arith),
@@ -84,8 +84,8 @@ same_length c = omega arith
 
 returns : tie.Need-returns invariant-loop decreases-loop
 returns c =
-    let l = c.before.loop-left in
-    let a = c.before.before.before.before.args in
+    let l = c.loop-left in
+    let a = c.args in
     finished a.bases.now a.bits.now l.bits l.left l.at (omega arith) (omega arith) l.invariant.3
 
 pub lay_bits_spec : {M : Type 1} → statement M

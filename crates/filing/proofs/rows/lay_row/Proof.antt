@@ -34,20 +34,18 @@ entry c = c.before.before.before
 
 loop-again : tie.Need-loop-j-preserved invariant-loop decreases-loop
 loop-again c =
-    let l = c.before.loop-j in
-    let s = entry (made c.before) in (
+    let l = c.loop-j in (
       omega arith,
       simp length-set (omega arith),
-      again (made c.before).masked-laid.result l.row l.j (omega (arith, s.requires.whole)) l.invariant.2,
+      again c.masked-laid.result l.row l.j (omega (arith, c.requires.whole)) l.invariant.2,
     )
 
 returns : tie.Need-returns invariant-loop decreases-loop
 returns c =
-    let l = c.before.loop-j in
-    let m = made c.before in
+    let l = c.loop-j in
     record {
-      whole = omega (arith, (entry m).requires.whole);
-      at = λ k h. l.invariant.2 k (omega arith) ∙ m.masked-laid.ensures.at k h;
+      whole = omega (arith, c.requires.whole);
+      at = λ k h. l.invariant.2 k (omega arith) ∙ c.masked-laid.ensures.at k h;
     }
 
 pub lay_row_spec : {M : Type 1} → statement M
@@ -59,7 +57,7 @@ lay_row_spec =
     (λ c κs. search rules)
     (λ c. (omega arith, refl, below_none _))
     (λ c. omega arith)
-    (λ c. omega (arith, (entry (made c.before)).requires.whole))
+    (λ c. omega (arith, c.requires.whole))
     (λ c. omega arith)
     (λ c. omega arith)
     loop-again

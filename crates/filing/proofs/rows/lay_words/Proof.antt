@@ -30,11 +30,7 @@ same-length-2 c = search rules
 
 returns : tie.Need-returns
 returns c =
-    let laid = c.before.before in
-    let masked = laid.before.before.before.before in
-    let listed = masked.before.before.before in
-    let s = listed.before.before.before.before.before in
-    words-laid s.args.bases.now s.args.letters _ _ _ _ s.requires listed.lay_bits.ensures masked.mask_of-mask.ensures laid.lay_rows.ensures
+    words-laid c.args.bases.now c.args.letters _ _ _ _ c.requires c.lay_bits.ensures c.mask_of-mask.ensures c.lay_rows.ensures
 
 pub lay_words_spec : {M : Type 1} → statement M
 lay_words_spec =

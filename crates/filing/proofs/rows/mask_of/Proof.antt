@@ -28,15 +28,15 @@ loop-less c = omega arith
 
 loop-again : tie.Need-loop-j-preserved invariant-loop decreases-loop
 loop-again c =
-    let l = c.before.loop-j in (
+    let l = c.loop-j in (
       omega arith,
       ap (λ m. set m l.j 255) l.invariant.1 ∙ fill_more l.j 255 (replicate 32 0) (omega arith),
     )
 
 returns : tie.Need-returns invariant-loop decreases-loop
 returns c =
-    let l = c.before.loop-j in
-    let all : l.j ≡ c.before.before.args.kept = omega arith in
+    let l = c.loop-j in
+    let all : l.j ≡ c.args.kept = omega arith in
     l.invariant.1 ∙ ap mask_of all
 
 pub mask_of_spec : {M : Type 1} → statement M

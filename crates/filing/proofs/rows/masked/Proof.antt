@@ -33,16 +33,16 @@ again bits from mask row j inside all =
 
 loop-again : tie.Need-loop-j-preserved invariant-loop decreases-loop
 loop-again c =
-    let l = c.before.before.before.loop-j in
-    let a = c.before.before.before.before.args in (
+    let l = c.loop-j in
+    let a = c.args in (
       omega arith,
       simp length-set (omega arith),
-      again a.bits.now a.from a.mask.now l.row-1 l.j (omega arith) l.invariant.2,
+      again a.bits.now a.from a.mask.now l.row l.j (omega arith) l.invariant.2,
     )
 
 returns : tie.Need-returns invariant-loop decreases-loop
 returns c =
-    let l = c.before.loop-j in
+    let l = c.loop-j in
     record { whole = l.invariant.1; at = λ k h. l.invariant.2 k (omega arith) }
 
 pub masked_spec : {M : Type 1} → statement M

@@ -40,8 +40,8 @@ loop-less c = omega arith
 
 loop-again : tie.Need-loop-i-preserved invariant-loop decreases-loop
 loop-again c =
-    let l = c.before.loop-i in
-    let start = c.before.before.args.table.now in (
+    let l = c.loop-i in
+    let start = c.args.table.now in (
       omega arith,
       simp length-set (omega arith),
       ap (λ t. set t l.i 0) l.invariant.2 ∙ fill_more l.i 0 start (omega arith),
@@ -52,9 +52,8 @@ same_length c = omega arith
 
 returns : tie.Need-returns invariant-loop decreases-loop
 returns c =
-    let l = c.before.loop-i in
-    let s = c.before.before in
-    cleared s.args.table.now l.table l.i s.requires (omega arith) l.invariant.2
+    let l = c.loop-i in
+    cleared c.args.table.now l.table l.i c.requires (omega arith) l.invariant.2
 
 pub clear_spec : {M : Type 1} → statement M
 clear_spec =

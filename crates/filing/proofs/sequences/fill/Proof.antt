@@ -24,17 +24,14 @@ slice-aggregate-add-blocks-4 c = search rules
 
 add-blocks-requires : tie.Need-add_blocks-requires
 add-blocks-requires c κs =
-    let cleared = c.before.before.before.before.before.before.before in
-    let wrote = cleared.before.before in
-    let s = wrote.before.before.before in
     record {
-      written = wrote.counter_file-file.ensures;
-      word = s.requires.word;
-      short = s.requires.short;
+      written = c.counter_file-file.ensures;
+      word = c.requires.word;
+      short = c.requires.short;
       bits-long = refl;
       values-long = refl;
       outputs-long = refl;
-      empty = cleared.clear.ensures;
+      empty = c.clear.ensures;
     }
 
 same_length : tie.Need-shape_of-table

@@ -19,44 +19,35 @@ unfolding add_each shelves_in
 loop-holds c = (omega arith, refl)
 
 mul-shelf-at : tie.Need-overflow_mul-i invariant-loop decreases-loop
-mul-shelf-at c = omega (arith, c.before.before.before.before.requires.long)
+mul-shelf-at c = omega (arith, c.requires.long)
 
 shelf-at-requires : tie.Need-shelf_at-shelf-requires invariant-loop decreases-loop
-shelf-at-requires c κs = omega (arith, c.before.before.before.before.requires.long)
+shelf-at-requires c κs = omega (arith, c.requires.long)
 
 mul-table : tie.Need-offset_bounds-table-shelf invariant-loop decreases-loop
 mul-table c =
-    let l = c.before.before.loop-i in
-    let s = c.before.before.before.before.before in
-    omega (arith, s.requires.whole, table_kept s.args.outputs.now s.args.table.now l.table l.i l.invariant.1, index-inside s.requires l.table l.i _ c.before.loop-i-test.true l.invariant.1 c.shelf_at-shelf.ensures)
+    let l = c.loop-i in
+    omega (arith, c.requires.whole, table_kept c.args.outputs.now c.args.table.now l.table l.i l.invariant.1, index-inside c.requires l.table l.i _ c.loop-i-test.true l.invariant.1 c.shelf_at-shelf.ensures)
 
 slice-read-table : tie.Need-bounds-table-shelf invariant-loop decreases-loop
 slice-read-table c =
-    let t = c.before in
-    let l = t.before.before.loop-i in
-    let s = t.before.before.before.before.before in
-    index-inside s.requires l.table l.i _ t.before.loop-i-test.true l.invariant.1 t.shelf_at-shelf.ensures
+    let l = c.loop-i in
+    index-inside c.requires l.table l.i _ c.loop-i-test.true l.invariant.1 c.shelf_at-shelf.ensures
 
 add-table : tie.Need-overflow_add-table invariant-loop decreases-loop
 add-table c =
-    let t = c.before in
-    let l = t.before.before.loop-i in
-    let s = t.before.before.before.before.before in
-    omega (arith, count_fits s.requires l.table l.i _ t.before.loop-i-test.true l.invariant.1 t.shelf_at-shelf.ensures)
+    let l = c.loop-i in
+    omega (arith, count_fits c.requires l.table l.i _ c.loop-i-test.true l.invariant.1 c.shelf_at-shelf.ensures)
 
 mul-table-2 : tie.Need-offset_bounds-table-shelf-in-loop-i invariant-loop decreases-loop
 mul-table-2 c =
-    let t = c.before in
-    let l = t.before.before.loop-i in
-    let s = t.before.before.before.before.before in
-    omega (arith, s.requires.whole, table_kept s.args.outputs.now s.args.table.now l.table l.i l.invariant.1, index-inside s.requires l.table l.i _ t.before.loop-i-test.true l.invariant.1 t.shelf_at-shelf.ensures)
+    let l = c.loop-i in
+    omega (arith, c.requires.whole, table_kept c.args.outputs.now c.args.table.now l.table l.i l.invariant.1, index-inside c.requires l.table l.i _ c.loop-i-test.true l.invariant.1 c.shelf_at-shelf.ensures)
 
 slice-write-table : tie.Need-bounds-table-shelf-in-loop-i invariant-loop decreases-loop
 slice-write-table c =
-    let t = c.before in
-    let l = t.before.before.loop-i in
-    let s = t.before.before.before.before.before in
-    index-inside s.requires l.table l.i _ t.before.loop-i-test.true l.invariant.1 t.shelf_at-shelf.ensures
+    let l = c.loop-i in
+    index-inside c.requires l.table l.i _ c.loop-i-test.true l.invariant.1 c.shelf_at-shelf.ensures
 
 add-i : tie.Need-overflow_step-i invariant-loop decreases-loop
 add-i c = omega arith
@@ -66,25 +57,21 @@ loop-less c = omega arith
 
 loop-again : tie.Need-loop-i-preserved invariant-loop decreases-loop
 loop-again c =
-    let t = c.before in
-    let l = t.before.before.loop-i in
-    let s = t.before.before.before.before.before in (
+    let l = c.loop-i in (
       omega arith,
-      one-shelf-more s.requires l.table l.i _ t.before.loop-i-test.true l.invariant.1 t.shelf_at-shelf.ensures,
+      one-shelf-more c.requires l.table l.i _ c.loop-i-test.true l.invariant.1 c.shelf_at-shelf.ensures,
     )
 
 same_length : tie.Need-shape_of-table invariant-loop decreases-loop
 same_length c =
-    let l = c.before.loop-i in
-    let s = c.before.before.before.before in
-    table_kept s.args.outputs.now s.args.table.now l.table l.i l.invariant.1
+    let l = c.loop-i in
+    table_kept c.args.outputs.now c.args.table.now l.table l.i l.invariant.1
 
 returns : tie.Need-returns invariant-loop decreases-loop
 returns c =
-    let l = c.before.loop-i in
-    let s = c.before.before.before.before in
-    let all : l.i ≡ s.args.rows = omega arith in
-    l.invariant.1 ∙ ap (λ n. add_each (shelves_in n s.args.outputs.now) s.args.table.now) all
+    let l = c.loop-i in
+    let all : l.i ≡ c.args.rows = omega arith in
+    l.invariant.1 ∙ ap (λ n. add_each (shelves_in n c.args.outputs.now) c.args.table.now) all
 
 pub add_shelves_spec : {M : Type 1} → statement M
 add_shelves_spec =

@@ -18,10 +18,8 @@ sub-add-shelves c = search rules
 
 add-shelves-requires : tie.Need-add_shelves-requires
 add-shelves-requires c κs =
-    let ran = c.before.before.before.before.before.before.before.before in
-    let s = ran.before.before.before.before.before.before.before.before.before.before in
-    let layable = s.requires.0.layable in
-    addable-words s.args.bases.now _ s.args.letters layable.few ran.run_words.ensures s.requires.1
+    let layable = c.requires.0.layable in
+    addable-words c.args.bases.now _ c.args.letters layable.few c.run_words.ensures c.requires.1
     (omega (arith, layable.words, layable.most))
 
 same_length : tie.Need-shape_of-bits
@@ -38,12 +36,9 @@ same-length-4 c = search rules
 
 returns : tie.Need-returns
 returns c =
-    let added = c.before.before in
-    let ran = added.before.before.before.before.before.before.before.before.before in
-    let s = ran.before.before.before.before.before.before.before.before.before.before in
-    added.add_shelves.ensures
-    ∙ ap (λ l. add_each l s.args.table-1.now)
-    (shelves_of-words s.args.bases.now _ s.args.letters s.requires.0.layable.few ran.run_words.ensures)
+    c.add_shelves.ensures
+    ∙ ap (λ l. add_each l c.args.table.now)
+    (shelves_of-words c.args.bases.now _ c.args.letters c.requires.0.layable.few c.run_words.ensures)
 
 pub add_words_spec : {M : Type 1} → statement M
 add_words_spec =

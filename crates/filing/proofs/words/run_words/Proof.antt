@@ -15,9 +15,7 @@ sub-run-rows c = search rules
 
 run-rows-requires : tie.Need-run_rows-requires
 run-rows-requires c κs =
-    let laid = c.before.before.before.before.before.before in
-    let s = laid.before.before.before.before.before.before.before.before in
-    runnable-words s.args.file.now s.args.bases.now _ s.args.letters _ s.requires laid.lay_words.ensures
+    runnable-words c.args.file.now c.args.bases.now _ c.args.letters _ c.requires c.lay_words.ensures
 
 same_length : tie.Need-shape_of-bits
 same_length c = search rules
@@ -30,12 +28,9 @@ same-length-3 c = search rules
 
 returns : tie.Need-returns
 returns c =
-    let ran = c.before.before in
-    let laid = ran.before.before.before.before.before.before.before in
-    let s = laid.before.before.before.before.before.before.before.before in
-    outputs-of-words s.args.bases.now _ _ s.args.letters
-    (ran.run_rows.ensures
-    (runnable-words s.args.file.now s.args.bases.now _ s.args.letters _ s.requires laid.lay_words.ensures))
+    outputs-of-words c.args.bases.now _ _ c.args.letters
+    (c.run_rows.ensures
+    (runnable-words c.args.file.now c.args.bases.now _ c.args.letters _ c.requires c.lay_words.ensures))
 
 pub run_words_spec : {M : Type 1} → statement M
 run_words_spec =

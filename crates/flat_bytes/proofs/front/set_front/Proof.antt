@@ -54,62 +54,50 @@ module _
 -- Where the first piece is put, to the start, and from the list of inputs to the piece before it; else from each piece to the one before it
 -- are four places.
 abbrev start : tie.After-put-own → tie.Start
-start c = let lists = c.before.before in lists.before.before.before
+start c = c.before.before.before.before.before
 
 abbrev numbered : tie.After-put-second → tie.After-put-first
-numbered c = let passed = c.before.before in passed.before.before.before
+numbered c = c.before.before.before.before.before
 
 put-requires-2 : tie.Need-put-first-requires
 put-requires-2 c κs =
-    let one = c.before.before.before in
-    let able = (start one).requires in
-    (able.own, laying-piece (number_bytes _) _ (number-left able one.put-own.ensures))
+    let able = (start c.before.before.before).requires in
+    (able.own, laying-piece (number_bytes _) _ (number-left able c.put-own.ensures))
 
 put-requires-3 : tie.Need-put-second-requires
 put-requires-3 c κs =
-    let two = c.before.before.before.before in
-    let one = two.before.before.before.before in
-    let able = (start one).requires in
-    record { readable = able.ins; within = able.ins_within; room = ins-fit able one.put-own.ensures two.put-first.ensures }
+    let able = (start c.before.before.before.before.before.before.before.before).requires in
+    record { readable = able.ins; within = able.ins_within; room = ins-fit able c.put-own.ensures c.put-first.ensures }
 
 put-requires-4 : tie.Need-put-third-requires
 put-requires-4 c κs =
-    let three = c.before.before.before in
-    let two = numbered three in
-    let one = two.before.before.before.before in
-    let able = (start one).requires in
+    let two = numbered c.before.before.before in
+    let able = (start two.before.before.before.before).pre in
     record {
       readable = able.outs;
       within = able.outs_within;
-      room = outs-fit able one.put-own.ensures two.put-first.ensures three.put-second.ensures;
+      room = outs-fit able two.before.before.before.before.put.ensures two.put2.ensures c.put-second.ensures;
     }
 
 put-requires-5 : tie.Need-put-requires
 put-requires-5 c κs =
-    let four = c.before.before.before in
-    let three = four.before.before.before.before in
-    let two = numbered three in
-    let one = two.before.before.before.before in
-    let able = (start one).requires in
-    (able.counted, laying-room (gates-left able one.put-own.ensures two.put-first.ensures three.put-second.ensures four.put-third.ensures))
+    let two = numbered c.before.before.before.before.before.before.before in
+    let able = (start two.before.before.before.before).pre in
+    (able.counted, laying-room (gates-left able two.before.before.before.before.put.ensures two.put2.ensures c.put-second.ensures c.put-third.ensures))
 
 returns : tie.Need-returns
 returns c =
-    let five = c.before.before in
-    let four = five.before.before.before.before in
-    let three = four.before.before.before.before in
-    let two = numbered three in
-    let one = two.before.before.before.before in
-    laying-last (gates-left (start one).requires one.put-own.ensures two.put-first.ensures three.put-second.ensures four.put-third.ensures) five.put.ensures
+    let two = numbered c.before.before.before.before.before.before.before.before.before.before in
+    laying-last (gates-left (start two.before.before.before.before).pre two.before.before.before.before.put.ensures two.put2.ensures c.put-second.ensures c.put-third.ensures) c.put.ensures
 
 pub set_front_spec : {M : Type 1} → statement M
 set_front_spec =
     tie.close
     (tie.spec
-    (λ c κs. (omega arith, laying-piece (number_bytes 1) _ (all_left c.before.before.before.before.requires)))
+    (λ c κs. (omega arith, laying-piece (number_bytes 1) _ (all_left c.requires)))
     put-requires-2
-    (λ c. let one = c.before.before.before.before in let able = (start one.before.before).requires in omega (arith, able.ins.inside))
-    (λ c. let two = c.before.before.before in let able = (start two.before.before.before.before).requires in omega (arith, able.ins.inside))
+    (λ c. let able = (start c.before.before.before.before.before.before).requires in omega (arith, able.ins.inside))
+    (λ c. let able = (start c.before.before.before.before.before.before.before).requires in omega (arith, able.ins.inside))
     put-requires-3
     put-requires-4
     put-requires-5

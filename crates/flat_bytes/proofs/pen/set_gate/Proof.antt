@@ -50,46 +50,36 @@ module _ {kind net : ℕ} {image : List ℕ} {from to : ℕ} {scratch bytes : Li
 
 -- Where the first piece is put, to the start; from each piece to the one before it are four places.
 abbrev start : tie.After-put-drives → tie.Start
-start c = let lists = c.before.before in lists.before.before.before
+start c = c.before.before.before.before.before
 
 put-requires-2 : tie.Need-put-refers-requires
 put-requires-2 c κs =
-    let one = c.before.before.before in
-    let able = (start one).requires in
-    (small-net able, laying-piece (number_bytes _) _ (net-left able one.put-drives.ensures))
+    let able = (start c.before.before.before).requires in
+    (small-net able, laying-piece (number_bytes _) _ (net-left able c.put-drives.ensures))
 
 put-requires-3 : tie.Need-put-takes-requires
 put-requires-3 c κs =
-    let two = c.before.before.before in
-    let one = two.before.before.before.before in
-    let able = (start one).requires in
-    (able.within.refers, laying-piece (number_bytes _) _ (kind-left able one.put-drives.ensures two.put-refers.ensures))
+    let able = (start c.before.before.before.before.before.before.before).requires in
+    (able.within.refers, laying-piece (number_bytes _) _ (kind-left able c.put-drives.ensures c.put-refers.ensures))
 
 put-requires-4 : tie.Need-put-requires
 put-requires-4 c κs =
-    let three = c.before.before.before in
-    let two = three.before.before.before.before in
-    let one = two.before.before.before.before in
-    let able = (start one).requires in
+    let able = (start c.before.before.before.before.before.before.before.before.before.before.before).requires in
     record {
       readable = able.readable;
       within = able.within.takes;
-      room = laying-room (takes-left able one.put-drives.ensures two.put-refers.ensures three.put-takes.ensures);
+      room = laying-room (takes-left able c.put-drives.ensures c.put-refers.ensures c.put-takes.ensures);
     }
 
 returns : tie.Need-returns
 returns c =
-    let four = c.before.before in
-    let three = four.before.before.before.before in
-    let two = three.before.before.before.before in
-    let one = two.before.before.before.before in
-    laying-last (takes-left (start one).requires one.put-drives.ensures two.put-refers.ensures three.put-takes.ensures) four.put.ensures
+    laying-last (takes-left (start c.before.before.before.before.before.before.before.before.before.before.before.before.before.before).requires c.put-drives.ensures c.put-refers.ensures c.put-takes.ensures) c.put.ensures
 
 pub set_gate_spec : {M : Type 1} → statement M
 set_gate_spec =
     tie.close
     (tie.spec
-    (λ c κs. (omega arith, laying-piece (number_bytes 1) _ (all_left c.before.before.before.before.requires)))
+    (λ c κs. (omega arith, laying-piece (number_bytes 1) _ (all_left c.requires)))
     put-requires-2
     put-requires-3
     put-requires-4

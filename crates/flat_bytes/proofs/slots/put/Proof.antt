@@ -7,8 +7,8 @@ use Rattle.laws.specs.Lists.{all-at}
 use Rattle.bytes_out.specs.Writing.{Writing, writing-length, writing-room, writing_more, writing-all}
 use Rattle.flat_bytes.specs.Slots.{nets_at}
 use Rattle.flat_bytes.proofs.Putting.{Turn, turn, count-of-nets, count_room, counted-long, none_written, whole}
-use Rattle.flat_bytes.proofs.slots.put-end.Statement.{statement}
-use Rattle.flat_bytes.proofs.slots.put-end.Tie as tie
+use Rattle.flat_bytes.proofs.slots.put.Statement.{statement}
+use Rattle.flat_bytes.proofs.slots.put.Tie as tie
 
 abbrev invariant-loop : tie.invariant-loop-i
 invariant-loop image from to scratch bytes₀ at count end₀ i₀ bytes end i = Writing (nets_at image from to scratch) bytes₀ end₀ bytes end i
@@ -21,28 +21,24 @@ abbrev counted : tie.At-loop-i invariant-loop decreases-loop → tie.After-put-e
 counted c = c.before.before.before
 
 abbrev start : tie.After-put-end invariant-loop decreases-loop → tie.Start invariant-loop decreases-loop
-start c = let lists = c.before.before in lists.before.before.before
+start c = c.before.before.before.before.before
 
 -- Where a turn stands once its slot is read.
 here :
     (c : tie.After-entry invariant-loop decreases-loop)
-    → (let args = (start (counted c.before.before)).args in
-    Turn args.image.now args.from args.to args.scratch.now c.before.before.loop-i.i c.entry.result)
-here c = turn (start (counted c.before.before)).requires c.before.loop-i-test.true c.entry.ensures
+    → (let args = (start c.before.before.before.before.before).args in
+    Turn args.image.now args.from args.to args.scratch.now c.loop-i.i c.entry.result)
+here c = turn (start c.before.before.before.before.before).pre c.loop-i-test.true c.entry.ensures
 
 put-requires-2 : tie.Need-put-end-requires-in-loop-i invariant-loop decreases-loop
 put-requires-2 c κs =
-    let read = c.before.before in
-    let loop = read.before.before in
-    let t = here read in
-    rw t.value (all-at (start (counted loop)).requires.within.numbers loop.loop-i.i 0 t.more, writing-room loop.loop-i.invariant t.more)
+    let t = here c.before.before in
+    rw t.value (all-at (start c.before.before.before.before.before.before.before).pre.within.numbers c.loop-i.i 0 t.more, writing-room c.loop-i.invariant t.more)
 
 loop-again : tie.Need-loop-i-preserved invariant-loop decreases-loop
 loop-again c =
-    let written = c.before.before in
-    let read = written.before.before.before in
-    let t = here read in
-    writing_more read.before.before.loop-i.invariant t.more (rw t.value at written.put-end-in-loop-i.ensures)
+    let t = here c.before.before.before.before.before in
+    writing_more c.loop-i.invariant t.more (rw t.value at c.put-end-in-loop-i.ensures)
 
 pub put_spec : {M : Type 1} → statement M
 put_spec =
@@ -50,19 +46,19 @@ put_spec =
     (tie.spec
     invariant-loop
     decreases-loop
-    (λ c. c.before.before.before.requires.readable.ordered)
-    (λ c. let able = c.before.before.before.requires in omega (arith, count-of-nets able, able.within.count))
-    (λ c κs. let able = c.before.before.before.before.requires in (omega (arith, count-of-nets able, able.within.count), count_room able))
-    (λ c. none_written (start c.before.before).requires c.before.before.put-end.ensures)
-    (λ c. omega (arith, (start (counted c.before)).requires.readable.inside))
-    (λ c κs. omega (arith, (start (counted c.before)).requires.readable.inside))
+    (λ c. c.requires.readable.ordered)
+    (λ c. let able = c.requires in omega (arith, count-of-nets able, able.within.count))
+    (λ c κs. let able = c.requires in (omega (arith, count-of-nets able, able.within.count), count_room able))
+    (λ c. none_written (start c.before.before).pre c.put-end.ensures)
+    (λ c. omega (arith, (start c.before.before.before.before).pre.readable.inside))
+    (λ c κs. omega (arith, (start c.before.before.before.before).pre.readable.inside))
     (λ c. omega (arith, (here c).inside))
     (λ c. (here c.before).inside)
     put-requires-2
     (λ c. omega arith)
     (λ c. omega arith)
     loop-again
-    (λ c. let first = counted c.before in writing-length c.before.loop-i.invariant ∙ counted-long (start first).requires first.put-end.ensures)
+    (λ c. writing-length c.loop-i.invariant ∙ counted-long (start c.before.before.before.before).pre c.put-end.ensures)
     (λ c.
     let first = counted c.before in
-    whole (start first).requires first.put-end.ensures (writing-all c.before.loop-i.invariant (omega (arith, count-of-nets (start first).requires)))))
+    whole (start first).pre first.put.ensures (writing-all c.before.loop.invariant (omega (arith, count-of-nets (start first).pre)))))

@@ -14,10 +14,10 @@ decreases-loop image from to source target scratch₀ i₀ scratch i = to - i
 
 -- A turn, once its slot is read.
 abbrev start : tie.After-entry invariant-loop decreases-loop → tie.Start invariant-loop decreases-loop
-start c = let turn = c.before.before in turn.before.before.before
+start c = c.before.before.before.before.before
 
-turn : (c : tie.After-entry invariant-loop decreases-loop) → Within 0 (start c).requires c.before.before.loop-i.invariant c.entry.result
-turn c = within 0 (start c).requires c.before.before.loop-i.invariant c.before.loop-i-test.true c.entry.ensures
+turn : (c : tie.After-entry invariant-loop decreases-loop) → Within 0 (start c).requires c.loop-i.invariant c.entry.result
+turn c = within 0 (start c).requires c.loop-i.invariant c.loop-i-test.true c.entry.ensures
 
 pub copy_spec : {M : Type 1} → statement M
 copy_spec =
@@ -25,8 +25,8 @@ copy_spec =
     (tie.spec
     invariant-loop
     decreases-loop
-    (λ c. gathering-start 0 c.before.before.requires)
-    (λ c κs. omega (arith, c.before.before.before.before.requires.readable.inside))
+    (λ c. gathering-start 0 c.requires)
+    (λ c κs. omega (arith, c.requires.readable.inside))
     (λ c. let h = turn c in omega arith)
     (λ c. let h = turn c in omega arith)
     (λ c. let h = turn c.before in omega arith)
@@ -36,6 +36,6 @@ copy_spec =
     (λ c. let h = turn c.before in omega arith)
     (λ c. omega arith)
     (λ c. omega arith)
-    (λ c. let read = c.before in gathering-more 0 (start read).requires read.before.before.loop-i.invariant read.before.loop-i-test.true read.entry.ensures)
-    (λ c. c.before.loop-i.invariant.size)
-    (λ c. gathering-all 0 c.before.before.before.before.requires c.before.loop-i.invariant c.loop-i-test.false))
+    (λ c. gathering-more 0 (start c.before).requires c.loop-i.invariant c.loop-i-test.true c.entry.ensures)
+    (λ c. c.loop-i.invariant.size)
+    (λ c. gathering-all 0 c.requires c.loop-i.invariant c.loop-i-test.false))

@@ -22,23 +22,23 @@ loop-holds c =
     (filling-none c.args.scratch.now 0 (up_from 0 count) (omega (arith, length-up_from 0 count)), refl)
 
 slice-write-scratch : tie.Need-bounds-scratch-i invariant-loop decreases-loop
-slice-write-scratch c = omega (arith, filling-length c.before.loop-i.invariant.0)
+slice-write-scratch c = omega (arith, filling-length c.loop-i.invariant.0)
 
 loop-again : tie.Need-loop-i-preserved invariant-loop decreases-loop
 loop-again c =
-    let count = c.before.before.args.count in
-    let i = c.before.loop-i.i in
-    let inv = c.before.loop-i.invariant in (
+    let count = c.args.count in
+    let i = c.loop-i.i in
+    let inv = c.loop-i.invariant in (
       filling-more inv.0 (omega (arith, length-up_from 0 count)) (omega arith)
           (inv.1 ∙ sym (run_at 0 count i c.loop-i-test.true ∙ omega arith)),
       omega arith,
     )
 
 same_length : tie.Need-shape_of-scratch invariant-loop decreases-loop
-same_length c = filling-length c.before.loop-i.invariant.0
+same_length c = filling-length c.loop-i.invariant.0
 
 returns : tie.Need-returns invariant-loop decreases-loop
-returns c = filling-all c.before.loop-i.invariant.0 (omega (arith, length-up_from 0 c.before.before.args.count))
+returns c = filling-all c.loop-i.invariant.0 (omega (arith, length-up_from 0 c.args.count))
 
 pub number_inputs_spec : {M : Type 1} → statement M
 number_inputs_spec =

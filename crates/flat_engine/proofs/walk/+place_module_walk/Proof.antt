@@ -13,7 +13,7 @@ use Rattle.flat_engine.specs.Plan.{scene}
 use Rattle.flat_engine.proofs.Progress.{begin, finish, long-before, long-now}
 use Rattle.flat_engine.proofs.Turns.{enough, narrow, gate-room, numbered, settable, turn-gate}
 use Rattle.flat_engine.proofs.ModuleTurns as turns
-use Rattle.flat_engine.proofs.walk.place_module-pen.Reads as place-module
+use Rattle.flat_engine.proofs.walk.place_module.Reads as place-module
 use Rattle.flat_engine.proofs.walk.+place_module_walk.Lts-place_module as place-module-lts
 use Rattle.flat_engine.proofs.walk.walk.Reads as walk
 use Rattle.flat_engine.proofs.walk.+place_module_walk.Lts-walk as walk-lts
@@ -26,7 +26,7 @@ use Rattle.flat_engine.proofs.walk.+place_module_walk.Proof.Setting.{here, own, 
 -- `place_module`, whose measure is t.
 module _ (t : ℕ) where
   abbrev began :
-      place-module-lts.After-module-at (place-module-claims t) (place-module-at t) place-module.Post
+      place-module-lts.After-module_at-header (place-module-claims t) (place-module-at t) place-module.Post
       → place-module-lts.Start (place-module-claims t) (place-module-at t) place-module.Post
   began c = let lists = c.before.before.before in lists.before.before.before.before
 
@@ -54,15 +54,15 @@ module _ (t : ℕ) where
   -- The slot that a gate fills is one of scratch.
   slot-there :
       (c : walk-lts.After-set_gate-end (walk-claims t) (walk_at t) walk.Post Inv-loop μ-loop)
-      → let l = (gate-read t c.before.before.before).before.before.loop-left in
-      l.filled < length l.scratch-1
+      → let l = (gate-read t c.before.before.before).before.before.loop in
+      l.filled < length l.scratch
   slot-there c = let gate = c.before.before.before in gate-room (own t (gate-read t gate)) (is-gate t gate)
 
   loop-again : walk-lts.Need-loop-left-preserved-in-Gate (walk-claims t) (walk_at t) walk.Post Inv-loop μ-loop
   loop-again c p ready ahead =
       let written = c.before.before in
       let gate = written.before.before.before in
-      turn-gate (here t (gate-read t gate) p ready ahead) (is-gate t gate) written.set_gate-end.ensures
+      turn-gate (here t (gate-read t gate) p ready ahead) (is-gate t gate) written.set-gate.ensures
 
   -- At a module, once its arguments are passed: its part of scratch begins within it.
   lent-inside : walk-lts.Need-slice_bounds-place_module-count (walk-claims t) (walk_at t) walk.Post Inv-loop μ-loop
@@ -75,14 +75,14 @@ module _ (t : ℕ) where
   mul-place-module c =
       let read = module-read t (passed-from t c.before.before) in
       let from = start t read.before.before in
-      omega (arith, frame_is (scene from.requires.1.ready), enough (own t read), (own t read).progress.size, from.good)
+      omega (arith, frame_is (scene from.pre.1.ready), enough (own t read), (own t read).progress.size, from.good)
 
   place-module-requires : walk-lts.Need-place_module-pen-requires (walk-claims t) (walk_at t) walk.Post Inv-loop μ-loop
   place-module-requires c κs =
       let passed = c.before.before.before.before in
       let at = passed-from t passed in
       let read = module-read t at in (
-        omega (arith, turns.falls (own t read) (is_module t at), (start t read.before.before).requires.0),
+        omega (arith, turns.falls (own t read) (is_module t at), (start t read.before.before).pre.0),
         record { plan = _; ready = turns.calls (own t read) (is_module t at) passed.copy.ensures },
       )
 
@@ -93,8 +93,8 @@ module _ (t : ℕ) where
       let passed = passing t placed in
       let at = passed-from t passed in
       let now = own t (module-read t at) in
-      turns.fetches now (is_module t at) passed.copy.ensures placed.place_module-pen.new.1.1.1.1.1.0
-      placed.place_module-pen.auto.1.1.1.1.1.0
+      turns.fetches now (is_module t at) passed.copy.ensures placed.place-module.new.1.1.1.1.1.0
+      placed.place-module.auto.1.1.1.1.1.0
       (passed.before.before.module-at.ensures _ (module_stands (turns.sub now (is_module t at))))
 
   loop-again-2 : walk-lts.Need-loop-left-preserved (walk-claims t) (walk_at t) walk.Post Inv-loop μ-loop
@@ -105,11 +105,11 @@ module _ (t : ℕ) where
       let passed = passing t placed in
       let at = passed-from t passed in
       let now = here t (module-read t at) p ready ahead in
-      turns.turn_module now (is_module t at) passed.copy.ensures placed.place_module-pen.new.1.1.1.1.1.0
-      placed.place_module-pen.auto.1.1.1.1.1.0
+      turns.turn_module now (is_module t at) passed.copy.ensures placed.place-module.new.1.1.1.1.1.0
+      placed.place-module.auto.1.1.1.1.1.0
       (passed.before.before.module-at.ensures _ (module_stands (turns.sub now (is_module t at))))
-      (placed.place_module-pen.ensures _ (turns.calls now (is_module t at) passed.copy.ensures))
-      fetched.copy-in-Module.ensures
+      (placed.place-module.ensures _ (turns.calls now (is_module t at) passed.copy.ensures))
+      fetched.copy2.ensures
 
 pub +place_module_walk_spec : {M : Type 1} → statement M
 +place_module_walk_spec =
@@ -139,7 +139,7 @@ pub +place_module_walk_spec : {M : Type 1} → statement M
     (λ c. let known = c.before.before in in_nets (scene known.before.before.before.before.requires.1.ready))
     (add_at t)
     (λ c p ready ahead. begin ready ahead)
-    (λ c κs. occurrence-there (omega (arith, c.loop-left-test.true)) (own-progress t c.before).ahead)
+    (λ c κs. occurrence-there (omega (arith, c.loop-test.true)) (own-progress t c.before).ahead)
     (λ c. omega arith)
     (λ c. omega (arith, narrow (own t c.before)))
     (λ c κs. search rules)
@@ -151,11 +151,11 @@ pub +place_module_walk_spec : {M : Type 1} → statement M
     omega (arith, slot-there t written, (own t read).progress.size, (start t read.before.before).good))
     (λ c. slot-there t c.before.before)
     (λ c. let written = c.before.before in let gate = written.before.before.before in omega (arith, numbered (own t (gate-read t gate)) (is-gate t gate)))
-    (λ c. let written = c.before.before in omega (arith, (gate-read t written.before.before.before).before.loop-left-test.taken))
+    (λ c. let written = c.before.before in omega (arith, (gate-read t written.before.before.before).before.loop-test.taken))
     (loop-again t)
     (λ c. search rules)
     (λ c. search rules)
-    (λ c. module_of-kind _ (sym c.before.before.before.kind_of.ensures ∙ c.before.enum_told-in-Module-1.given.1))
+    (λ c. module_of-kind _ (sym c.before.before.before.kind-of.ensures ∙ c.before.enum-told2.given.1))
     (λ c.
     let read = module-read t c.before in
     omega (arith, turns.listed (own t read) (is_module t c.before), (start t read.before.before).good))
@@ -171,10 +171,10 @@ pub +place_module_walk_spec : {M : Type 1} → statement M
     (λ c.
     let lists = c.before.before.before.before in
     let placed = lists.before.before.before.before in
-    omega (arith, (module-read t (passed-from t (passing t placed))).before.loop-left-test.taken))
+    omega (arith, (module-read t (passed-from t (passing t placed))).before.loop-test.taken))
     (loop-again-2 t)
     (λ c. (own-progress t c.before).size)
     (λ c.
-    let able = (start t c.before).requires.1.ready in
+    let able = (start t c.before).pre.1.ready in
     long-now able (own-progress t c.before) ∙ sym (long-before able))
-    (λ c p ready header. finish ready (c.before.loop-left.invariant p ready (all-ahead (scene ready) header)) c.loop-left-test.false))
+    (λ c p ready header. finish ready (c.before.loop.invariant p ready (all-ahead (scene ready) header)) c.loop-test.false))

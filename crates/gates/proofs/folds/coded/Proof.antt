@@ -11,7 +11,7 @@ returns c = sym (code-of-value _ (omega (arith, c.if-b-lt-UNKNOWN.true)))
 
 returns-2 : tie.Need-returns-else-b-lt-UNKNOWN
 returns-2 c =
-    let b = c.before.args.b in
+    let b = c.args.b in
     simp (ne_eqb b 0 (λ e. omega (arith, c.if-b-lt-UNKNOWN.false)), ne_eqb b 1 (λ e. omega (arith, c.if-b-lt-UNKNOWN.false)))
 
 pub coded_spec : {M : Type 1} → statement M

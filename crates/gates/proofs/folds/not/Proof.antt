@@ -14,4 +14,4 @@ unfolding step negation by_fillings
 one-and = each (λ v. step Odd (known true) v ≡ negation v) (refl, refl, refl)
 
 pub not_spec : {M : Type 1} → statement M
-not_spec = tie.close (tie.spec (λ c κs. search rules) (λ c. c.step.ensures ∙ ap code (one-and (value c.before.args.a))))
+not_spec = tie.close (tie.spec (λ c κs. search rules) (λ c. c.step.ensures ∙ ap code (one-and (value c.args.a))))

@@ -10,15 +10,15 @@ use Rattle.gates.proofs.pairs.result.Tie as tie
 
 -- Both arguments are told as 0, 1 or 2.
 first_small : (c : tie.After-coded) → c.coded.result ≤ 2
-first_small c = is-small (value c.before.before.args.a) c.coded.ensures
+first_small c = is-small (value c.args.a) c.coded.ensures
 
 second-small : (c : tie.After-coded-2) → c.coded-2.result ≤ 2
-second-small c = let start = c.before.before.before in is-small (value start.args.b) c.coded-2.ensures
+second-small c = is-small (value c.args.b) c.coded-2.ensures
 
 returns : tie.Need-returns
 returns c =
-    let given = c.before.before.before.args in
-    pair-stands-at given.rule (value given.a) (value given.b) c.before.before.table.ensures c.before.coded.ensures c.coded-2.ensures
+    let given = c.args in
+    pair-stands-at given.rule (value given.a) (value given.b) c.table.ensures c.coded.ensures c.coded-2.ensures
 
 pub result_spec : {M : Type 1} → statement M
 result_spec =

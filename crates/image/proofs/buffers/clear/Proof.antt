@@ -19,7 +19,7 @@ loop-holds c = (omega arith, refl, fill_none _ 0)
 
 loop-again : tie.Need-loop-i-preserved invariant-loop decreases-loop
 loop-again c =
-    let head = c.before.loop-i in (
+    let head = c.loop-i in (
       omega arith,
       length-set head.scratch head.i 0 ∙ head.invariant.1,
       ap (λ s. set s head.i 0) head.invariant.2 ∙ fill_more head.i 0 _ (omega arith),
@@ -27,8 +27,8 @@ loop-again c =
 
 returns : tie.Need-returns invariant-loop decreases-loop
 returns c =
-    let all : c.before.loop-i.i ≡ c.before.before.args.entries = omega arith in
-    rw all at c.before.loop-i.invariant.2
+    let all : c.loop-i.i ≡ c.args.entries = omega arith in
+    rw all at c.loop-i.invariant.2
 
 pub clear_spec : {M : Type 1} → statement M
 clear_spec =
@@ -42,5 +42,5 @@ clear_spec =
     (λ c. omega arith)
     (λ c. omega arith)
     loop-again
-    (λ c. c.before.loop-i.invariant.1)
+    (λ c. c.loop-i.invariant.1)
     returns)

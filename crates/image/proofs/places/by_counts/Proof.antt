@@ -13,14 +13,14 @@ use Rattle.image.proofs.places.by_counts.Statement.{statement}
 use Rattle.image.proofs.places.by_counts.Tie as tie
 
 entry-requires : tie.Need-entry-drives-requires
-entry-requires c κs = let p = c.before.requires in omega (arith, (occurrence-at p.o p.stands).end)
+entry-requires c κs = let p = c.requires in omega (arith, (occurrence-at p.o p.stands).end)
 
 -- The first count is read.
 at_first :
     (c : tie.After-entry-drives)
-    → c.before.before.args.at + 3 + c.entry-drives.result + length c.before.before.requires.o.takes ≤ length c.before.before.args.image.now
+    → c.args.at + 3 + c.entry-drives.result + length c.requires.o.takes ≤ length c.args.image.now
 at_first c =
-    let p = c.before.before.requires in
+    let p = c.requires in
     let there = occurrence-at p.o p.stands in
     omega (arith, there.end, c.entry-drives.ensures, there.driven_count)
 
@@ -46,9 +46,9 @@ second {at = at} o {drives} s d e =
 
 add-to : tie.Need-overflow_add-to
 add-to c =
-    let p = c.before.before.before.requires in
+    let p = c.requires in
     let h = at_first c.before in
-    omega (arith, second p.o p.stands c.before.entry-drives.ensures c.entry.ensures)
+    omega (arith, second p.o p.stands c.entry-drives.ensures c.entry.ensures)
 
 mul-t7 : tie.Need-offset_bounds-image-r
 mul-t7 c = let h = at_first c.before in omega arith
@@ -59,12 +59,12 @@ shared-slice-read-t10 c = let h = at_first c.before.before in omega arith
 returns : tie.Need-returns
 returns c o s =
     let there = occurrence-at o s in
-    let refers = c.before.before.before.before.args.at + 1 + c.before.before.entry-drives.result in
-    let driven = c.before.before.entry-drives.ensures ∙ there.driven_count in
-    let taken = second o s c.before.before.entry-drives.ensures c.before.entry.ensures in
+    let refers = c.args.at + 1 + c.entry-drives.result in
+    let driven = c.entry-drives.ensures ∙ there.driven_count in
+    let taken = second o s c.entry-drives.ensures c.entry.ensures in
     record {
       drives = driven;
-      driven = there.drives (c.before.before.before.before.args.at + 1) refl;
+      driven = there.drives (c.args.at + 1) refl;
       refers = there.refers refers (omega arith);
       from = omega arith;
       takes = there.takes (refers + 2) (omega arith);

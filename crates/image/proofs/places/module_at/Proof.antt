@@ -13,7 +13,7 @@ use Rattle.image.proofs.places.module_at.Statement.{statement}
 use Rattle.image.proofs.places.module_at.Tie as tie
 
 entry-requires : tie.Need-entry-inputs-requires
-entry-requires c κs = let p = c.before.requires in omega (arith, (module_at p.m p.stands).end)
+entry-requires c κs = let p = c.requires in omega (arith, (module_at p.m p.stands).end)
 
 -- The first count is read.
 record Opened (image : List ℕ) (at : ℕ) (m : Module) (inputs : ℕ) : Type 0 where
@@ -26,8 +26,8 @@ opened {at = at} m s e =
     let same = e ∙ there.input_count (at + 1) refl in
     record { inputs_are = same; inside = omega (arith, there.end) }
 
-at_first : (c : tie.After-entry-inputs) → Opened c.before.before.args.image.now c.before.before.args.at c.before.before.requires.m c.entry-inputs.result
-at_first c = let p = c.before.before.requires in opened p.m p.stands c.entry-inputs.ensures
+at_first : (c : tie.After-entry-inputs) → Opened c.args.image.now c.args.at c.requires.m c.entry-inputs.result
+at_first c = let p = c.requires in opened p.m p.stands c.entry-inputs.ensures
 
 add-from-2 : tie.Need-overflow_add-from-2
 add-from-2 c = let h = at_first c in omega arith
@@ -44,9 +44,9 @@ second {at = at} m {inputs} s i e = e ∙ (module_at m s).output_count (at + 3 +
 -- What the places come to once both counts are read.
 at_second :
     (c : tie.After-entry)
-    → c.before.before.before.args.at + 3 + c.before.entry-inputs.result + c.entry.result < length c.before.before.before.args.image.now
+    → c.args.at + 3 + c.entry-inputs.result + c.entry.result < length c.args.image.now
 at_second c =
-    let p = c.before.before.before.requires in
+    let p = c.requires in
     let h = at_first c.before in
     omega (arith, second p.m p.stands h.inputs_are c.entry.ensures)
 
@@ -58,12 +58,12 @@ entry-requires-3 c κs = at_second c
 
 returns : tie.Need-returns
 returns c m s =
-    let at = c.before.before.before.before.args.at in
+    let at = c.args.at in
     let there = module_at m s in
-    let inputs = (opened m s c.before.before.entry-inputs.ensures).inputs_are in
-    let outputs = second m s inputs c.before.entry.ensures in
-    let from = at + 3 + c.before.before.entry-inputs.result in
-    let to = from + c.before.entry.result in
+    let inputs = (opened m s c.entry-inputs.ensures).inputs_are in
+    let outputs = second m s inputs c.entry.ensures in
+    let from = at + 3 + c.entry-inputs.result in
+    let to = from + c.entry.result in
     record {
       inputs = inputs;
       from = omega arith;

@@ -10,37 +10,34 @@ use Rattle.image.proofs.places.occurrence_at.Statement.{statement}
 use Rattle.image.proofs.places.occurrence_at.Tie as tie
 
 entry-requires : tie.Need-entry-requires
-entry-requires c κs = let p = c.before.requires in omega (arith, (occurrence-at p.o p.stands).end)
+entry-requires c κs = let p = c.requires in omega (arith, (occurrence-at p.o p.stands).end)
 
 -- Where the function began, from where one net is known to be driven.
 abbrev began : tie.Else-entry-ne1 → tie.Start
 began c = c.before.before.before
 
 -- What stands there then has four numbers in front of its arguments.
-single : (c : tie.Else-entry-ne1) → (began c).args.at + 4 + length (began c).requires.o.takes ≤ length (began c).args.image.now
+single : (c : tie.Else-entry-ne1) → c.args.at + 4 + length c.requires.o.takes ≤ length c.args.image.now
 single c =
-    let p = (began c).requires in
+    let p = c.requires in
     let there = occurrence-at p.o p.stands in
-    omega (arith, there.end, there.driven_count, c.before.entry.ensures, c.if-entry-ne1.false)
+    omega (arith, there.end, there.driven_count, c.entry.ensures, c.if-entry-ne1.false)
 
 -- And six numbers in all, if it takes two.
-pair : (c : tie.Else-entry-ne2) → let start = began c.before.before in start.args.at + 6 ≤ length start.args.image.now
+pair : (c : tie.Else-entry-ne2) → c.args.at + 6 ≤ length c.args.image.now
 pair c =
-    let one = c.before.before in
-    let p = (began one).requires in
+    let p = c.requires in
     let there = occurrence-at p.o p.stands in
-    let counted = there.taken_count ((began one).args.at + 3) (omega (arith, there.driven_count, one.before.entry.ensures, one.if-entry-ne1.false)) in
-    omega (arith, single one, counted, c.before.entry-2.ensures, c.if-entry-ne2.false)
+    let counted = there.taken_count (c.args.at + 3) (omega (arith, there.driven_count, c.entry.ensures, c.if-entry-ne1.false)) in
+    omega (arith, single c.before.before, counted, c.entry-2.ensures, c.if-entry-ne2.false)
 
 returns-3 : tie.Need-returns
 returns-3 c o s =
-    let two = c.before.before in
-    let one = c.before.before.before in
-    let at = (began one).args.at in
+    let at = c.args.at in
     let there = occurrence-at o s in
-    let driven : 1 ≡ length o.drives = sym one.if-entry-ne1.false ∙ one.before.entry.ensures ∙ there.driven_count in
+    let driven : 1 ≡ length o.drives = sym c.if-entry-ne1.false ∙ c.entry.ensures ∙ there.driven_count in
     let counted = there.taken_count (at + 3) (omega (arith, driven)) in
-    let taken : 2 ≡ length o.takes = sym c.before.if-entry-ne2.false ∙ two.entry-2.ensures ∙ counted in
+    let taken : 2 ≡ length o.takes = sym c.if-entry-ne2.false ∙ c.entry-2.ensures ∙ counted in
     record {
       drives = driven;
       driven = there.drives (at + 1) refl;

@@ -10,6 +10,6 @@ start_spec =
     (λ c. search rules)
     (λ c. search rules)
     (λ c. search rules)
-    (λ c. rw c.enum_told-1.given.1)
+    (λ c. rw c.in-All.is)
     (λ c. search rules)
     (λ c. search rules))

@@ -10,12 +10,9 @@ use Rattle.lanes.proofs.entry.xor.Tie as tie
 returns : tie.Need-returns
 unfolding xor_of
 returns c =
-    let right = c.before in
-    let left = right.before.before in
-    let start = left.before.before in
     c.or.ensures
-    ∙ ap₂ or_of (left.and.ensures ∙ ap (and_of start.args.a) left.before.not.ensures)
-    (right.and-2.ensures ∙ ap (λ (x : List ℕ). and_of x start.args.b) right.before.not-2.ensures)
+    ∙ ap₂ or_of (c.and.ensures ∙ ap (and_of c.args.a) c.not.ensures)
+    (c.and-2.ensures ∙ ap (λ (x : List ℕ). and_of x c.args.b) c.not-2.ensures)
 
 pub xor_spec : {M : Type 1} → statement M
 xor_spec =

@@ -25,26 +25,25 @@ record Here (j low-size high-size out-size low high : ℕ) : Type 0 where
 
 here :
     (c : tie.In-loop-j invariant-loop decreases-loop)
-    → let a = c.before.before.args in
-    let j = c.before.loop-j.j in
-    Here j (length a.low.now) (length a.high.now) (length c.before.loop-j.out) (get_or a.low.now j 0 / 2 ^ a.row % 2)
+    → let a = c.args in
+    let j = c.loop-j.j in
+    Here j (length a.low.now) (length a.high.now) (length c.loop-j.out) (get_or a.low.now j 0 / 2 ^ a.row % 2)
     (get_or a.high.now j 0 / 2 ^ a.row % 2)
 here c =
-    let g = c.before.before.requires.1 in
-    let inv = c.before.loop-j.invariant.1 g in
+    let g = c.requires.1 in
+    let inv = c.loop-j.invariant.1 g in
     record {
       low-in = omega (arith, c.loop-j-test.true, g.low-long);
       high-in = omega (arith, c.loop-j-test.true, g.high-long);
       out-in = omega (arith, c.loop-j-test.true, inv.size);
-      below = (digits (g.lanes c.before.loop-j.j c.loop-j-test.true)).below;
+      below = (digits (g.lanes c.loop-j.j c.loop-j-test.true)).below;
     }
 
 loop-again : tie.Need-loop-j-preserved invariant-loop decreases-loop
 loop-again c =
-    let turn = c.before.before in
-    let loop = turn.before.loop-j in (
-      omega (arith, turn.loop-j-test.true),
-      λ g. giving-more (loop.invariant.1 g) (here turn).out-in _ (digits (g.lanes loop.j turn.loop-j-test.true)).is,
+    let loop = c.loop-j in (
+      omega (arith, c.loop-j-test.true),
+      λ g. giving-more (loop.invariant.1 g) (here c.before.before).out-in _ (digits (g.lanes loop.j c.loop-j-test.true)).is,
     )
 
 pub give_row_spec : {M : Type 1} → statement M
@@ -55,16 +54,16 @@ give_row_spec =
     decreases-loop
     (λ c. (omega arith, λ g. giving-none))
     (λ c. (here c.before).high-in)
-    (λ c. c.before.before.before.requires.0)
+    (λ c. c.requires.0)
     (λ c. omega arith)
     (λ c. (here c.before.before).low-in)
-    (λ c. c.before.before.before.before.requires.0)
+    (λ c. c.requires.0)
     (λ c. let h = here c.before.before in omega arith)
     (λ c. (here c.before.before).out-in)
     (λ c. omega arith)
     (λ c. omega arith)
     loop-again
-    (λ c. (c.before.loop-j.invariant.1 c.before.before.requires.1).size)
+    (λ c. (c.loop-j.invariant.1 c.requires.1).size)
     (λ c g.
-    let done : c.before.loop-j.j ≡ length c.before.before.args.out.now = omega (arith, c.before.loop-j.invariant.0) in
-    giving-all g.count (subst (Giving _ _ _) done (c.before.loop-j.invariant.1 g))))
+    let done : c.before.loop.j ≡ length c.before.before.args.out.now = omega (arith, c.before.loop.invariant.0) in
+    giving-all g.count (subst (Giving _ _ _) done (c.before.loop.invariant.1 g))))

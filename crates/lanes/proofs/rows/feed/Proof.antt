@@ -21,11 +21,11 @@ record Here (i bytes-size size word : ℕ) : Type 0 where
 
 here :
     (c : tie.In-loop-i invariant-loop decreases-loop)
-    → let l = c.before.loop-i in
-    Here l.i (length c.before.before.before.before.args.bytes.now) (length l.words) (get_or l.words l.i 0)
+    → let l = c.loop-i in
+    Here l.i (length c.args.bytes.now) (length l.words) (get_or l.words l.i 0)
 here c =
-    let p = c.before.before.before.before.requires in
-    let l = c.before.loop-i in
+    let p = c.requires in
+    let l = c.loop-i in
     record {
       byte-in = omega (arith, c.loop-i-test.true, p.bytes-long);
       inside = omega (arith, c.loop-i-test.true, p.long, l.invariant.1.size);
@@ -51,8 +51,8 @@ feed_spec =
     (λ c. omega arith)
     (λ c.
     let turn = c.before.before.before in
-    (omega (arith, turn.loop-i-test.true), fed-more turn.before.loop-i.invariant.1 (here turn).inside _ c.wide.ensures.0))
-    (λ c. c.before.loop-i.invariant.1.size)
+    (omega (arith, turn.loop-test.true), fed-more turn.before.loop.invariant.1 (here turn).inside _ c.wide.ensures.0))
+    (λ c. c.loop-i.invariant.1.size)
     (λ c.
-    let done : c.before.loop-i.i ≡ c.before.before.before.before.args.n = omega (arith, c.before.loop-i.invariant.0) in
-    subst (Fed _ _ _) done c.before.loop-i.invariant.1))
+    let done : c.before.loop.i ≡ c.before.before.before.before.args.n = omega (arith, c.before.loop.invariant.0) in
+    subst (Fed _ _ _) done c.before.loop.invariant.1))

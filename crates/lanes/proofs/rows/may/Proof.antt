@@ -17,4 +17,4 @@ other false = refl
 pub may_spec : {M : Type 1} → statement M
 may_spec =
     tie.close
-    (tie.spec (λ c. rw c.if-v-eq0.true) (λ c. simp (ne_eqb _ 0 c.if-v-eq0.false) (other (eqb c.before.args.v 1))))
+    (tie.spec (λ c. rw c.if-v-eq0.true) (λ c. simp (ne_eqb _ 0 c.if-v-eq0.false) (other (eqb c.args.v 1))))

@@ -27,12 +27,12 @@ record Here (j size a-size b-size c-size d-size s-size t-size u-size v-size : �
 
 here :
     (c : tie.In-loop-j invariant-loop decreases-loop)
-    → let g = c.before.before.args in
-    Here c.before.loop-j.j (length c.before.loop-j.entries) (length g.a.now) (length g.b.now) (length g.c.now) (length g.d.now) (length g.s.now) (length g.t.now) (length g.u.now) (length g.v.now)
+    → let g = c.args in
+    Here c.loop-j.j (length c.loop-j.entries) (length g.a.now) (length g.b.now) (length g.c.now) (length g.d.now) (length g.s.now) (length g.t.now) (length g.u.now) (length g.v.now)
 here c =
-    let p = c.before.before.requires in
+    let p = c.requires in
     record {
-      inside = omega (arith, c.loop-j-test.true, p.2, c.before.loop-j.invariant.1.size);
+      inside = omega (arith, c.loop-j-test.true, p.2, c.loop-j.invariant.1.size);
       a_in = omega (arith, c.loop-j-test.true, p.0.a-long);
       b-in = omega (arith, c.loop-j-test.true, p.0.b-long);
       c-in = omega (arith, c.loop-j-test.true, p.0.c-long);
@@ -70,8 +70,8 @@ store_spec =
     (λ c. (here c.before.before.before.before.before.before.before.before).inside)
     (λ c. omega arith)
     (λ c. omega arith)
-    (λ c. let turn = c.before.before.before.before.before.before.before.before in (omega (arith, turn.loop-j-test.true), stored_more turn.before.loop-j.invariant.1 (here turn).inside))
-    (λ c. c.before.loop-j.invariant.1.size)
+    (λ c. (omega (arith, c.loop-j-test.true), stored_more c.loop-j.invariant.1 (here c.before.before.before.before.before.before.before.before).inside))
+    (λ c. c.loop-j.invariant.1.size)
     (λ c.
-    let done : c.before.loop-j.j ≡ c.before.before.args.n = omega (arith, c.before.loop-j.invariant.0) in
-    subst (Stored _ _ _) done c.before.loop-j.invariant.1))
+    let done : c.before.loop.j ≡ c.before.before.args.n = omega (arith, c.before.loop.invariant.0) in
+    subst (Stored _ _ _) done c.before.loop.invariant.1))

@@ -17,4 +17,4 @@ other false = refl
 pub sure_spec : {M : Type 1} → statement M
 sure_spec =
     tie.close
-    (tie.spec (λ c. rw c.if-v-eq1.true) (λ c. simp (ne_eqb _ 1 c.if-v-eq1.false) (other (eqb c.before.args.v 0))))
+    (tie.spec (λ c. rw c.if-v-eq1.true) (λ c. simp (ne_eqb _ 1 c.if-v-eq1.false) (other (eqb c.args.v 0))))

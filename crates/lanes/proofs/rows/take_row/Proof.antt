@@ -29,19 +29,18 @@ here {i = i} l a h =
       light = omega (arith, l.light i h, a.left i (omega arith));
     }
 
-low-here : (c : tie.In-loop-i invariant-loop decreases-loop) → Here c.before.loop-i.i (length c.before.loop-i.low) (get_or c.before.loop-i.low c.before.loop-i.i 0)
-low-here c = here c.before.before.before.before.before.requires.0 c.before.loop-i.invariant.1 c.loop-i-test.true
+low-here : (c : tie.In-loop-i invariant-loop decreases-loop) → Here c.loop-i.i (length c.loop-i.low) (get_or c.loop-i.low c.loop-i.i 0)
+low-here c = here c.requires.0 c.loop-i.invariant.1 c.loop-i-test.true
 
-high-here : (c : tie.In-loop-i invariant-loop decreases-loop) → Here c.before.loop-i.i (length c.before.loop-i.high) (get_or c.before.loop-i.high c.before.loop-i.i 0)
-high-here c = here c.before.before.before.before.before.requires.1 c.before.loop-i.invariant.2 c.loop-i-test.true
+high-here : (c : tie.In-loop-i invariant-loop decreases-loop) → Here c.loop-i.i (length c.loop-i.high) (get_or c.loop-i.high c.loop-i.i 0)
+high-here c = here c.requires.1 c.loop-i.invariant.2 c.loop-i-test.true
 
 loop-again : tie.Need-loop-i-preserved invariant-loop decreases-loop
 loop-again c =
-    let turn = c.before.before.before.before.before in
-    let loop = turn.before.loop-i in (
-      omega (arith, turn.loop-i-test.true),
-      added_more loop.invariant.1 (low-here turn).inside _ c.before.before.sure.ensures,
-      added_more loop.invariant.2 (high-here turn).inside _ c.may.ensures,
+    let loop = c.loop-i in (
+      omega (arith, c.loop-i-test.true),
+      added_more loop.invariant.1 (low-here c.before.before.before.before.before).inside _ c.sure.ensures,
+      added_more loop.invariant.2 (high-here c.before.before.before.before.before).inside _ c.may.ensures,
     )
 
 pub take_row_spec : {M : Type 1} → statement M
@@ -55,17 +54,17 @@ take_row_spec =
     (λ c. let h = low-here c.before.before in omega arith)
     (λ c. let h = low-here c.before.before in omega arith)
     (λ c κs. search rules)
-    (λ c. let h = low-here c.before.before.before in omega (arith, c.sure.ensures, digit-small (surely (value (get_or c.before.before.before.before.before.before.before.before.args.row.now c.before.before.before.before.loop-i.i 0)))))
+    (λ c. let h = low-here c.before.before.before in omega (arith, c.sure.ensures, digit-small (surely (value (get_or c.args.row.now c.loop-i.i 0)))))
     (λ c. let h = low-here c.before.before.before in omega arith)
     (λ c. let h = high-here c.before.before.before.before in omega arith)
     (λ c. let h = high-here c.before.before.before.before in omega arith)
     (λ c κs. search rules)
-    (λ c. let h = high-here c.before.before.before.before.before in omega (arith, c.may.ensures, digit-small (maybe (value (get_or c.before.before.before.before.before.before.before.before.before.before.args.row.now c.before.before.before.before.before.before.loop-i.i 0)))))
+    (λ c. let h = high-here c.before.before.before.before.before in omega (arith, c.may.ensures, digit-small (maybe (value (get_or c.args.row.now c.loop-i.i 0)))))
     (λ c. let h = high-here c.before.before.before.before.before in omega arith)
     (λ c. omega arith)
     (λ c. omega arith)
     loop-again
-    (λ c. c.before.loop-i.invariant.1.size)
-    (λ c. c.before.loop-i.invariant.2.size)
-    (λ c. let done : c.before.loop-i.i ≡ length c.before.before.before.before.before.args.row.now = omega arith in
-    (subst (Added surely _ _ _) done c.before.loop-i.invariant.1, subst (Added maybe _ _ _) done c.before.loop-i.invariant.2)))
+    (λ c. c.loop-i.invariant.1.size)
+    (λ c. c.loop-i.invariant.2.size)
+    (λ c. let done : c.loop-i.i ≡ length c.args.row.now = omega arith in
+    (subst (Added surely _ _ _) done c.loop-i.invariant.1, subst (Added maybe _ _ _) done c.loop-i.invariant.2)))

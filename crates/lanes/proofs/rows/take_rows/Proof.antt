@@ -21,34 +21,29 @@ decreases-loop values inputs from count low₀ high₀ left₀ at₀ low high le
 -- The row that is lent.
 row_is :
     (c : tie.In-loop-left invariant-loop decreases-loop)
-    → let a = c.before.before.before.before.before.args in
-    let at = c.before.loop-left.at in
+    → let a = c.args in
+    let at = c.loop-left.at in
     take (at - (at - a.inputs)) (drop (at - a.inputs) a.values.now) ≡ take a.inputs (drop (at - a.inputs) a.values.now)
 row_is c =
-    let start = c.before.before.before.before.before in
-    let a = start.args in
-    let at = c.before.loop-left.at in
-    let n : at - (at - a.inputs) ≡ a.inputs = omega (arith, before-is start.requires.0 c.before.loop-left.invariant.0 c.loop-left-test.true) in
+    let a = c.args in
+    let at = c.loop-left.at in
+    let n : at - (at - a.inputs) ≡ a.inputs = omega (arith, before-is c.requires.0 c.loop-left.invariant.0 c.loop-left-test.true) in
     ap (λ (k : ℕ). take k (drop (at - a.inputs) a.values.now)) n
 
 take-row-requires : tie.Need-take_row-requires invariant-loop decreases-loop
 take-row-requires c κs =
-    let turn = c.before.before.before in
-    let start = turn.before.before.before.before.before in
-    let inv = turn.before.loop-left.invariant in
-    let long = ap length (row_is turn) ∙ row-long start.requires.0 inv.0 turn.loop-left-test.true in (
-      subst (λ (n : ℕ). Light n turn.before.loop-left.low-1) (sym long) (row-light start.requires.0 inv.0 turn.loop-left-test.true),
-      subst (λ (n : ℕ). Light n turn.before.loop-left.high-1) (sym long) (row-light start.requires.1 inv.1 turn.loop-left-test.true),
+    let inv = c.loop-left.invariant in
+    let long = ap length (row_is c.before.before.before) ∙ row-long c.requires.0 inv.0 c.loop-left-test.true in (
+      subst (λ (n : ℕ). Light n c.loop-left.low) (sym long) (row-light c.requires.0 inv.0 c.loop-left-test.true),
+      subst (λ (n : ℕ). Light n c.loop-left.high) (sym long) (row-light c.requires.1 inv.1 c.loop-left-test.true),
     )
 
 loop-again : tie.Need-loop-left-preserved invariant-loop decreases-loop
 loop-again c =
-    let taken = c.before.before.before.before.take_row.ensures in
-    let turn = c.before.before.before.before.before.before.before.before in
-    let start = turn.before.before.before.before.before in
-    let inv = turn.before.loop-left.invariant in (
-      grouping_more start.requires.0 inv.0 turn.loop-left-test.true (row_is turn) taken.0,
-      grouping_more start.requires.1 inv.1 turn.loop-left-test.true (row_is turn) taken.1,
+    let taken = c.take_row.ensures in
+    let inv = c.loop-left.invariant in (
+      grouping_more c.requires.0 inv.0 c.loop-left-test.true (row_is c.before.before.before.before.before.before.before.before) taken.0,
+      grouping_more c.requires.1 inv.1 c.loop-left-test.true (row_is c.before.before.before.before.before.before.before.before) taken.1,
     )
 
 pub take_rows_spec : {M : Type 1} → statement M
@@ -57,18 +52,17 @@ take_rows_spec =
     (tie.spec
     invariant-loop
     decreases-loop
-    (λ c. omega (arith, c.before.before.before.requires.0.there))
-    (λ c. omega (arith, c.before.before.before.requires.0.there))
-    (λ c. (grouping_start c.before.before.before.requires.0 refl, grouping_start c.before.before.before.requires.1 refl))
-    (λ c. let start = c.before.before.before.before.before in omega (arith, before-is start.requires.0 c.before.loop-left.invariant.0 c.loop-left-test.true))
+    (λ c. omega (arith, c.requires.0.there))
+    (λ c. omega (arith, c.requires.0.there))
+    (λ c. (grouping_start c.requires.0 refl, grouping_start c.requires.1 refl))
+    (λ c. omega (arith, before-is c.requires.0 c.loop-left.invariant.0 c.loop-left-test.true))
     (λ c. omega arith)
     (λ c. omega arith)
     (λ c. omega arith)
-    (λ c. let start = c.before.before.before.before.before in omega (arith, end-there start.requires.0 c.before.loop-left.invariant.0 c.loop-left-test.true))
+    (λ c. omega (arith, end-there c.requires.0 c.loop-left.invariant.0 c.loop-left-test.true))
     take-row-requires
     (λ c. omega arith)
     loop-again
-    (λ c. c.before.loop-left.invariant.0.size)
-    (λ c. c.before.loop-left.invariant.1.size)
-    (λ c. let start = c.before.before.before.before.before in
-    (grouping_all start.requires.0 c.before.loop-left.invariant.0 c.loop-left-test.false, grouping_all start.requires.1 c.before.loop-left.invariant.1 c.loop-left-test.false)))
+    (λ c. c.loop-left.invariant.0.size)
+    (λ c. c.loop-left.invariant.1.size)
+    (λ c. (grouping_all c.requires.0 c.loop-left.invariant.0 c.loop-left-test.false, grouping_all c.requires.1 c.loop-left.invariant.1 c.loop-left-test.false)))

@@ -21,22 +21,21 @@ decreases-loop values inputs from count low₀ high₀ left₀ low high left = l
 
 there :
     (c : tie.In-loop-left invariant-loop decreases-loop)
-    → let a = c.before.before.before.before.before.args in
-    let left = c.before.loop-left.left in
+    → let a = c.args in
+    let left = c.loop-left.left in
     a.from + (left - ((left - 1) % 8 + 1)) * a.inputs + ((left - 1) % 8 + 1) * a.inputs ≤ length a.values.now
 there c =
-    let start = c.before.before.before.before.before in
-    group-there start.requires.0 c.before.loop-left.invariant.0 (omega (arith, c.loop-left-test.true)) refl
+    group-there c.requires.0 c.loop-left.invariant.0 (omega (arith, c.loop-left-test.true)) refl
 
 group : (c : tie.In-loop-left invariant-loop decreases-loop)
-    → let a = c.before.before.before.before.before.args in
-    let left = c.before.loop-left.left in
+    → let a = c.args in
+    let left = c.loop-left.left in
     Group a.values.now a.inputs (a.from + (left - ((left - 1) % 8 + 1)) * a.inputs) ((left - 1) % 8 + 1) (replicate 192 0)
 group c =
     record {
       there = there c;
       few = omega arith;
-      long = omega (arith, c.before.before.before.before.before.requires.0.narrow, length-replicate {A = ℕ} 192 0);
+      long = omega (arith, c.requires.0.narrow, length-replicate {A = ℕ} 192 0);
       empty = λ i h. zeros-at 192 i;
     }
 
@@ -45,26 +44,20 @@ take-rows-requires c κs = (group c.before.before, group c.before.before)
 
 feed-requires : tie.Need-feed-requires invariant-loop decreases-loop
 feed-requires c κs =
-    let turn = c.before.before.before.before.before.before.before in
-    let start = turn.before.before.before.before.before in
-    hungry start.requires.0 turn.before.loop-left.invariant.0 (omega (arith, turn.loop-left-test.true)) refl
-    (omega (arith, c.before.before.before.before.take_rows.auto.1.1.1.1.0, start.requires.0.narrow))
+    hungry c.requires.0 c.loop-left.invariant.0 (omega (arith, c.loop-left-test.true)) refl
+    (omega (arith, c.take_rows.auto.1.1.1.1.0, c.requires.0.narrow))
 
 feed-requires-2 : tie.Need-feed-requires-in-loop-left invariant-loop decreases-loop
 feed-requires-2 c κs =
-    let turn = c.before.before.before.before.before.before.before.before.before.before.before.before in
-    let start = turn.before.before.before.before.before in
-    hungry start.requires.1 turn.before.loop-left.invariant.1 (omega (arith, turn.loop-left-test.true)) refl
-    (omega (arith, c.before.before.before.before.before.before.before.before.before.take_rows.auto.1.1.1.1.1.0, start.requires.1.narrow))
+    hungry c.requires.1 c.loop-left.invariant.1 (omega (arith, c.loop-left-test.true)) refl
+    (omega (arith, c.take_rows.auto.1.1.1.1.1.0, c.requires.1.narrow))
 
 loop-again : tie.Need-loop-left-preserved invariant-loop decreases-loop
 loop-again c =
-    let turn = c.before.before.before.before.before.before.before.before.before.before.before.before.before.before.before in
-    let start = turn.before.before.before.before.before in
-    let taken = c.before.before.before.before.before.before.before.before.before.before.before.before.take_rows.ensures in
-    let more = turn.loop-left-test.true in (
-      wording_more start.requires.0 turn.before.loop-left.invariant.0 more refl taken.0 c.before.before.before.before.before.before.before.feed.ensures,
-      wording_more start.requires.1 turn.before.loop-left.invariant.1 more refl taken.1 c.before.before.feed-in-loop-left.ensures,
+    let taken = c.take_rows.ensures in
+    let more = c.loop-left-test.true in (
+      wording_more c.requires.0 c.loop-left.invariant.0 more refl taken.0 c.feed.ensures,
+      wording_more c.requires.1 c.loop-left.invariant.1 more refl taken.1 c.feed-in-loop-left.ensures,
     )
 
 pub take_word_spec : {M : Type 1} → statement M
@@ -73,7 +66,7 @@ take_word_spec =
     (tie.spec
     invariant-loop
     decreases-loop
-    (λ c. (wording_start c.before.before.before.requires.0, wording_start c.before.before.before.requires.1))
+    (λ c. (wording_start c.requires.0, wording_start c.requires.1))
     (λ c. omega arith)
     (λ c. omega arith)
     (λ c. omega arith)
@@ -82,13 +75,12 @@ take_word_spec =
     (λ c. search rules)
     (λ c. search rules)
     take-rows-requires
-    (λ c. sym c.before.before.before.take_rows.auto.1.1.1.1.0)
+    (λ c. sym c.take_rows.auto.1.1.1.1.0)
     feed-requires
-    (λ c. sym c.before.before.before.before.before.before.before.before.take_rows.auto.1.1.1.1.1.0)
+    (λ c. sym c.take_rows.auto.1.1.1.1.1.0)
     feed-requires-2
     (λ c. omega arith)
     loop-again
-    (λ c. c.before.loop-left.invariant.0.size)
-    (λ c. c.before.loop-left.invariant.1.size)
-    (λ c. let start = c.before.before.before.before.before in
-    (wording_all start.requires.0 c.before.loop-left.invariant.0 c.loop-left-test.false, wording_all start.requires.1 c.before.loop-left.invariant.1 c.loop-left-test.false)))
+    (λ c. c.loop-left.invariant.0.size)
+    (λ c. c.loop-left.invariant.1.size)
+    (λ c. (wording_all c.requires.0 c.loop-left.invariant.0 c.loop-left-test.false, wording_all c.requires.1 c.loop-left.invariant.1 c.loop-left-test.false)))

@@ -9,21 +9,12 @@ use Rattle.list_file.proofs.Telling.{told-summary}
 use Rattle.list_file.proofs.lines.put_line.Statement.{statement}
 use Rattle.list_file.proofs.lines.put_line.Tie as tie
 
--- The count from where its line is put, and the function's entry from where the count is called.
-abbrev counted : tie.After-put_counted → tie.After-count_at-counted
-counted c = c.before.before.before.before.before.before
-
-abbrev start : tie.After-count_at-arg-1 → tie.Start
-start c = c.before.before.before.before.before.before.before
-
 returns : tie.Need-returns
 returns c s =
-    let put = c.before.before in
-    let entry = start (counted put).before.before in
-    let number = entry.args.site.number in
-    let family = entry.args.family.delays in
-    put.put_counted.ensures (summary_on family number listing_scratch s.ms s.found.m) (told-summary family number listing_scratch s.ms s.found.m)
-    (((counted put).count_at-counted.ensures s).is ∙ ap (λ (n : ℕ). counted_of (summary_on family number n s.ms s.found.m)) entry.requires.1.1.0)
+    let number = c.args.site.number in
+    let family = c.args.family.delays in
+    c.put_counted.ensures (summary_on family number listing_scratch s.ms s.found.m) (told-summary family number listing_scratch s.ms s.found.m)
+    ((c.count_at-counted.ensures s).is ∙ ap (λ (n : ℕ). counted_of (summary_on family number n s.ms s.found.m)) c.requires.1.1.0)
 
 pub put_line_spec : {M : Type 1} → statement M
 put_line_spec =

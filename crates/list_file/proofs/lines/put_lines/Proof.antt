@@ -25,7 +25,7 @@ decreases-loop image starts names nets sizes rooms modules family loads₀ scrat
 
 -- The function's entry from where the lists are known and from a turn of the loop, and the line from the turn's end.
 abbrev entered : tie.After-slice_known-3-1 invariant-loop decreases-loop → tie.Start invariant-loop decreases-loop
-entered c = let some = c.before.before.before.before in some.before.before.before.before.before
+entered c = c.before.before.before.before.before.before.before.before.before
 
 abbrev start : tie.At-loop-position invariant-loop decreases-loop → tie.Start invariant-loop decreases-loop
 start c = entered c.before
@@ -38,62 +38,52 @@ abbrev Given : tie.At-loop-position invariant-loop decreases-loop → Type 0
 Given c =
     let args = (start c).args in
     Listable args.image.now args.starts.now args.names.now args.nets.now args.sizes.now args.rooms.now args.modules
-    args.loads-1.now args.scratch-1.now args.out-1.now
+    args.loads.now args.scratch.now args.out.now
 
-here : (c : tie.In-loop-position invariant-loop decreases-loop) (s : Given c.before) → Here s.opened.ms c.before.loop-position.position
-here c s = here-at s.opened.ms c.before.loop-position.position (omega (arith, s.opened.all, c.loop-position-test.true))
+here : (c : tie.In-loop-position invariant-loop decreases-loop) (s : Given c.before) → Here s.opened.ms c.loop-position.position
+here c s = here-at s.opened.ms c.loop-position.position (omega (arith, s.opened.all, c.loop-position-test.true))
 
 add-end : tie.Need-overflow_add-end invariant-loop decreases-loop
 add-end c =
-    let turn = c.before.before in
-    let given = (start turn.before).requires in
-    omega (arith, low (turn.before.loop-position.invariant.1.1.1 given) given turn.loop-position-test.true)
+    let given = (start c.before.before.before).pre in
+    omega (arith, low (c.loop-position.invariant.1.1.1 given) given c.loop-position-test.true)
 
 part-put-line-end : tie.Need-slice_bounds-put_line-end invariant-loop decreases-loop
 part-put-line-end c =
-    let turn = c.before.before.before.before in
-    let given = (start turn.before).requires in
-    room (turn.before.loop-position.invariant.1.1.1 given) given turn.loop-position-test.true
+    let given = (start c.before.before.before.before.before).pre in
+    room (c.loop-position.invariant.1.1.1 given) given c.loop-position-test.true
 
 put-line-requires : tie.Need-put_line-at-requires invariant-loop decreases-loop
 put-line-requires c κs =
-    let site = c.before.before.before in
-    let turn = site.before.before in
-    let given = (start turn.before).requires in
-    let kept = turn.before.loop-position.invariant.1 in (
-      stands_here given.opened (here turn given) site.site_at-site.ensures,
-      (omega (arith, given.loads_long, kept.0), (kept.1.0, omega (arith, part-long (kept.1.1 given) given turn.loop-position-test.true))),
+    let given = (start c.before.before.before.before.before.before).pre in
+    let kept = c.loop-position.invariant.1 in (
+      stands_here given.opened (here c.before.before.before.before.before given) c.site_at-site.ensures,
+      (omega (arith, given.loads_long, kept.0), (kept.1.0, omega (arith, part-long (kept.1.1 given) given c.loop-position-test.true))),
     )
 
 add_at : tie.Need-overflow_add-at invariant-loop decreases-loop
 add_at c =
-    let put = written c in
-    let site = put.before.before.before.before in
-    let turn = site.before.before in
-    let given = (start turn.before).requires in
-    let sofar = turn.before.loop-position.inv.1.1.1 given in
+    let given = (start c.before.before.before.before.before.before.before.before.before.before.before.before.before).pre in
+    let sofar = c.loop-position.inv.1.1.1 given in
     omega (
       arith,
-      (line-here given.opened (here turn given) site.site_at-site.ensures (start turn.before).args.family.delays put.put_line-at.ensures).inside,
-      part-long sofar given turn.loop-position-test.taken,
-      low sofar given turn.loop-position-test.taken,
+      (line-here given.opened (here c.before.before.before.before.before.before.before.before.before.before.before.before given) c.site_at-site.ensures (start c.before.before.before.before.before.before.before.before.before.before.before.before.before).args.family.delays c.put_line-at.ensures).inside,
+      part-long sofar given c.loop-position-test.taken,
+      low sofar given c.loop-position-test.taken,
     )
 
 loop-again : tie.Need-loop-position-preserved invariant-loop decreases-loop
 loop-again c =
-    let put = written c in
-    let site = put.before.before.before.before in
-    let turn = site.before.before in
-    let given = (start turn.before).requires in
-    let sofar = turn.before.loop-position.inv.1.1.1 in (
+    let given = (start c.before.before.before.before.before.before.before.before.before.before.before.before.before).pre in
+    let sofar = c.loop-position.inv.1.1.1 in (
       search rules,
       (
         search rules,
         (
           search rules,
           λ s.
-              more (sofar s) (here turn s) _ refl (room (sofar given) given turn.loop-position-test.taken)
-              (line-here s.opened (here turn s) site.site_at-site.ensures (start turn.before).args.family.delays put.put_line-at.ensures),
+              more (sofar s) (here c.before.before.before.before.before.before.before.before.before.before.before.before s) _ refl (room (sofar given) given c.loop-position-test.taken)
+              (line-here s.opened (here c.before.before.before.before.before.before.before.before.before.before.before.before s) c.site_at-site.ensures (start c.before.before.before.before.before.before.before.before.before.before.before.before.before).args.family.delays c.put_line-at.ensures),
         ),
       ),
     )
@@ -105,9 +95,9 @@ put_lines_spec =
     invariant-loop
     decreases-loop
     (λ c. (search rules, (refl, ((entered c).requires.lent, λ s. none s.file (entered c).args.family.delays s.opened.ms _))))
-    (λ c. omega (arith, (in_lists (start c.before).requires.opened c.loop-position-test.true).0))
-    (λ c. (in_lists (start c.before.before).requires.opened c.before.loop-position-test.true).0)
-    (λ c κs. (in_lists (start c.before.before).requires.opened c.before.loop-position-test.true).1)
+    (λ c. omega (arith, (in_lists (start c.before).pre.opened c.loop-position-test.true).0))
+    (λ c. (in_lists (start c.before.before).pre.opened c.loop-position-test.true).0)
+    (λ c κs. (in_lists (start c.before.before).pre.opened c.loop-position-test.true).1)
     add-end
     (λ c. search rules)
     (λ c. search rules)
@@ -119,5 +109,5 @@ put_lines_spec =
     loop-again
     (λ c. search rules)
     (λ c. search rules)
-    (λ c. put-length (c.before.loop-position.invariant.1.1.1 (start c.before).requires).put)
-    (λ c s. all-put (c.before.loop-position.invariant.1.1.1 s) (omega (arith, s.opened.all))))
+    (λ c. put-length (c.loop-position.invariant.1.1.1 (start c.before).pre).put)
+    (λ c s. all-put (c.loop-position.invariant.1.1.1 s) (omega (arith, s.opened.all))))

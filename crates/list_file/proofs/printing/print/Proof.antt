@@ -12,7 +12,7 @@ array-share-prefix-text c = omega (arith, c.list-used.ensures.inside, put-length
 
 slice-aggregate-write-all : tie.Need-slice_bounds-write_all-end
 slice-aggregate-write-all c =
-    let listed = c.before.list-used.ensures in
+    let listed = c.list-used.ensures in
     sym (length-take-le _ _ (omega (arith, listed.inside, put-length listed)))
 
 pub print_spec : {M : Type 1} → statement M

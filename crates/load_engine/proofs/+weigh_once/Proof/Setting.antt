@@ -16,20 +16,20 @@ use Rattle.load_engine.specs.Loads.{LoadsKept, Workable}
 use Rattle.tally_engine.proofs.Counting as counting
 use Rattle.load_engine.proofs.Loading.{Loading, FrameLoaded, frame-fits, kept-behind, all-loaded}
 use Rattle.load_engine.proofs.KeptLoads.{work-moved}
-use Rattle.load_engine.proofs.weigh_once-inner.Reads as reads
-use Rattle.load_engine.proofs.weigh_once-inner.Kinds as kinds
+use Rattle.load_engine.proofs.weigh_once.Reads as reads
+use Rattle.load_engine.proofs.weigh_once.Kinds as kinds
 use Rattle.load_engine.proofs.+weigh_once.Lts-weigh_once as lts
 use Rattle.gates.proofs.kind_of.Reads as kind-of
-use Rattle.image.proofs.places.module_at-header.Reads as module_at
-use Rattle.image.proofs.places.occurrence_at-o.Reads as occurrence-at
+use Rattle.image.proofs.places.module_at.Reads as module_at
+use Rattle.image.proofs.places.occurrence_at.Reads as occurrence-at
 use Rattle.image.proofs.buffers.clear.Reads as clear
-use Rattle.image.proofs.buffers.larger-most.Reads as larger
-use Rattle.tally_engine.proofs.rows-1.row_at.Reads as row_at
-use Rattle.tally_engine.proofs.rows-1.write_row.Reads as write-row
-use Rattle.tally_engine.proofs.Tally.nothing-tally.Reads as nothing
-use Rattle.tally_engine.proofs.Tally.with_gate-tally.Reads as with-gate
-use Rattle.tally_engine.proofs.Tally.with_tally-tally.Reads as with-tally
-use Rattle.load_steps.proofs.kept_at-kept.Reads as kept_at
+use Rattle.image.proofs.buffers.larger.Reads as larger
+use Rattle.tally_engine.proofs.rows.row_at.Reads as row_at
+use Rattle.tally_engine.proofs.rows.write_row.Reads as write-row
+use Rattle.tally_engine.proofs.Tally.nothing.Reads as nothing
+use Rattle.tally_engine.proofs.Tally.with_gate.Reads as with-gate
+use Rattle.tally_engine.proofs.Tally.with_tally.Reads as with-tally
+use Rattle.load_steps.proofs.kept_at.Reads as kept_at
 use Rattle.load_steps.proofs.largest.Reads as largest
 use Rattle.load_steps.proofs.add_loads.Reads as add-loads
 use Rattle.load_steps.proofs.add_inside.Reads as add-inside
@@ -158,24 +158,24 @@ module _ (t : ℕ) where
       lists.before.before.before
 
   -- What the number that was read is.
-  pub is-gate : (c : AtGate) → is_gate (gate-read c).occurrence_at-o.result.refers ≡ true
-  is-gate c = gate-told _ (sym c.before.before.kind_of.ensures ∙ c.enum_told-1.given.1)
+  pub is-gate : (c : AtGate) → is_gate (gate-read c).occurrence-at.result.refers ≡ true
+  is-gate c = gate-told _ (sym c.before.before.kind-of.ensures ∙ c.enum_told.given.1)
 
-  pub is_module : (c : AtModule) → is_gate (module-read c).occurrence_at-o.result.refers ≡ false
-  is_module c = module_told _ (sym c.before.before.kind_of.ensures ∙ c.enum_told-in-Module-1.given.1)
+  pub is_module : (c : AtModule) → is_gate (module-read c).occurrence-at.result.refers ≡ false
+  is_module c = module_told _ (sym c.before.before.kind-of.ensures ∙ c.enum-told2.given.1)
 
   -- The module, in the entries that the loop works with.
   pub working :
       (c : Looping)
       → let args = (start c).args in
-      Workable args.image.now args.starts.now args.nets.now args.k (length (clearing c).clear.new.1.0) args.loads-1.now args.known-1.now
+      Workable args.image.now args.starts.now args.nets.now args.k (length (clearing c).clear.new.1.0) args.loads.now args.known.now
   working c =
       let s = (start c).requires.1.0 in
       work-moved s (omega (arith, s.loadable.room, (clearing c).clear.auto.1.0))
 
   -- The frame lies within scratch.
-  pub frame-inside : (c : Looping) → let args = (start c).args in get_or args.nets.now args.k 0 ≤ length c.loop-left.scratch-1
-  frame-inside c = let s = working c in omega (arith, frame-fits s.loadable, (c.loop-left.invariant.3 s).0.long)
+  pub frame-inside : (c : Looping) → let args = (start c).args in get_or args.nets.now args.k 0 ≤ length c.loop.scratch
+  frame-inside c = let s = working c in omega (arith, frame-fits s.loadable, (c.loop.invariant.3 s).0.long)
 
   -- With no occurrence left the loads stand in the frame.
   abbrev pub ended : lts.After-larger-load (claims t) (Given t) reads.Post Inv-loop μ-loop → Looping
@@ -185,10 +185,10 @@ module _ (t : ℕ) where
       (c : lts.After-larger-load (claims t) (Given t) reads.Post Inv-loop μ-loop)
       → let loop = ended c in
       let args = (start loop).args in
-      (w : Workable args.image.now args.starts.now args.nets.now args.k (length (clearing loop).clear.last.1.0) args.loads-1.now args.known-1.now)
-      → FrameLoaded w.loadable.rs w.loadable.scene.m w.loadable.scene.later args.k c.larger-load.result args.scratch-1.now loop.loop-left.scratch-1
+      (w : Workable args.image.now args.starts.now args.nets.now args.k (length (clearing loop).clear.last.1.0) args.loads.now args.known.now)
+      → FrameLoaded w.loadable.rs w.loadable.scene.m w.loadable.scene.later args.k c.larger2.result args.scratch.now loop.loop.scratch
   all-framed c w =
       let loop = ended c in
       let s = w.loadable in
-      all-loaded s _ (omega arith) (loop.loop-left.inv.3 w).0 (kept-behind s _ (clearing loop).clear.ensures) c.before.largest.ensures
-      c.larger-load.ensures
+      all-loaded s _ (omega arith) (loop.loop.inv.3 w).0 (kept-behind s _ (clearing loop).clear.ensures) c.before.largest.ensures
+      c.larger2.ensures

@@ -7,7 +7,7 @@ use Rattle.tally_engine.proofs.Counting as counting
 use Rattle.load_engine.proofs.Loading.{frame-fits}
 use Rattle.load_engine.proofs.GateLoads.{at-gate}
 use Rattle.load_engine.proofs.ModuleLoads as loading
-use Rattle.load_engine.proofs.weigh_once-inner.Reads as reads
+use Rattle.load_engine.proofs.weigh_once.Reads as reads
 use Rattle.load_engine.proofs.+weigh_once.Lts-weigh_once as lts
 use Rattle.load_engine.proofs.+weigh_once.Proof.Setting.{Given, claims, Inv-loop, μ-loop, start, gate-read, module-read, told, weighed}
 use Rattle.load_engine.proofs.+weigh_once.Proof.Setting.{is-gate, is_module, working}
@@ -18,9 +18,9 @@ module _ (t : ℕ) where
   with-gate-requires c κs =
       let read = gate-read t c.before in
       let loop = read.before.before in
-      let s = (start t loop).requires.1.1 in
-      let sofar = (loop.loop-left.inv.4 s).0 in
-      let now = turn read.before.loop-left-test.taken sofar.ahead read.occurrence_at-o.ensures in
+      let s = (start t loop).pre.1.1 in
+      let sofar = (loop.loop.inv.4 s).0 in
+      let now = turn read.before.loop-test.taken sofar.ahead read.occurrence-at.ensures in
       let gate = counting.at-gate s.countable sofar now (is-gate t c.before) in
       (gate.below, gate.step.addable)
 
@@ -30,8 +30,8 @@ module _ (t : ℕ) where
       let read = gate-read t gate in
       let loop = read.before.before in
       let w = working t loop in
-      let sofar = (loop.loop-left.inv.3 w).0 in
-      let now = turn read.before.loop-left-test.taken sofar.ahead read.occurrence_at-o.ensures in
+      let sofar = (loop.loop.inv.3 w).0 in
+      let now = turn read.before.loop-test.taken sofar.ahead read.occurrence-at.ensures in
       (at-gate w.loadable sofar now (is-gate t gate) _).placed
 
   pub again-at-gate : lts.Need-loop-left-preserved-in-Gate (claims t) (Given t) reads.Post Inv-loop μ-loop
@@ -41,19 +41,19 @@ module _ (t : ℕ) where
       let gate = counted.before.before in
       let read = gate-read t gate in
       let loop = read.before.before in (
-        loop.loop-left.inv.0,
-        loop.loop-left.inv.1,
-        loop.loop-left.inv.2,
+        loop.loop.inv.0,
+        loop.loop.inv.1,
+        loop.loop.inv.2,
         λ w.
-            let sofar = loop.loop-left.inv.3 w in
-            let now = turn read.before.loop-left-test.taken sofar.0.ahead read.occurrence_at-o.ensures in (
-              (at-gate w.loadable sofar.0 now (is-gate t gate) _).next added.add_loads.auto.1.1.1.1.1.1.0 added.add_loads.ensures,
+            let sofar = loop.loop.inv.3 w in
+            let now = turn read.before.loop-test.taken sofar.0.ahead read.occurrence-at.ensures in (
+              (at-gate w.loadable sofar.0 now (is-gate t gate) _).next added.add-loads.auto.1.1.1.1.1.1.0 added.add-loads.ensures,
               sofar.1,
             ),
         λ s.
-            let sofar = loop.loop-left.inv.4 s in
-            let now = turn read.before.loop-left-test.taken sofar.0.ahead read.occurrence_at-o.ensures in
-            ((counting.at-gate s.countable sofar.0 now (is-gate t gate)).step.next counted.with_gate-tally.ensures, sofar.1),
+            let sofar = loop.loop.inv.4 s in
+            let now = turn read.before.loop-test.taken sofar.0.ahead read.occurrence-at.ensures in
+            ((counting.at-gate s.countable sofar.0 now (is-gate t gate)).step.next counted.with-gate.ensures, sofar.1),
       )
 
   -- At a module the part behind the frame is lent on; its tally is added, and each argument place adds the load of its input, and
@@ -61,7 +61,7 @@ module _ (t : ℕ) where
   pub lent-offset : lts.Need-offset_bounds-scratch-frame (claims t) (Given t) reads.Post Inv-loop μ-loop
   lent-offset c =
       let from = start t (module-read t c.before).before.before in
-      omega (arith, frame-fits from.requires.1.0.loadable, from.good.1.1.1.1.0.1)
+      omega (arith, frame-fits from.pre.1.0.loadable, from.good.1.1.1.1.0.1)
 
   pub weigh-once-requires : lts.Need-weigh_once-inner-requires (claims t) (Given t) reads.Post Inv-loop μ-loop
   weigh-once-requires c κs =
@@ -69,21 +69,21 @@ module _ (t : ℕ) where
       let at = lent.before.before.before in
       let read = module-read t at in
       let loop = read.before.before in
-      let some = read.before.loop-left-test.taken in
+      let some = read.before.loop-test.taken in
       let w = working t loop in
-      let s = (start t loop).requires.1.1 in
-      let loaded = loop.loop-left.inv.3 w in
-      let counted = loop.loop-left.inv.4 s in
-      let now = turn some loaded.0.ahead read.occurrence_at-o.ensures in (
+      let s = (start t loop).pre.1.1 in
+      let loaded = loop.loop.inv.3 w in
+      let counted = loop.loop.inv.4 s in
+      let now = turn some loaded.0.ahead read.occurrence-at.ensures in (
         omega (
           arith,
-          (start t loop).requires.0,
+          (start t loop).pre.0,
           loading.after w.loadable loaded.0 now (is_module t at),
           loading.listed w.loadable loaded.0 now (is_module t at),
         ),
         (
           loading.workable w.loadable loaded.0 now (is_module t at) loaded.1,
-          counting.tallying s.countable counted.0 (turn some counted.0.ahead read.occurrence_at-o.ensures) (is_module t at) counted.1,
+          counting.tallying s.countable counted.0 (turn some counted.0.ahead read.occurrence-at.ensures) (is_module t at) counted.1,
         ),
       )
 
@@ -93,10 +93,10 @@ module _ (t : ℕ) where
       let at = told t called in
       let read = module-read t at in
       let loop = read.before.before in
-      let s = (start t loop).requires.1.1 in
-      let sofar = loop.loop-left.inv.4 s in
-      let now = turn read.before.loop-left-test.taken sofar.0.ahead read.occurrence_at-o.ensures in
-      let done = called.weigh_once-inner.ensures.1 (counting.tallying s.countable sofar.0 now (is_module t at) sofar.1) in
+      let s = (start t loop).pre.1.1 in
+      let sofar = loop.loop.inv.4 s in
+      let now = turn read.before.loop-test.taken sofar.0.ahead read.occurrence-at.ensures in
+      let done = called.weigh-once.ensures.1 (counting.tallying s.countable sofar.0 now (is_module t at) sofar.1) in
       ((counting.at_module s.countable sofar.0 now (is_module t at)).step done.is).addable
 
   -- Its loads stand where its numbers do.
@@ -106,8 +106,8 @@ module _ (t : ℕ) where
       let read = module-read t at in
       let loop = read.before.before in
       let w = working t loop in
-      let sofar = (loop.loop-left.inv.3 w).0 in
-      loading.listed w.loadable sofar (turn read.before.loop-left-test.taken sofar.ahead read.occurrence_at-o.ensures) (is_module t at)
+      let sofar = (loop.loop.inv.3 w).0 in
+      loading.listed w.loadable sofar (turn read.before.loop-test.taken sofar.ahead read.occurrence-at.ensures) (is_module t at)
 
   pub offset : lts.Need-offset_bounds-starts-j (claims t) (Given t) reads.Post Inv-loop μ-loop
   offset c =
@@ -115,8 +115,8 @@ module _ (t : ℕ) where
       let read = module-read t at in
       let loop = read.before.before in
       let w = working t loop in
-      let sofar = (loop.loop-left.inv.3 w).0 in
-      let now = turn read.before.loop-left-test.taken sofar.ahead read.occurrence_at-o.ensures in
+      let sofar = (loop.loop.inv.3 w).0 in
+      let now = turn read.before.loop-test.taken sofar.ahead read.occurrence-at.ensures in
       omega (arith, loading.listed w.loadable sofar now (is_module t at), (start t loop).good.1.0.1)
 
   pub module-places : lts.Need-add_inside-requires (claims t) (Given t) reads.Post Inv-loop μ-loop
@@ -128,11 +128,11 @@ module _ (t : ℕ) where
       let read = module-read t at in
       let loop = read.before.before in
       let w = working t loop in
-      let sofar = loop.loop-left.inv.3 w in
-      let now = turn read.before.loop-left-test.taken sofar.0.ahead read.occurrence_at-o.ensures in
+      let sofar = loop.loop.inv.3 w in
+      let now = turn read.before.loop-test.taken sofar.0.ahead read.occurrence-at.ensures in
       (loading.at_module w.loadable sofar.0 now (is_module t at) _
-      (called.weigh_once-inner.ensures.0 (loading.workable w.loadable sofar.0 now (is_module t at) sofar.1))
-      called.weigh_once-inner.kept.1.1.1.1.0 raised.larger-most.ensures).placed
+      (called.weigh-once.ensures.0 (loading.workable w.loadable sofar.0 now (is_module t at) sofar.1))
+      called.weigh-once.kept.1.1.1.1.0 raised.larger.ensures).placed
 
   pub again-at-module : lts.Need-loop-left-preserved (claims t) (Given t) reads.Post Inv-loop μ-loop
   again-at-module c =
@@ -143,20 +143,20 @@ module _ (t : ℕ) where
       let at = told t called in
       let read = module-read t at in
       let loop = read.before.before in (
-        called.weigh_once-inner.kept.1.1.1.1.1.0 ∙ loop.loop-left.inv.0,
-        called.weigh_once-inner.kept.1.1.1.1.1.1.0 ∙ loop.loop-left.inv.1,
-        called.weigh_once-inner.kept.1.1.1.1.1.1.1.0 ∙ loop.loop-left.inv.2,
+        called.weigh-once.kept.1.1.1.1.1.0 ∙ loop.loop.inv.0,
+        called.weigh-once.kept.1.1.1.1.1.1.0 ∙ loop.loop.inv.1,
+        called.weigh-once.kept.1.1.1.1.1.1.1.0 ∙ loop.loop.inv.2,
         λ w.
-            let sofar = loop.loop-left.inv.3 w in
-            let now = turn read.before.loop-left-test.taken sofar.0.ahead read.occurrence_at-o.ensures in
-            let done = called.weigh_once-inner.ensures.0 (loading.workable w.loadable sofar.0 now (is_module t at) sofar.1) in (
-              (loading.at_module w.loadable sofar.0 now (is_module t at) _ done called.weigh_once-inner.kept.1.1.1.1.0 raised.larger-most.ensures
-                  ).next added.add_inside.auto.1.1.1.1.0 added.add_inside.ensures,
+            let sofar = loop.loop.inv.3 w in
+            let now = turn read.before.loop-test.taken sofar.0.ahead read.occurrence-at.ensures in
+            let done = called.weigh-once.ensures.0 (loading.workable w.loadable sofar.0 now (is_module t at) sofar.1) in (
+              (loading.at_module w.loadable sofar.0 now (is_module t at) _ done called.weigh-once.kept.1.1.1.1.0 raised.larger.ensures
+                  ).next added.add-inside.auto.1.1.1.1.0 added.add-inside.ensures,
               done.kept,
             ),
         λ s.
-            let sofar = loop.loop-left.inv.4 s in
-            let now = turn read.before.loop-left-test.taken sofar.0.ahead read.occurrence_at-o.ensures in
-            let done = called.weigh_once-inner.ensures.1 (counting.tallying s.countable sofar.0 now (is_module t at) sofar.1) in
-            (((counting.at_module s.countable sofar.0 now (is_module t at)).step done.is).next counted.with_tally-tally.ensures, done.kept),
+            let sofar = loop.loop.inv.4 s in
+            let now = turn read.before.loop-test.taken sofar.0.ahead read.occurrence-at.ensures in
+            let done = called.weigh-once.ensures.1 (counting.tallying s.countable sofar.0 now (is_module t at) sofar.1) in
+            (((counting.at_module s.countable sofar.0 now (is_module t at)).step done.is).next counted.with-tally.ensures, done.kept),
       )

@@ -7,22 +7,15 @@ use Rattle.ndl_answer.proofs.listing.list.Tie as tie
 
 returns : tie.Need-returns-then-names-ne128
 returns c t =
-    let s = c.before.before.before.before in
-    bad-length s.args.names.now s.args.out-1.now t.ms c.if-names-ne128.true
+    bad-length c.args.names.now c.args.out.now t.ms c.if-names-ne128.true
 
 returns-2 : tie.Need-returns-then-bad-ne16
 returns-2 c t =
-    let b = c.before in
-    let s = b.before.before.before.before.before in
-    bad-name s.args.names.now s.args.out-1.now t.ms b.before.if-names-ne128.false b.first_bad-bad.ensures c.if-bad-ne16.true
+    bad-name c.args.names.now c.args.out.now t.ms c.if-names-ne128.false c.first_bad-bad.ensures c.if-bad-ne16.true
 
 returns-3 : tie.Need-returns
 returns-3 c t =
-    let told = c.before.before in
-    let good = told.before.before in
-    let b = good.before in
-    let s = b.before.before.before.before.before in
-    good-names s.args.names.now s.args.out-1.now t.ms b.before.if-names-ne128.false (sym b.first_bad-bad.ensures ∙ good.if-bad-ne16.false) (told.tell.ensures t)
+    good-names c.args.names.now c.args.out.now t.ms c.if-names-ne128.false (sym c.first_bad-bad.ensures ∙ c.if-bad-ne16.false) (c.tell.ensures t)
 
 pub list_spec : {M : Type 1} → statement M
 list_spec = tie.close (tie.spec returns (λ c κs. search rules) returns-2 (λ c κs. search rules) (λ c. search rules) returns-3)

@@ -10,26 +10,21 @@ use Rattle.ndl_text.specs.Standing.{FileTold}
 use Rattle.ndl_answer.proofs.telling.tell_through.Statement.{statement}
 use Rattle.ndl_answer.proofs.telling.tell_through.Tie as tie
 
-abbrev start : tie.After-put_file-count → tie.Start
-start c = c.before.before.before.before.before.before
-
-front : (c : tie.After-put_file-count) (t : FileTold (start c).args.names.now (start c).args.numbers.now (start c).args.text-1.now)
-    → Filled (ndl_text (start c).args.names.now t.ms) (start c).args.text-1.now c.put_file-count.new.1.1.0 c.put_file-count.result
+front : (c : tie.After-put_file-count) (t : FileTold c.args.names.now c.args.numbers.now c.args.text.now)
+    → Filled (ndl_text c.args.names.now t.ms) c.args.text.now c.put_file-count.new.1.1.0 c.put_file-count.result
 front c t = put_front (c.put_file-count.ensures t)
 
 returns : tie.Need-returns
 returns c t =
-    let a = c.before.before in
-    let p = a.before.before.before.before.before in
-    answers-laid (ndl_text (start p).args.names.now t.ms) (start p).args.out-1.now (front p t) a.answer.ensures
+    answers-laid (ndl_text c.args.names.now t.ms) c.args.out.now (front c.before.before.before.before.before.before t) c.answer.ensures
 
 pub tell_through_spec : {M : Type 1} → statement M
 tell_through_spec =
     tie.close
     (tie.spec
     (λ c κs. search rules)
-    (λ c. let p = c.before.before in front-within (front p (start p).requires))
-    (λ c. let p = c.before.before.before in sym (length-take-le _ _ (front-within (front p (start p).requires))))
+    (λ c. front-within (front c.before.before c.requires))
+    (λ c. sym (length-take-le _ _ (front-within (front c.before.before c.requires))))
     (λ c κs. search rules)
     (λ c. search rules)
     (λ c. search rules)

@@ -20,33 +20,28 @@ invariant-loop sign nets out₀ at at₀ i₀ i-end out at' i = Laying (each (si
 abbrev decreases-loop : tie.decreases-loop-i
 decreases-loop sign nets out₀ at at₀ i₀ i-end out at' i = i-end - i
 
-abbrev start : tie.In-loop-i invariant-loop decreases-loop → tie.Start invariant-loop decreases-loop
-start c = c.before.before.before.before
-
 -- In a turn the text of a net comes first of those left.
 next : (c : tie.In-loop-i invariant-loop decreases-loop)
-    → each (signed (start c).args.sign) (drop c.before.loop-i.i (start c).args.nets.now)
-    ≡ signed (start c).args.sign (get_or (start c).args.nets.now c.before.loop-i.i 0)
-    ++ each (signed (start c).args.sign) (drop (c.before.loop-i.i + 1) (start c).args.nets.now)
-next c = more-next (start c).args.sign (rest-of-list (start c).args.nets.now c.before.loop-i.i c.loop-i-test.true)
+    → each (signed c.args.sign) (drop c.loop-i.i c.args.nets.now)
+    ≡ signed c.args.sign (get_or c.args.nets.now c.loop-i.i 0)
+    ++ each (signed c.args.sign) (drop (c.loop-i.i + 1) c.args.nets.now)
+next c = more-next c.args.sign (rest-of-list c.args.nets.now c.loop-i.i c.loop-i-test.true)
 
 put-requires : tie.Need-put_signed-at-requires invariant-loop decreases-loop
 put-requires c κs =
-    let turn = c.before.before in
-    let loop = turn.before.loop-i in (
-      all-at (start turn).requires.0 loop.i 0 turn.loop-i-test.true,
-      omega (arith, laying-room loop.invariant (signed _ _) _ (next turn)),
+    let loop = c.loop-i in (
+      all-at c.requires.0 loop.i 0 c.loop-i-test.true,
+      omega (arith, laying-room loop.invariant (signed _ _) _ (next c.before.before)),
     )
 
 loop-again : tie.Need-loop-i-preserved invariant-loop decreases-loop
 loop-again c =
-    let turn = c.before.before.before.before.before in
-    laying-more turn.before.loop-i.invariant (signed _ _) _ (next turn) c.before.before.put_signed-at.ensures
+    laying-more c.loop-i.invariant (signed _ _) _ (next c.before.before.before.before.before) c.put_signed-at.ensures
 
 returns : tie.Need-returns invariant-loop decreases-loop
 returns c =
-    let args = c.before.before.before.before.args in
-    laying-all c.before.loop-i.invariant (more-none args.sign (drop_of_length-le args.nets.now c.loop-i-test.false))
+    let args = c.args in
+    laying-all c.loop-i.invariant (more-none args.sign (drop_of_length-le args.nets.now c.loop-i-test.false))
 
 pub put_more_spec : {M : Type 1} → statement M
 put_more_spec =
@@ -54,12 +49,12 @@ put_more_spec =
     (tie.spec
     invariant-loop
     decreases-loop
-    (λ c. laying-start c.before.before.requires.1)
+    (λ c. laying-start c.requires.1)
     (λ c. omega arith)
     (λ c. omega arith)
     put-requires
     (λ c. omega arith)
     (λ c. omega arith)
     loop-again
-    (λ c. laying-length c.before.loop-i.invariant)
+    (λ c. laying-length c.loop-i.invariant)
     returns)

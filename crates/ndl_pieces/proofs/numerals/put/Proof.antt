@@ -10,78 +10,56 @@ use Rattle.ndl_pieces.proofs.numerals.put.Tie as tie
 
 returns : tie.Need-returns-then-n-lt10
 returns c =
-    let p = c.before.before in
-    same-put (one-digit p.before.before.if-n-lt10.true) p.put_one.ensures
+    same-put (one-digit c.if-n-lt10.true) c.put_one.ensures
 
 returns-2 : tie.Need-returns-then-n-lt100
 returns-2 c =
-    let p = c.before.before in
-    let t = p.before.before in
-    same-put (two_digits t.before.if-n-lt10.false t.if-n-lt100.true) p.put_two.ensures
+    same-put (two_digits c.if-n-lt10.false c.if-n-lt100.true) c.put_two.ensures
 
 returns-3 : tie.Need-returns-then-n-lt1000
 returns-3 c =
-    let p = c.before.before in
-    let t = p.before.before in
-    same-put (three-digits t.before.if-n-lt100.false t.if-n-lt1000.true) p.put_three.ensures
+    same-put (three-digits c.if-n-lt100.false c.if-n-lt1000.true) c.put_three.ensures
 
--- The two longest lengths.
-abbrev entry-four : tie.Then-n-lt10000 → tie.Start
-entry-four t = t.before.before.before.before.before
+four : (t : tie.Then-n-lt10000) → decimal t.args.n ≡ last_digits 4 t.args.n
+four t = four-digits t.if-n-lt1000.false t.if-n-lt10000.true
 
-four : (t : tie.Then-n-lt10000) → decimal (entry-four t).args.n ≡ last_digits 4 (entry-four t).args.n
-four t = four-digits t.before.if-n-lt1000.false t.if-n-lt10000.true
-
-abbrev entry-five : tie.Else-n-lt10000 → tie.Start
-entry-five t = t.before.before.before.before.before
-
-five : (t : tie.Else-n-lt10000) → decimal (entry-five t).args.n ≡ last_digits 5 (entry-five t).args.n
-five t = five-digits t.if-n-lt10000.false (omega (arith, (entry-five t).requires.0))
+five : (t : tie.Else-n-lt10000) → decimal t.args.n ≡ last_digits 5 t.args.n
+five t = five-digits t.if-n-lt10000.false (omega (arith, t.requires.0))
 
 put-two-requires-3 : tie.Need-put_two-requires-then-n-lt10000
 put-two-requires-3 c κs =
-    let p = c.before.before.before in
-    let t = p.before.before in
-    two-room 2 (entry-four t).args.n (four t) (entry-four t).requires.1 p.put_two-next.ensures
+    two-room 2 c.args.n (four c.before.before.before.before.before) c.requires.1 c.put_two-next.ensures
 
 returns-4 : tie.Need-returns-then-n-lt10000
 returns-4 c =
-    let q = c.before.before in
-    let p = q.before.before.before.before in
-    let t = p.before.before in
-    two-last 2 (entry-four t).args.n (four t) (entry-four t).requires.1 p.put_two-next.ensures q.put_two-then-n-lt10000.ensures
+    two-last 2 c.args.n (four c.before.before.before.before.before.before.before.before) c.requires.1 c.put_two-next.ensures c.put_two-then-n-lt10000.ensures
 
 put-two-requires-4 : tie.Need-put_two-requires-2
 put-two-requires-4 c κs =
-    let p = c.before.before.before in
-    let t = p.before.before in
-    two-room 3 (entry-five t).args.n (five t) (entry-five t).requires.1 p.put_three-next.ensures
+    two-room 3 c.args.n (five c.before.before.before.before.before) c.requires.1 c.put_three-next.ensures
 
 returns-5 : tie.Need-returns
 returns-5 c =
-    let q = c.before.before in
-    let p = q.before.before.before.before in
-    let t = p.before.before in
-    two-last 3 (entry-five t).args.n (five t) (entry-five t).requires.1 p.put_three-next.ensures q.put_two-2.ensures
+    two-last 3 c.args.n (five c.before.before.before.before.before.before.before.before) c.requires.1 c.put_three-next.ensures c.put_two-2.ensures
 
 pub put_spec : {M : Type 1} → statement M
 put_spec =
     tie.close
     (tie.spec
-    (λ c κs. same-room (one-digit c.before.if-n-lt10.true) c.before.before.before.requires.1)
+    (λ c κs. same-room (one-digit c.if-n-lt10.true) c.requires.1)
     (λ c. search rules)
     returns
-    (λ c κs. let t = c.before in same-room (two_digits t.before.if-n-lt10.false t.if-n-lt100.true) t.before.before.before.requires.1)
+    (λ c κs. same-room (two_digits c.if-n-lt10.false c.if-n-lt100.true) c.requires.1)
     (λ c. search rules)
     returns-2
-    (λ c κs. let t = c.before in same-room (three-digits t.before.if-n-lt100.false t.if-n-lt1000.true) t.before.before.before.before.requires.1)
+    (λ c κs. same-room (three-digits c.if-n-lt100.false c.if-n-lt1000.true) c.requires.1)
     (λ c. search rules)
     returns-3
-    (λ c κs. let t = c.before in front-room 2 (entry-four t).args.n (four t) (entry-four t).requires.1)
+    (λ c κs. front-room 2 c.args.n (four c.before) c.requires.1)
     put-two-requires-3
     (λ c. search rules)
     returns-4
-    (λ c κs. let t = c.before in front-room 3 (entry-five t).args.n (five t) (entry-five t).requires.1)
+    (λ c κs. front-room 3 c.args.n (five c.before) c.requires.1)
     put-two-requires-4
     (λ c. search rules)
     returns-5)

@@ -10,13 +10,12 @@ use Rattle.ndl_pieces.proofs.numerals.put_one.Tie as tie
 
 slice-write-out : tie.Need-bounds-out-at
 unfolding last_digits
-slice-write-out c = omega (arith, c.before.before.requires.fits)
+slice-write-out c = omega (arith, c.requires.fits)
 
 returns : tie.Need-returns
 unfolding last_digits
 returns c =
-    let s = c.before.before in
-    rw c.digit.ensures (put_stores ((48 + s.args.n % 10) ∷ []) s.args.out.now s.args.at s.requires.fits)
+    rw c.digit.ensures (put_stores ((48 + c.args.n % 10) ∷ []) c.args.out.now c.args.at c.requires.fits)
 
 pub put_one_spec : {M : Type 1} → statement M
 put_one_spec = tie.close (tie.spec (λ c κs. search rules) slice-write-out (λ c. search rules) (λ c. search rules) returns)

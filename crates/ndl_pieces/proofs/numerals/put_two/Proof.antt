@@ -12,18 +12,17 @@ use Rattle.ndl_pieces.proofs.numerals.put_two.Tie as tie
 
 slice-write-out : tie.Need-bounds-out-at
 unfolding last_digits
-slice-write-out c = omega (arith, c.before.before.requires.fits)
+slice-write-out c = omega (arith, c.requires.fits)
 
 slice-write-out-2 : tie.Need-bounds-out-at-2
 unfolding last_digits
-slice-write-out-2 c = simp length-set (omega (arith, c.before.before.before.requires.fits))
+slice-write-out-2 c = simp length-set (omega (arith, c.requires.fits))
 
 returns : tie.Need-returns
 unfolding last_digits
 returns c =
-    let s = c.before.before.before in
-    rw (c.digit-2.ensures, c.before.digit.ensures, add-one)
-    (put_stores ((48 + s.args.n / 10 % 10) ∷ (48 + s.args.n % 10) ∷ []) s.args.out.now s.args.at s.requires.fits)
+    rw (c.digit-2.ensures, c.digit.ensures, add-one)
+    (put_stores ((48 + c.args.n / 10 % 10) ∷ (48 + c.args.n % 10) ∷ []) c.args.out.now c.args.at c.requires.fits)
 
 pub put_two_spec : {M : Type 1} → statement M
 put_two_spec =

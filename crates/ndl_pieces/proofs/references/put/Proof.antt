@@ -22,29 +22,19 @@ by-module names n h = rw (le-ltb n 16 h)
 
 put-letters-requires : tie.Need-put_letters-requires
 put-letters-requires c κs =
-    let gate = c.before.before in
-    let s = gate.before.before.before in
-    rw (by-gate s.args.names.now s.args.number gate.if-number-lt16.true) s.requires.2
+    rw (by-gate c.args.names.now c.args.number c.if-number-lt16.true) c.requires.2
 
 returns : tie.Need-returns-then-number-lt16
 returns c =
-    let p = c.before.before in
-    let gate = p.before.before.before in
-    let s = gate.before.before.before in
-    rw (by-gate s.args.names.now s.args.number gate.if-number-lt16.true) at p.put_letters.ensures
+    rw (by-gate c.args.names.now c.args.number c.if-number-lt16.true) at c.put_letters.ensures
 
 put-named-requires : tie.Need-put_named-requires
 put-named-requires c κs =
-    let other = c.before in
-    let s = other.before.before.before in
-    (s.requires.1, rw (by-module s.args.names.now s.args.number other.if-number-lt16.false) s.requires.2)
+    (c.requires.1, rw (by-module c.args.names.now c.args.number c.if-number-lt16.false) c.requires.2)
 
 returns-2 : tie.Need-returns
 returns-2 c =
-    let p = c.before.before in
-    let other = p.before.before in
-    let s = other.before.before.before in
-    rw (by-module s.args.names.now s.args.number other.if-number-lt16.false) at p.put_named.ensures
+    rw (by-module c.args.names.now c.args.number c.if-number-lt16.false) at c.put_named.ensures
 
 pub put_spec : {M : Type 1} → statement M
 put_spec =
@@ -54,7 +44,7 @@ put_spec =
     (λ c. omega (arith, c.if-number-lt16.true))
     (λ c. omega (arith, c.if-number-lt16.true))
     (λ c. omega (arith, c.if-number-lt16.true))
-    (λ c. omega (arith, c.if-number-lt16.true, c.before.before.before.requires.0))
+    (λ c. omega (arith, c.if-number-lt16.true, c.requires.0))
     put-letters-requires
     (λ c. search rules)
     returns

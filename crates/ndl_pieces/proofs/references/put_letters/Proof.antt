@@ -10,27 +10,25 @@ use Rattle.ndl_pieces.proofs.references.put_letters.Statement.{statement}
 use Rattle.ndl_pieces.proofs.references.put_letters.Tie as tie
 
 -- The bytes that are copied are the letters.
-front : (c : tie.After-letters-count) → take c.letters-count.result c.before.before.before.args.name.now ≡ letters c.before.before.before.args.name.now
+front : (c : tie.After-letters-count) → take c.letters-count.result c.args.name.now ≡ letters c.args.name.now
 front c =
-    let name = c.before.before.before.args.name.now in
+    let name = c.args.name.now in
     rw c.letters-count.ensures (front-letters name)
 
 copy-requires : tie.Need-copy-requires
 copy-requires c κs =
-    let counted = c.before.before in
-    rw (front counted) counted.before.before.before.requires.fits
+    rw (front c.before) c.requires.fits
 
 returns : tie.Need-returns
 returns c =
-    let p = c.before.before in
-    rw (front p.before.before.before) at p.copy.ensures
+    rw (front c.before.before.before.before) at c.copy.ensures
 
 pub put_letters_spec : {M : Type 1} → statement M
 put_letters_spec =
     tie.close
     (tie.spec
     (λ c κs. search rules)
-    (λ c. sym (length-take-le _ _ (omega (arith, few-letters c.before.before.before.before.args.name.now, c.before.letters-count.ensures))))
+    (λ c. sym (length-take-le _ _ (omega (arith, few-letters c.args.name.now, c.letters-count.ensures))))
     copy-requires
     (λ c. search rules)
     returns)

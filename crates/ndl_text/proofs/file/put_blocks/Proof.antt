@@ -15,22 +15,17 @@ invariant-loop names numbers from count out₀ at pen₀ counter₀ out pen coun
 abbrev decreases-loop : tie.decreases-loop
 decreases-loop names numbers from count out₀ at pen₀ counter₀ out pen counter = count - counter
 
-abbrev start : tie.At-loop invariant-loop decreases-loop → tie.Start invariant-loop decreases-loop
-start c = c.before.before.before.before
-
 put-requires : tie.Need-put-pen-requires invariant-loop decreases-loop
 put-requires c κs =
-    let turn = c.before in
-    let t = (start turn.before).requires in
-    next-told t (turn.before.loop.invariant t) turn.loop-test.true
+    let t = c.requires in
+    next-told t (c.loop.invariant t) c.loop-test.true
 
 loop-again : tie.Need-loop-preserved invariant-loop decreases-loop
 loop-again c t =
-    let turn = c.before.before.before.before in
-    blocks_more t (turn.before.loop.invariant t) turn.loop-test.true c.before.before.put-pen.ensures
+    blocks_more t (c.loop.invariant t) c.loop-test.true c.put-pen.ensures
 
 returns : tie.Need-returns invariant-loop decreases-loop
-returns c t = blocks-all t (c.before.loop.invariant t) c.loop-test.false
+returns c t = blocks-all t (c.loop.invariant t) c.loop-test.false
 
 pub put_blocks_spec : {M : Type 1} → statement M
 put_blocks_spec =
@@ -40,8 +35,8 @@ put_blocks_spec =
     decreases-loop
     (λ c t. blocks_start t _ refl refl)
     put-requires
-    (λ c. omega (arith, c.before.before.before.before.loop-test.true))
-    (λ c. omega (arith, c.before.before.before.before.loop-test.true))
+    (λ c. omega (arith, c.loop-test.true))
+    (λ c. omega (arith, c.loop-test.true))
     loop-again
-    (λ c. let t = (start c.before).requires in laying-length (c.before.loop.invariant t).laid)
+    (λ c. let t = c.requires in laying-length (c.loop.invariant t).laid)
     returns)

@@ -8,40 +8,30 @@ use Rattle.ndl_text.proofs.file.put_file.Tie as tie
 -- The places behind the first lines and behind the blocks.
 abbrev start : tie.After-copy-first → tie.Start
 start c =
-    let half = c.before.before.before.before in
-    let here = half.before.before in
-    here
+    c.before.before.before.before.before.before
 
 abbrev fronted : tie.After-put_blocks-last → tie.After-copy-first
 fronted c =
-    let half = c.before.before.before.before in
-    let here = half.before in
-    here
+    c.before.before.before.before.before
 
 copy-requires : tie.Need-copy-first-requires
 copy-requires c κs =
-    let half = c.before.before.before.before in
-    let start = half.before in
-    omega (arith, front-room start.requires)
+    omega (arith, front-room c.requires)
 
 put-blocks-requires : tie.Need-put_blocks-last-requires
 put-blocks-requires c κs =
-    let p = c.before.before.before.before in
-    blocks-told (start p).requires p.copy-first.ensures
+    blocks-told (start c.before.before.before.before).requires c.copy-first.ensures
 
 copy-requires-2 : tie.Need-copy-requires
 copy-requires-2 c κs =
-    let b = c.before.before.before.before in
-    let p = fronted b in
-    let t = (start p).requires in
-    omega (arith, last-room t p.copy-first.ensures (b.put_blocks-last.ensures (blocks-told t p.copy-first.ensures)))
+    let p = fronted c.before.before.before.before.before in
+    let t = (start p).pre in
+    omega (arith, last-room t p.copy.ensures (c.put_blocks-last.ensures (blocks-told t p.copy.ensures)))
 
 returns : tie.Need-returns
 returns c t =
-    let last = c.before.before in
-    let b = last.before.before.before.before.before in
-    let p = fronted b in
-    all_told t p.copy-first.ensures (b.put_blocks-last.ensures (blocks-told t p.copy-first.ensures)) last.copy.ensures
+    let p = fronted c.before.before.before.before.before.before.before.before in
+    all_told t p.copy.ensures (c.put_blocks-last.ensures (blocks-told t p.copy.ensures)) c.copy.ensures
 
 pub put_file_spec : {M : Type 1} → statement M
 put_file_spec =

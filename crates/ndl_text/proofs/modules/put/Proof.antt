@@ -28,15 +28,10 @@ start c = c.before.before.before.before
 
 abbrev parts : tie.After-put_head-body → tie.After-module_at-header
 parts c =
-    let half = c.before.before.before.before in
-    let here = half.before.before in
-    here
-
-abbrev behind-head : tie.After-put_all-pen → tie.After-put_head-body
-behind-head c = c.before.before.before.before
+    c.before.before.before.before.before.before
 
 abbrev Told : tie.After-module_at-header → Type 0
-Told c = let a = (start c).args in ModuleTold a.names.now a.numbers.now a.from a.out-1.now a.at
+Told c = let a = c.args in ModuleTold a.names.now a.numbers.now a.from a.out.now a.at
 
 -- What stands behind the head.
 abbrev rest : List ℕ → Module → List ℕ
@@ -47,22 +42,22 @@ room-of-parts : {names numbers : List ℕ} {from : ℕ} {out : List ℕ} {at : �
 room-of-parts {names} {out = out} {at = at} t = subst (λ (text : List ℕ). Room text out at) (module_of-parts names t.m) t.room
 
 module _ (c : tie.After-module_at-header) (t : Told c) where
-  placed : HeaderOf (start c).args.numbers.now (start c).args.from t.m c.module_at-header.result
-  placed = c.module_at-header.ensures t.m t.stands
+  placed : HeaderOf (start c).args.numbers.now (start c).args.from t.m c.module-at.result
+  placed = c.module-at.ensures t.m t.stands
 
   inputs : Stands (start c).args.numbers.now ((start c).args.from + 2) t.m.inputs
   inputs = (module_at t.m t.stands).inputs ((start c).args.from + 2) refl
 
   inputs-part :
-      take ((start c).args.from + 2 + c.module_at-header.result.inputs - ((start c).args.from + 2)) (drop ((start c).args.from + 2) (start c).args.numbers.now)
+      take ((start c).args.from + 2 + c.module-at.result.inputs - ((start c).args.from + 2)) (drop ((start c).args.from + 2) (start c).args.numbers.now)
       ≡ t.m.inputs
   inputs-part =
-      part-between ((start c).args.from + 2) ((start c).args.from + 2 + c.module_at-header.result.inputs) inputs
+      part-between ((start c).args.from + 2) ((start c).args.from + 2 + c.module-at.result.inputs) inputs
       (ap (λ (n : ℕ). (start c).args.from + 2 + n) placed.inputs)
 
   outputs-part :
-      take (c.module_at-header.result.to - c.module_at-header.result.from) (drop c.module_at-header.result.from (start c).args.numbers.now) ≡ t.m.outputs
-  outputs-part = part-between c.module_at-header.result.from c.module_at-header.result.to placed.outputs placed.to
+      take (c.module-at.result.to - c.module-at.result.from) (drop c.module-at.result.from (start c).args.numbers.now) ≡ t.m.outputs
+  outputs-part = part-between c.module-at.result.from c.module-at.result.to placed.outputs placed.to
 
 -- The head's number and lists, as they stand in the numbers.
 headable : (out : List ℕ) (at : ℕ) {n m : ℕ} {is js os ps : List ℕ} → n ≡ m → is ≡ js → os ≡ ps
@@ -77,7 +72,7 @@ headed before at after next e f g h = rw (← e, ← f, ← g) h
 begun : (c : tie.After-put_head-body) (t : Told (parts c))
     → let a = (start (parts c)).args in
     Laying (head_text t.m.number t.m.inputs t.m.outputs ++ rest a.names.now t.m) (rest a.names.now t.m)
-    a.out-1.now a.at c.put_head-body.new.1.1.1.0 c.put_head-body.result
+    a.out.now a.at c.put_head-body.new.1.1.1.0 c.put_head-body.result
 begun c t =
     laying-put
     (headed _ _ _ _ (module_at t.m t.stands).number (inputs-part (parts c) t) (outputs-part (parts c) t) c.put_head-body.ensures)
@@ -86,7 +81,7 @@ begun c t =
 -- Its occurrences stand behind the head's numbers.
 abbrev occurrences : (c : tie.After-put_head-body) (t : Told (parts c))
     → let a = (start (parts c)).args in
-    let h = (parts c).module_at-header.result in
+    let h = (parts c).module-at.result in
     OccurrencesTold a.names.now a.numbers.now (h.to + 1) h.count c.put_head-body.new.1.1.1.0 c.put_head-body.result
 occurrences c t =
     record {
@@ -99,40 +94,33 @@ occurrences c t =
       room = room-first end_module_lines (laying-left (begun c t));
     }
 
-told : (c : tie.After-put_all-pen) (t : Told (parts (behind-head c)))
-    → let a = (start (parts (behind-head c))).args in
+told : (c : tie.After-put_all-pen) (t : Told (parts c.before.before.before.before))
+    → let a = (start (parts c.before.before.before.before)).args in
     Laying (head_text t.m.number t.m.inputs t.m.outputs ++ rest a.names.now t.m) end_module_lines
-    a.out-1.now a.at c.put_all_lem.new.1.1.1.1.0 c.put_all_lem.result.at
+    a.out.now a.at c.put_all-pen.new.1.1.1.1.0 c.put_all-pen.result.at
 told c t =
-    laying-put {rest = end_module_lines} (c.put_all_lem.ensures (occurrences (behind-head c) t)).put (begun (behind-head c) t)
+    laying-put {rest = end_module_lines} (c.put_all-pen.ensures (occurrences c.before.before.before.before t)).put (begun c.before.before.before.before t)
 
 put-head-requires : tie.Need-put_head-body-requires
 put-head-requires c κs =
-    let half = c.before.before.before.before in
-    let here = half.before in
-    let p = here in
-    let t = (start p).requires in
-    headable _ _ (module_at t.m t.stands).number (inputs-part p t) (outputs-part p t)
+    let t = c.requires in
+    headable _ _ (module_at t.m t.stands).number (inputs-part c.before.before.before.before.before t) (outputs-part c.before.before.before.before.before t)
     (t.within.number, t.within.inputs.numbers, t.within.outputs.numbers, room-first (rest _ t.m) (room-of-parts t))
 
 put-all-requires : tie.Need-put_all-pen-requires
-put-all-requires c κs = let h = c.before.before.before in occurrences h (start (parts h)).requires
+put-all-requires c κs = occurrences c.before.before.before (start (parts c.before.before.before)).requires
 
 copy-requires : tie.Need-copy-end-requires
 copy-requires c κs =
-    let o = c.before.before.before.before in
-    omega (arith, (laying-left (told o (start (parts (behind-head o))).requires)).fits)
+    omega (arith, (laying-left (told c.before.before.before.before.before (start (parts c.before.before.before.before.before.before.before.before.before)).requires)).fits)
 
 returns : tie.Need-returns
 returns c t =
-    let p = c.before.before in
-    let o = p.before.before.before.before.before in
-    let h = behind-head o in
-    let a = (start (parts h)).args in
-    let header = placed (parts h) t in
+    let a = (start (parts c.before.before.before.before.before.before.before.before.before.before.before.before)).args in
+    let header = placed (parts c.before.before.before.before.before.before.before.before.before.before.before.before) t in
     record {
-      put = rw (module_of-parts a.names.now t.m) (laying-last p.copy-end.ensures (told o t));
-      next = omega (arith, (o.put_all_lem.ensures (occurrences h t)).next, header.to, header.from, length-of_module t.m);
+      put = rw (module_of-parts a.names.now t.m) (laying-last c.copy-end.ensures (told c.before.before.before.before.before.before.before.before t));
+      next = omega (arith, (c.put_all-pen.ensures (occurrences c.before.before.before.before.before.before.before.before.before.before.before.before t)).next, header.to, header.from, length-of_module t.m);
     }
 
 pub put_spec : {M : Type 1} → statement M
@@ -140,20 +128,20 @@ put_spec =
     tie.close
     (tie.spec
     (λ c κs. let t = c.before.before.before.requires in record { m = t.m; stands = t.stands })
-    (λ c. omega (arith, (inputs c (start c).requires).within))
-    (λ c. let p = c.before in omega (arith, (inputs p (start p).requires).within, (placed p (start p).requires).inputs))
-    (λ c. let p = c.before in omega (arith, (inputs p (start p).requires).within))
-    (λ c. let p = c.before.before in omega (arith, (inputs p (start p).requires).within))
-    (λ c. let p = c.before.before in omega (arith, (inputs p (start p).requires).within))
-    (λ c. let p = c.before.before in omega (arith, (inputs p (start p).requires).within))
-    (λ c. let p = c.before.before in omega (arith, (inputs p (start p).requires).within))
-    (λ c. let p = c.before.before in omega (arith, (inputs p (start p).requires).within, (placed p (start p).requires).inputs))
-    (λ c. let p = c.before.before.before in omega (arith, (placed p (start p).requires).outputs.within))
-    (λ c. let p = c.before.before.before in omega (arith, (placed p (start p).requires).to))
-    (λ c. let p = c.before.before.before in omega (arith, (placed p (start p).requires).to))
-    (λ c. let p = c.before.before.before in omega (arith, (placed p (start p).requires).outputs.within, (placed p (start p).requires).to))
+    (λ c. omega (arith, (inputs c c.requires).within))
+    (λ c. omega (arith, (inputs c.before c.requires).within, (placed c.before c.requires).inputs))
+    (λ c. omega (arith, (inputs c.before c.requires).within))
+    (λ c. omega (arith, (inputs c.before.before c.requires).within))
+    (λ c. omega (arith, (inputs c.before.before c.requires).within))
+    (λ c. omega (arith, (inputs c.before.before c.requires).within))
+    (λ c. omega (arith, (inputs c.before.before c.requires).within))
+    (λ c. omega (arith, (inputs c.before.before c.requires).within, (placed c.before.before c.requires).inputs))
+    (λ c. omega (arith, (placed c.before.before.before c.requires).outputs.within))
+    (λ c. omega (arith, (placed c.before.before.before c.requires).to))
+    (λ c. omega (arith, (placed c.before.before.before c.requires).to))
+    (λ c. omega (arith, (placed c.before.before.before c.requires).outputs.within, (placed c.before.before.before c.requires).to))
     put-head-requires
-    (λ c. let p = parts c.before.before in omega (arith, (placed p (start p).requires).body.within))
+    (λ c. let p = parts c.before.before in omega (arith, (placed p p.before.before.before.before.pre).body.within))
     put-all-requires
     (λ c. search rules)
     copy-requires

@@ -20,25 +20,19 @@ from_inputs inputs outputs = keyword_line inputs_word inputs ++ from_outputs out
 -- The places behind the title, the inputs and the outputs.
 abbrev start : tie.After-put_title-first → tie.Start
 start c =
-    let half = c.before.before.before.before in
-    let here = half.before in
-    here
+    c.before.before.before.before.before
 
 abbrev behind-title : tie.After-put_line-second → tie.After-put_title-first
 behind-title c =
-    let half = c.before.before.before.before in
-    let here = half.before in
-    here
+    c.before.before.before.before.before
 
 abbrev behind-inputs : tie.After-put_line-third → tie.After-put_line-second
 behind-inputs c =
-    let half = c.before.before.before.before in
-    let here = half.before in
-    here
+    c.before.before.before.before.before
 
 titled : (c : tie.After-put_title-first)
     → let a = (start c).args in
-    Laying (head_text a.number a.inputs.now a.outputs.now) (from_inputs a.inputs.now a.outputs.now) a.out-1.now a.at
+    Laying (head_text a.number a.inputs.now a.outputs.now) (from_inputs a.inputs.now a.outputs.now) a.out.now a.at
     c.put_title-first.new.1.0 c.put_title-first.result
 titled c =
     let a = (start c).args in
@@ -46,40 +40,36 @@ titled c =
 
 taking : (c : tie.After-put_line-second)
     → let a = (start (behind-title c)).args in
-    Laying (head_text a.number a.inputs.now a.outputs.now) (from_outputs a.outputs.now) a.out-1.now a.at
+    Laying (head_text a.number a.inputs.now a.outputs.now) (from_outputs a.outputs.now) a.out.now a.at
     c.put_line-second.new.1.1.0 c.put_line-second.result
 taking c = laying-put {rest = from_outputs (start (behind-title c)).args.outputs.now} c.put_line-second.ensures (titled (behind-title c))
 
 giving : (c : tie.After-put_line-third)
     → let a = (start (behind-title (behind-inputs c))).args in
-    Laying (head_text a.number a.inputs.now a.outputs.now) define_lines a.out-1.now a.at
+    Laying (head_text a.number a.inputs.now a.outputs.now) define_lines a.out.now a.at
     c.put_line-third.new.1.1.0 c.put_line-third.result
 giving c = laying-put {rest = define_lines} c.put_line-third.ensures (taking (behind-inputs c))
 
 put-title-requires : tie.Need-put_title-first-requires
 put-title-requires c κs =
-    let s = c.before.before.before.before in
-    (s.requires.0, room-first {xs = title_text s.args.number} (from_inputs s.args.inputs.now s.args.outputs.now) s.requires.3)
+    (c.requires.0, room-first {xs = title_text c.args.number} (from_inputs c.args.inputs.now c.args.outputs.now) c.requires.3)
 
 put-line-requires : tie.Need-put_line-second-requires
 put-line-requires c κs =
-    let first = c.before.before.before.before in
-    let s = start first in
-    (s.requires.1, room-first {xs = keyword_line inputs_word s.args.inputs.now} (from_outputs s.args.outputs.now) (laying-left (titled first)))
+    let s = start c.before.before.before.before.before in
+    (s.pre.1, room-first {xs = keyword_line inputs_word s.args.inputs.now} (from_outputs s.args.outputs.now) (laying-left (titled c.before.before.before.before.before)))
 
 put-line-requires-2 : tie.Need-put_line-third-requires
 put-line-requires-2 c κs =
-    let second = c.before.before.before.before in
-    let s = start (behind-title second) in
-    (s.requires.2, room-first {xs = keyword_line outputs_word s.args.outputs.now} define_lines (laying-left (taking second)))
+    let s = start (behind-title c.before.before.before.before.before) in
+    (s.pre.2, room-first {xs = keyword_line outputs_word s.args.outputs.now} define_lines (laying-left (taking c.before.before.before.before.before)))
 
 copy-requires : tie.Need-copy-requires
-copy-requires c κs = omega (arith, (laying-left (giving c.before.before.before.before)).fits)
+copy-requires c κs = omega (arith, (laying-left (giving c.before.before.before.before.before)).fits)
 
 returns : tie.Need-returns
 returns c =
-    let p = c.before.before in
-    laying-last p.copy.ensures (giving p.before.before.before.before.before)
+    laying-last c.copy.ensures (giving c.before.before.before.before.before.before.before.before)
 
 pub put_head_spec : {M : Type 1} → statement M
 put_head_spec =

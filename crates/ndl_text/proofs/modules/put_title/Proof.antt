@@ -15,41 +15,30 @@ use Rattle.ndl_text.proofs.modules.put_title.Tie as tie
 abbrev name : ℕ → List ℕ
 name number = (77 ∷ decimal number) ++ line_end
 
--- The places behind the word and behind the name.
-abbrev start : tie.After-copy-name → tie.Start
-start c = c.before.before.before.before
-
-abbrev behind-word : tie.After-put_named-end → tie.After-copy-name
-behind-word c = c.before.before.before.before
-
 worded : (c : tie.After-copy-name)
-    → let a = (start c).args in
-    Laying (title_text a.number) (name a.number) a.out-1.now a.at c.copy-name.new.1.0 c.copy-name.result
-worded c = laying-put {rest = name (start c).args.number} c.copy-name.ensures (laying-start (start c).requires.1)
+    → let a = c.args in
+    Laying (title_text a.number) (name a.number) a.out.now a.at c.copy-name.new.1.0 c.copy-name.result
+worded c = laying-put {rest = name c.args.number} c.copy-name.ensures (laying-start c.requires.1)
 
 named : (c : tie.After-put_named-end)
-    → let a = (start (behind-word c)).args in
-    Laying (title_text a.number) line_end a.out-1.now a.at c.put_named-end.new.1.1.0 c.put_named-end.result
-named c = laying-put {rest = line_end} c.put_named-end.ensures (worded (behind-word c))
+    → let a = c.args in
+    Laying (title_text a.number) line_end a.out.now a.at c.put_named-end.new.1.1.0 c.put_named-end.result
+named c = laying-put {rest = line_end} c.put_named-end.ensures (worded c.before.before.before.before)
 
 copy-requires : tie.Need-copy-name-requires
 copy-requires c κs =
-    let s = c.before.before.before in
-    omega (arith, (room-first {xs = module_word} (name s.args.number) s.requires.1).fits)
+    omega (arith, (room-first {xs = module_word} (name c.args.number) c.requires.1).fits)
 
 put-named-requires : tie.Need-put_named-end-requires
 put-named-requires c κs =
-    let first = c.before.before.before in
-    let s = start first in
-    (s.requires.0, room-first {xs = 77 ∷ decimal s.args.number} line_end (laying-left (worded first)))
+    (c.requires.0, room-first {xs = 77 ∷ decimal c.args.number} line_end (laying-left (worded c.before.before.before)))
 
 copy-requires-2 : tie.Need-copy-requires
-copy-requires-2 c κs = omega (arith, (laying-left (named c.before.before.before.before)).fits)
+copy-requires-2 c κs = omega (arith, (laying-left (named c.before.before.before.before.before)).fits)
 
 returns : tie.Need-returns
 returns c =
-    let p = c.before.before in
-    laying-last p.copy.ensures (named p.before.before.before.before.before)
+    laying-last c.copy.ensures (named c.before.before.before.before.before.before.before.before)
 
 pub put_title_spec : {M : Type 1} → statement M
 put_title_spec =

@@ -27,40 +27,39 @@ parts c = c.before.before.before.before
 
 abbrev Told : tie.After-occurrence_at-place → Type 0
 Told c =
-    let a = (start c).args in
-    OccurrenceTold a.names.now a.numbers.now a.from a.position a.out-1.now a.at
+    let a = c.args in
+    OccurrenceTold a.names.now a.numbers.now a.from a.position a.out.now a.at
 
 module _ (c : tie.After-occurrence_at-place) (t : Told c) where
-  placed : PlaceOf (start c).args.numbers.now (start c).args.from t.o c.occurrence_at-place.result
-  placed = c.occurrence_at-place.ensures t.o t.stands
+  placed : PlaceOf (start c).args.numbers.now (start c).args.from t.o c.occurrence-at.result
+  placed = c.occurrence-at.ensures t.o t.stands
 
   drives : Stands (start c).args.numbers.now ((start c).args.from + 1) t.o.drives
   drives = drives-stand t.o t.stands
 
   driven-part :
-      take ((start c).args.from + 1 + c.occurrence_at-place.result.drives - ((start c).args.from + 1)) (drop ((start c).args.from + 1) (start c).args.numbers.now)
+      take ((start c).args.from + 1 + c.occurrence-at.result.drives - ((start c).args.from + 1)) (drop ((start c).args.from + 1) (start c).args.numbers.now)
       ≡ t.o.drives
   driven-part =
-      part-between ((start c).args.from + 1) ((start c).args.from + 1 + c.occurrence_at-place.result.drives) drives
+      part-between ((start c).args.from + 1) ((start c).args.from + 1 + c.occurrence-at.result.drives) drives
       (ap (λ (n : ℕ). (start c).args.from + 1 + n) placed.drives)
 
   taken-part :
-      take (c.occurrence_at-place.result.to - c.occurrence_at-place.result.from) (drop c.occurrence_at-place.result.from (start c).args.numbers.now)
+      take (c.occurrence-at.result.to - c.occurrence-at.result.from) (drop c.occurrence-at.result.from (start c).args.numbers.now)
       ≡ t.o.takes
-  taken-part = part-between c.occurrence_at-place.result.from c.occurrence_at-place.result.to placed.takes placed.to
+  taken-part = part-between c.occurrence-at.result.from c.occurrence-at.result.to placed.takes placed.to
 
-begun : (c : tie.After-put_driven-refers) (t : Told (parts c))
-    → let a = (start (parts c)).args in
+begun : (c : tie.After-put_driven-refers) (t : Told c.before.before.before.before)
+    → let a = c.args in
     Laying (driven_text a.position t.o.drives ++ taken_text a.names.now t.o.refers t.o.takes) (taken_text a.names.now t.o.refers t.o.takes)
-    a.out-1.now a.at c.put_driven-refers.new.1.1.0 c.put_driven-refers.result
-begun c t = laying-put (rw (driven-part (parts c) t) at c.put_driven-refers.ensures) (laying-start (room-of-parts t))
+    a.out.now a.at c.put_driven-refers.new.1.1.0 c.put_driven-refers.result
+begun c t = laying-put (rw (driven-part c.before.before.before.before t) at c.put_driven-refers.ensures) (laying-start (room-of-parts t))
 
 put-driven-requires : tie.Need-put_driven-refers-requires
 put-driven-requires c κs =
-    let p = c.before.before.before in
-    let t = (start p).requires in
-    rw (driven-part p t)
-    (t.small, t.within.drives.numbers, room-first (taken_text (start p).args.names.now t.o.refers t.o.takes) (room-of-parts t))
+    let t = c.requires in
+    rw (driven-part c.before.before.before t)
+    (t.small, t.within.drives.numbers, room-first (taken_text c.args.names.now t.o.refers t.o.takes) (room-of-parts t))
 
 -- What is asked of a reference and its arguments, as they stand in the numbers.
 takeable : (names out : List ℕ) (at : ℕ) {n m : ℕ} {xs ys : List ℕ} → n ≡ m → xs ≡ ys
@@ -70,39 +69,36 @@ takeable names out at e f h = rw (e, f) h
 
 put-taken-requires : tie.Need-put_taken-end-requires
 put-taken-requires c κs =
-    let d = c.before.before.before.before in
-    let t = (start (parts d)).requires in
-    takeable _ _ _ (placed (parts d) t).refers (taken-part (parts d) t)
-    (t.long, t.within.refers, t.within.takes.numbers, laying-left (begun d t))
+    let t = c.requires in
+    takeable _ _ _ (placed c.before.before.before.before.before.before.before.before t).refers (taken-part c.before.before.before.before.before.before.before.before t)
+    (t.long, t.within.refers, t.within.takes.numbers, laying-left (begun c.before.before.before.before t))
 
 returns : tie.Need-returns
 returns c t =
-    let p = c.before.before in
-    let d = p.before.before.before.before.before in
-    let a = (start (parts d)).args in
+    let a = c.args in
     record {
       put =
           rw (occurrence-of-parts a.names.now a.position t.o)
-          (laying-last (rw (taken-part (parts d) t, (placed (parts d) t).refers) at p.put_taken-end.ensures) (begun d t));
-      next = (placed (parts d) t).next;
+          (laying-last (rw (taken-part c.before.before.before.before.before.before.before.before.before.before.before t, (placed c.before.before.before.before.before.before.before.before.before.before.before t).refers) at c.put_taken-end.ensures) (begun c.before.before.before.before.before.before.before t));
+      next = (placed c.before.before.before.before.before.before.before.before.before.before.before t).next;
     }
 
 pub put_spec : {M : Type 1} → statement M
 put_spec =
     tie.close
     (tie.spec
-    (λ c κs. let t = c.before.before.before.requires in record { o = t.o; stands = t.stands })
-    (λ c. omega (arith, (drives c (start c).requires).within))
-    (λ c. omega (arith, (drives c.before (start c.before).requires).within, (placed c.before (start c.before).requires).drives))
-    (λ c. omega (arith, (drives c.before (start c.before).requires).within))
-    (λ c. omega (arith, (drives c.before (start c.before).requires).within))
-    (λ c. omega (arith, (drives c.before (start c.before).requires).within))
-    (λ c. omega (arith, (drives c.before (start c.before).requires).within, (placed c.before (start c.before).requires).drives))
+    (λ c κs. let t = c.requires in record { o = t.o; stands = t.stands })
+    (λ c. omega (arith, (drives c c.requires).within))
+    (λ c. omega (arith, (drives c.before c.requires).within, (placed c.before c.requires).drives))
+    (λ c. omega (arith, (drives c.before c.requires).within))
+    (λ c. omega (arith, (drives c.before c.requires).within))
+    (λ c. omega (arith, (drives c.before c.requires).within))
+    (λ c. omega (arith, (drives c.before c.requires).within, (placed c.before c.requires).drives))
     put-driven-requires
-    (λ c. let p = parts c.before.before in omega (arith, (placed p (start p).requires).takes.within))
-    (λ c. let p = parts c.before.before in omega (arith, (placed p (start p).requires).takes.within, (placed p (start p).requires).to))
-    (λ c. let p = parts c.before.before in omega (arith, (placed p (start p).requires).takes.within, (placed p (start p).requires).to))
-    (λ c. let p = parts c.before.before in omega (arith, (placed p (start p).requires).takes.within, (placed p (start p).requires).to))
+    (λ c. omega (arith, (placed c.before.before.before.before.before.before c.requires).takes.within))
+    (λ c. omega (arith, (placed c.before.before.before.before.before.before c.requires).takes.within, (placed c.before.before.before.before.before.before c.requires).to))
+    (λ c. omega (arith, (placed c.before.before.before.before.before.before c.requires).takes.within, (placed c.before.before.before.before.before.before c.requires).to))
+    (λ c. omega (arith, (placed c.before.before.before.before.before.before c.requires).takes.within, (placed c.before.before.before.before.before.before c.requires).to))
     put-taken-requires
     (λ c. search rules)
     returns)

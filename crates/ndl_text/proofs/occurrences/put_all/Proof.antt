@@ -17,23 +17,19 @@ decreases-loop names numbers from count out₀ at pen₀ i₀ out pen i = count 
 
 abbrev start : tie.In-loop-i invariant-loop decreases-loop → tie.Start invariant-loop decreases-loop
 start c =
-    let half = c.before.before.before.before in
-    let here = half.before in
-    here
+    c.before.before.before.before.before
 
 put-requires : tie.Need-put-pen-requires invariant-loop decreases-loop
 put-requires c κs =
-    let turn = c.before in
-    let t = (start turn).requires in
-    next-told t (turn.before.loop-i.invariant t) turn.loop-i-test.true
+    let t = (start c.before).requires in
+    next-told t (c.loop-i.invariant t) c.loop-i-test.true
 
 loop-again : tie.Need-loop-i-preserved invariant-loop decreases-loop
 loop-again c t =
-    let turn = c.before.before.before.before in
-    going_more t (turn.before.loop-i.invariant t) turn.loop-i-test.true c.before.before.put-pen.ensures
+    going_more t (c.loop-i.invariant t) c.loop-i-test.true c.put-pen.ensures
 
 returns : tie.Need-returns invariant-loop decreases-loop
-returns c t = going-all t (c.before.loop-i.invariant t) c.loop-i-test.false
+returns c t = going-all t (c.loop-i.invariant t) c.loop-i-test.false
 
 pub put_all_spec : {M : Type 1} → statement M
 put_all_spec =
@@ -44,8 +40,8 @@ put_all_spec =
     (λ c t. going_start t _ refl refl)
     (λ c. omega (arith, (start c).requires.all, (start c).requires.few, c.loop-i-test.true))
     put-requires
-    (λ c. omega (arith, c.before.before.before.before.loop-i-test.true))
-    (λ c. omega (arith, c.before.before.before.before.loop-i-test.true))
+    (λ c. omega (arith, c.loop-i-test.true))
+    (λ c. omega (arith, c.loop-i-test.true))
     loop-again
-    (λ c. let t = c.before.before.before.before.before.requires in laying-length (c.before.loop-i.invariant t).laid)
+    (λ c. let t = c.requires in laying-length (c.loop-i.invariant t).laid)
     returns)

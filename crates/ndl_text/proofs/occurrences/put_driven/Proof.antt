@@ -24,51 +24,42 @@ start c = c.before.before.before.before
 
 abbrev behind-name : tie.After-copy-list → tie.After-put_named-open
 behind-name c =
-    let half = c.before.before.before.before in
-    let here = half.before in
-    here
-
-abbrev behind-bracket : tie.After-put-close → tie.After-copy-list
-behind-bracket c = c.before.before.before.before
+    c.before.before.before.before.before
 
 named : (c : tie.After-put_named-open)
-    → let a = (start c).args in
-    Laying (driven_text a.position a.drives.now) (bracketed a.drives.now) a.out-1.now a.at c.put_named-open.new.1.1.0 c.put_named-open.result
-named c = laying-put {rest = bracketed (start c).args.drives.now} c.put_named-open.ensures (laying-start (start c).requires.2)
+    → let a = c.args in
+    Laying (driven_text a.position a.drives.now) (bracketed a.drives.now) a.out.now a.at c.put_named-open.new.1.1.0 c.put_named-open.result
+named c = laying-put {rest = bracketed c.args.drives.now} c.put_named-open.ensures (laying-start c.requires.2)
 
 opened : (c : tie.After-copy-list)
     → let a = (start (behind-name c)).args in
-    Laying (driven_text a.position a.drives.now) (nets_text a.drives.now ++ close) a.out-1.now a.at c.copy-list.new.1.0 c.copy-list.result
+    Laying (driven_text a.position a.drives.now) (nets_text a.drives.now ++ close) a.out.now a.at c.copy-list.new.1.0 c.copy-list.result
 opened c = laying-put {rest = nets_text (start (behind-name c)).args.drives.now ++ close} c.copy-list.ensures (named (behind-name c))
 
 listed : (c : tie.After-put-close)
-    → let a = (start (behind-name (behind-bracket c))).args in
-    Laying (driven_text a.position a.drives.now) close a.out-1.now a.at c.put-close.new.1.0 c.put-close.result
-listed c = laying-put {rest = close} c.put-close.ensures (opened (behind-bracket c))
+    → let a = (start (behind-name c.before.before.before.before)).args in
+    Laying (driven_text a.position a.drives.now) close a.out.now a.at c.put-close.new.1.0 c.put-close.result
+listed c = laying-put {rest = close} c.put-close.ensures (opened c.before.before.before.before)
 
 put-named-requires : tie.Need-put_named-open-requires
 put-named-requires c κs =
-    let s = c.before.before.before in
-    (s.requires.0, room-first {xs = 71 ∷ decimal s.args.position} (bracketed s.args.drives.now) s.requires.2)
+    (c.requires.0, room-first {xs = 71 ∷ decimal c.args.position} (bracketed c.args.drives.now) c.requires.2)
 
 copy-requires : tie.Need-copy-list-requires
 copy-requires c κs =
-    let first = c.before.before.before.before in
-    omega (arith, (room-first {xs = 40 ∷ []} (nets_text (start first).args.drives.now ++ close) (laying-left (named first))).fits)
+    omega (arith, (room-first {xs = 40 ∷ []} (nets_text c.args.drives.now ++ close) (laying-left (named c.before.before.before.before.before))).fits)
 
 put-requires : tie.Need-put-close-requires
 put-requires c κs =
-    let second = c.before.before.before in
-    let s = start (behind-name second) in
-    (s.requires.1, room-first {xs = nets_text s.args.drives.now} close (laying-left (opened second)))
+    let s = start (behind-name c.before.before.before) in
+    (s.pre.1, room-first {xs = nets_text s.args.drives.now} close (laying-left (opened c.before.before.before)))
 
 copy-requires-2 : tie.Need-copy-requires
-copy-requires-2 c κs = omega (arith, (laying-left (listed c.before.before.before.before)).fits)
+copy-requires-2 c κs = omega (arith, (laying-left (listed c.before.before.before.before.before)).fits)
 
 returns : tie.Need-returns
 returns c =
-    let p = c.before.before in
-    laying-last p.copy.ensures (listed p.before.before.before.before.before)
+    laying-last c.copy.ensures (listed c.before.before.before.before.before.before.before.before)
 
 pub put_driven_spec : {M : Type 1} → statement M
 put_driven_spec =

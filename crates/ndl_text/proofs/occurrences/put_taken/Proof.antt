@@ -20,57 +20,46 @@ bracketed takes = (40 ∷ []) ++ (nets_text takes ++ close)
 -- The places behind the name, the bracket and the nets.
 abbrev start : tie.After-put-open → tie.Start
 start c =
-    let half = c.before.before.before.before in
-    let here = half.before in
-    here
+    c.before.before.before.before.before
 
 abbrev behind-name : tie.After-copy-list → tie.After-put-open
 behind-name c =
-    let half = c.before.before.before.before in
-    let here = half.before in
-    here
-
-abbrev behind-bracket : tie.After-put-close → tie.After-copy-list
-behind-bracket c = c.before.before.before.before
+    c.before.before.before.before.before
 
 named : (c : tie.After-put-open)
     → let a = (start c).args in
-    Laying (taken_text a.names.now a.refers a.takes.now) (bracketed a.takes.now) a.out-1.now a.at c.put-open.new.1.1.0 c.put-open.result
+    Laying (taken_text a.names.now a.refers a.takes.now) (bracketed a.takes.now) a.out.now a.at c.put-open.new.1.1.0 c.put-open.result
 named c = laying-put {rest = bracketed (start c).args.takes.now} c.put-open.ensures (laying-start (start c).requires.3)
 
 opened : (c : tie.After-copy-list)
     → let a = (start (behind-name c)).args in
-    Laying (taken_text a.names.now a.refers a.takes.now) (nets_text a.takes.now ++ close) a.out-1.now a.at c.copy-list.new.1.0 c.copy-list.result
+    Laying (taken_text a.names.now a.refers a.takes.now) (nets_text a.takes.now ++ close) a.out.now a.at c.copy-list.new.1.0 c.copy-list.result
 opened c = laying-put {rest = nets_text (start (behind-name c)).args.takes.now ++ close} c.copy-list.ensures (named (behind-name c))
 
 listed : (c : tie.After-put-close)
-    → let a = (start (behind-name (behind-bracket c))).args in
-    Laying (taken_text a.names.now a.refers a.takes.now) close a.out-1.now a.at c.put-close.new.1.0 c.put-close.result
-listed c = laying-put {rest = close} c.put-close.ensures (opened (behind-bracket c))
+    → let a = (start (behind-name c.before.before.before.before)).args in
+    Laying (taken_text a.names.now a.refers a.takes.now) close a.out.now a.at c.put-close.new.1.0 c.put-close.result
+listed c = laying-put {rest = close} c.put-close.ensures (opened c.before.before.before.before)
 
 put-requires : tie.Need-put-open-requires
 put-requires c κs =
-    let s = c.before.before.before.before in
-    (s.requires.0, s.requires.1, room-first {xs = reference_text s.args.names.now s.args.refers} (bracketed s.args.takes.now) s.requires.3)
+    (c.requires.0, c.requires.1, room-first {xs = reference_text c.args.names.now c.args.refers} (bracketed c.args.takes.now) c.requires.3)
 
 copy-requires : tie.Need-copy-list-requires
 copy-requires c κs =
-    let first = c.before.before.before.before in
-    omega (arith, (room-first {xs = 40 ∷ []} (nets_text (start first).args.takes.now ++ close) (laying-left (named first))).fits)
+    omega (arith, (room-first {xs = 40 ∷ []} (nets_text (start c.before.before.before.before.before).args.takes.now ++ close) (laying-left (named c.before.before.before.before.before))).fits)
 
 put-requires-2 : tie.Need-put-close-requires
 put-requires-2 c κs =
-    let second = c.before.before.before in
-    let s = start (behind-name second) in
-    (s.requires.2, room-first {xs = nets_text s.args.takes.now} close (laying-left (opened second)))
+    let s = start (behind-name c.before.before.before) in
+    (s.pre.2, room-first {xs = nets_text s.args.takes.now} close (laying-left (opened c.before.before.before)))
 
 copy-requires-2 : tie.Need-copy-requires
-copy-requires-2 c κs = omega (arith, (laying-left (listed c.before.before.before.before)).fits)
+copy-requires-2 c κs = omega (arith, (laying-left (listed c.before.before.before.before.before)).fits)
 
 returns : tie.Need-returns
 returns c =
-    let p = c.before.before in
-    laying-last p.copy.ensures (listed p.before.before.before.before.before)
+    laying-last c.copy.ensures (listed c.before.before.before.before.before.before.before.before)
 
 pub put_taken_spec : {M : Type 1} → statement M
 put_taken_spec =

@@ -51,13 +51,11 @@ decreases-loop list i₀ i = length list - i
 
 loop-again : tie.Need-loop-i-preserved invariant-loop decreases-loop
 loop-again c =
-    let turn = c.before.before.before in
-    higher turn.before.loop-i.invariant turn.loop-i-test.true c.if-list-i.false
+    higher c.loop-i.invariant c.loop-i-test.true c.if-list-i.false
 
 returns-2 : tie.Need-returns invariant-loop decreases-loop
 returns-2 c e =
-    let at = c.before in
-    ap duplicates (sym (take_all at.loop-i.i at.before.args.list.now c.loop-i-test.false)) ∙ at.loop-i.invariant.single
+    ap duplicates (sym (take_all c.loop-i.i c.args.list.now c.loop-i-test.false)) ∙ c.loop-i.invariant.single
 
 pub ascends_spec : {M : Type 1} → statement M
 ascends_spec =

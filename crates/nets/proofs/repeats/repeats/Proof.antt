@@ -54,49 +54,47 @@ search-holds : tie.Need-search-init invariant-loop decreases-loop invariant-sear
 search-holds c = record { unmet = refl; left = refl }
 
 loop-holds : tie.Need-loop-j-init invariant-loop decreases-loop invariant-search decreases-search
-loop-holds c = record { unmet = c.before.search.invariant.unmet; left = refl }
+loop-holds c = record { unmet = c.search.invariant.unmet; left = refl }
 
 loop-again : tie.Need-loop-j-preserved invariant-loop decreases-loop invariant-search decreases-search
 loop-again c =
-    let turn = c.before.before.before in
     record {
-      unmet = turn.before.loop-j.invariant.unmet;
+      unmet = c.loop-j.invariant.unmet;
       left =
-          turn.before.loop-j.invariant.left
-          ∙ pair-passed turn.before.before.before.before.args.list.now turn.before.before.before.search.i
-          turn.before.loop-j.j
-          turn.loop-j-test.true
+          c.loop-j.invariant.left
+          ∙ pair-passed c.args.list.now c.search.i
+          c.loop-j.j
+          c.loop-j-test.true
           c.if-list-i.false;
     }
 
 search-again : tie.Need-search-preserved invariant-loop decreases-loop invariant-search decreases-search
 search-again c =
     record {
-      unmet = c.before.loop-j.invariant.unmet;
+      unmet = c.loop-j.invariant.unmet;
       left =
-          c.before.before.before.search.invariant.left
-          ∙ net-passed c.before.before.before.before.args.list.now c.before.before.before.search.i c.before.loop-j.j
-          c.before.before.search-test.true
+          c.search.invariant.left
+          ∙ net-passed c.args.list.now c.search.i c.loop-j.j
+          c.search-test.true
           c.loop-j-test.false
-          c.before.loop-j.invariant.left;
+          c.loop-j.invariant.left;
     }
 
 returns : tie.Need-returns-after-search invariant-loop decreases-loop invariant-search decreases-search
 returns c =
-    c.before.search.invariant.unmet
-    ∙ sym (c.before.search.invariant.left ∙ duplicates-end c.before.before.args.list.now c.before.search.i c.search-test.false)
+    c.search.invariant.unmet
+    ∙ sym (c.search.invariant.left ∙ duplicates-end c.args.list.now c.search.i c.search-test.false)
 
 returns-2 : tie.Need-returns-then-list-i invariant-loop decreases-loop invariant-search decreases-search
 returns-2 c =
-    let turn = c.before.before.before in
-    let l = turn.before.before.before.before.args.list.now in
-    let i = turn.before.before.before.search.i in
+    let l = c.args.list.now in
+    let i = c.search.i in
     sym
-    (turn.before.before.before.search.invariant.left
-    ∙ pair-met l i turn.before.loop-j.j
-    turn.before.before.search-test.true
-    turn.loop-j-test.true
-    turn.before.loop-j.invariant.left
+    (c.search.invariant.left
+    ∙ pair-met l i c.loop-j.j
+    c.search-test.true
+    c.loop-j-test.true
+    c.loop-j.invariant.left
     c.if-list-i.true)
 
 pub repeats_spec : {M : Type 1} → statement M

@@ -27,33 +27,31 @@ loop-holds : tie.Need-loop-i-init invariant-loop decreases-loop
 loop-holds c nets k = refl
 
 cast-if1 : tie.Need-overflow_cast-list invariant-loop decreases-loop
-cast-if1 c = omega (arith, c.shared_slice_known-1.given c.before.before.loop-i.i)
+cast-if1 c = omega (arith, c.shared_slice_known-1.given c.loop-i.i)
 
 mul-if1-2 : tie.Need-offset_bounds-table-list invariant-loop decreases-loop
-mul-if1-2 c = omega (arith, c.shared_slice_known-1.given c.before.before.loop-i.i)
+mul-if1-2 c = omega (arith, c.shared_slice_known-1.given c.loop-i.i)
 
 shared-slice-read-if1-2 : tie.Need-bounds-table-list invariant-loop decreases-loop
-shared-slice-read-if1-2 c = c.before.before.before.before.requires.below c.before.before.before.loop-i.i
+shared-slice-read-if1-2 c = c.requires.below c.loop-i.i
 
 returns : tie.Need-returns-then-base-table invariant-loop decreases-loop
 returns c nets k =
-    let turn = c.before.before.before in
     sym
     (ap not
-    (turn.before.loop-i.invariant nets k
-    ∙ tested turn.before.before.args.list.now turn.before.loop-i.i true turn.loop-i-test.true k (le-leb _ _ c.if-base-table.true)))
+    (c.loop-i.invariant nets k
+    ∙ tested c.args.list.now c.loop-i.i true c.loop-i-test.true k (le-leb _ _ c.if-base-table.true)))
 
 loop-again : tie.Need-loop-i-preserved invariant-loop decreases-loop
 loop-again c nets k =
-    let turn = c.before.before.before in
-    turn.before.loop-i.invariant nets k
-    ∙ tested turn.before.before.args.list.now turn.before.loop-i.i false turn.loop-i-test.true k (lt-leb _ _ c.if-base-table.false)
+    c.loop-i.invariant nets k
+    ∙ tested c.args.list.now c.loop-i.i false c.loop-i-test.true k (lt-leb _ _ c.if-base-table.false)
 
 returns-2 : tie.Need-returns invariant-loop decreases-loop
 returns-2 c nets k =
     sym
     (ap not
-    (c.before.loop-i.invariant nets k ∙ disjoint-end c.before.before.args.list.now c.before.loop-i.i c.loop-i-test.false nets))
+    (c.loop-i.invariant nets k ∙ disjoint-end c.args.list.now c.loop-i.i c.loop-i-test.false nets))
 
 pub any_known_spec : {M : Type 1} → statement M
 any_known_spec =

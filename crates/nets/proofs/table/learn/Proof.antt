@@ -35,26 +35,26 @@ loop-holds : tie.Need-loop-i-init invariant-loop decreases-loop
 loop-holds c = record { size = refl; knows = λ k d. k }
 
 cast-table-2 : tie.Need-overflow_cast-table-in-loop-i invariant-loop decreases-loop
-cast-table-2 c = omega (arith, c.shared_slice_known-1.given c.before.before.loop-i.i)
+cast-table-2 c = omega (arith, c.shared_slice_known-1.given c.loop-i.i)
 
 mul-table-2 : tie.Need-offset_bounds-table-list invariant-loop decreases-loop
-mul-table-2 c = omega (arith, c.shared_slice_known-1.given c.before.before.loop-i.i)
+mul-table-2 c = omega (arith, c.shared_slice_known-1.given c.loop-i.i)
 
 slice-write-table : tie.Need-bounds-table-list invariant-loop decreases-loop
-slice-write-table c = omega (arith, c.before.before.before.requires.0.below c.before.before.loop-i.i)
+slice-write-table c = omega (arith, c.requires.0.below c.loop-i.i)
 
 loop-again : tie.Need-loop-i-preserved invariant-loop decreases-loop
 loop-again c =
-    passed c.before.before.loop-i.invariant c.before.loop-i-test.true
-    (omega (arith, c.before.before.before.requires.0.below c.before.before.loop-i.i))
+    passed c.loop-i.invariant c.loop-i-test.true
+    (omega (arith, c.requires.0.below c.loop-i.i))
 
 same_length : tie.Need-shape_of-table invariant-loop decreases-loop
-same_length c = c.before.loop-i.invariant.size
+same_length c = c.loop-i.invariant.size
 
 returns : tie.Need-returns invariant-loop decreases-loop
 returns c k d =
-    rw (← take_all c.before.loop-i.i c.before.before.args.list.now c.loop-i-test.false)
-    (c.before.loop-i.invariant.knows k d)
+    rw (← take_all c.loop-i.i c.args.list.now c.loop-i-test.false)
+    (c.loop-i.invariant.knows k d)
 
 pub learn_spec : {M : Type 1} → statement M
 learn_spec =

@@ -104,54 +104,50 @@ loop-holds c =
     }
 
 cast-net : tie.Need-overflow_cast-net invariant-loop decreases-loop
-cast-net c = omega (arith, c.slice_known-1.given c.before.before.loop-i.i)
+cast-net c = omega (arith, c.slice_known-1.given c.loop-i.i)
 
 mul-if1 : tie.Need-offset_bounds-table-net invariant-loop decreases-loop
-mul-if1 c = omega (arith, c.slice_known-1.given c.before.before.loop-i.i)
+mul-if1 c = omega (arith, c.slice_known-1.given c.loop-i.i)
 
 -- The net at i is the one that the list had there at first, an index of the table.
 slice-read-if1 : tie.Need-bounds-table-net invariant-loop decreases-loop
 slice-read-if1 c =
-    let at = c.before.before.before in
-    omega (arith, at.loop-i.invariant.ahead at.loop-i.i (omega arith), at.before.requires.in_table.below at.loop-i.i)
+    omega (arith, c.loop-i.invariant.ahead c.loop-i.i (omega arith), c.requires.in_table.below c.loop-i.i)
 
 returns : tie.Need-returns-then-base-table invariant-loop decreases-loop
 returns c =
-    let turn = c.before.before.before in
-    let inv = turn.before.loop-i.invariant in (
-      (λ nets k e. met (inv.learning nets k e) turn.before.before.requires.single (omega arith) (rw (← inv.ahead turn.before.loop-i.i (omega arith)) c.if-base-table.true)),
+    let inv = c.loop-i.invariant in (
+      (λ nets k e. met (inv.learning nets k e) c.requires.single (omega arith) (rw (← inv.ahead c.loop-i.i (omega arith)) c.if-base-table.true)),
       inv.low,
     )
 
 mul-table : tie.Need-offset_bounds-table-net-in-loop-i invariant-loop decreases-loop
-mul-table c = omega (arith, c.before.before.slice_known-1.given c.before.before.before.before.loop-i.i)
+mul-table c = omega (arith, c.slice_known-1.given c.loop-i.i)
 
 slice-write-table : tie.Need-bounds-table-net-in-loop-i invariant-loop decreases-loop
 slice-write-table c =
-    let at = c.before.before.before.before in
-    omega (arith, at.loop-i.invariant.ahead at.loop-i.i (omega arith), at.before.requires.in_table.below at.loop-i.i)
+    omega (arith, c.loop-i.invariant.ahead c.loop-i.i (omega arith), c.requires.in_table.below c.loop-i.i)
 
 loop-again : tie.Need-loop-i-preserved invariant-loop decreases-loop
 loop-again c =
-    let at = c.before.before.before.before in
-    let inv = at.loop-i.invariant in
-    let i = at.loop-i.i in
-    let first = at.before.args.first in
+    let inv = c.loop-i.invariant in
+    let i = c.loop-i.i in
+    let first = c.args.first in
     let same = inv.ahead i (omega arith) in
-    let in_table = at.before.requires.in_table.below i in
+    let in_table = c.requires.in_table.below i in
     record {
       within = omega arith;
       list_kept = simp length-set inv.list_kept;
       table_kept = simp length-set inv.table_kept;
-      ahead = λ j h. get_or-set_other at.loop-i.list i j (first + i) 0 (λ e. omega arith) ∙ inv.ahead j (omega arith);
-      low = λ l. below_set (get_or at.loop-i.list i 0) (at.before.args.base + (first + i)) (omega arith) (omega arith) (inv.low l);
+      ahead = λ j h. get_or-set_other c.loop-i.list i j (first + i) 0 (λ e. omega arith) ∙ inv.ahead j (omega arith);
+      low = λ l. below_set (get_or c.loop-i.list i 0) (c.args.base + (first + i)) (omega arith) (omega arith) (inv.low l);
       learning = λ nets k e.
-          learn-one (inv.learning nets k e) at.before.requires.single (omega arith) first (get_or at.loop-i.list i 0) e same (omega arith) c.if-base-table.false;
+          learn-one (inv.learning nets k e) c.requires.single (omega arith) first (get_or c.loop-i.list i 0) e same (omega arith) c.if-base-table.false;
     }
 
 returns-2 : tie.Need-returns invariant-loop decreases-loop
 returns-2 c =
-    let inv = c.before.loop-i.invariant in
+    let inv = c.loop-i.invariant in
     ((λ nets k e. learnt (inv.learning nets k e) (omega arith) (omega arith)), inv.low)
 
 pub learn_new_spec : {M : Type 1} → statement M
@@ -166,8 +162,8 @@ learn_new_spec =
     cast-net
     mul-if1
     slice-read-if1
-    (λ c. c.before.before.before.before.loop-i.invariant.list_kept)
-    (λ c. c.before.before.before.before.loop-i.invariant.table_kept)
+    (λ c. c.loop-i.invariant.list_kept)
+    (λ c. c.loop-i.invariant.table_kept)
     returns
     (λ c. omega arith)
     (λ c. omega arith)
@@ -180,6 +176,6 @@ learn_new_spec =
     (λ c. omega arith)
     (λ c. omega arith)
     loop-again
-    (λ c. c.before.loop-i.invariant.list_kept)
-    (λ c. c.before.loop-i.invariant.table_kept)
+    (λ c. c.loop-i.invariant.list_kept)
+    (λ c. c.loop-i.invariant.table_kept)
     returns-2)

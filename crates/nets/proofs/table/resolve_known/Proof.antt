@@ -72,45 +72,40 @@ loop-holds c =
     }
 
 cast-wrapping-sub-u32 : tie.Need-overflow_cast-list invariant-loop decreases-loop
-cast-wrapping-sub-u32 c = omega (arith, c.slice_known-in-loop-i-1.given c.before.before.loop-i.i)
+cast-wrapping-sub-u32 c = omega (arith, c.slice_known-in-loop-i-1.given c.loop-i.i)
 
 mul-wrapping-sub-u32-2 : tie.Need-offset_bounds-table-list invariant-loop decreases-loop
-mul-wrapping-sub-u32-2 c = omega (arith, c.slice_known-in-loop-i-1.given c.before.before.loop-i.i)
+mul-wrapping-sub-u32-2 c = omega (arith, c.slice_known-in-loop-i-1.given c.loop-i.i)
 
 -- The net at i is the one that the list had there at first, an index of the table.
 shared-slice-read-wrapping-sub-u32 : tie.Need-bounds-table-list invariant-loop decreases-loop
 shared-slice-read-wrapping-sub-u32 c =
-    let at = c.before.before.before in
-    omega (arith, at.loop-i.invariant.ahead at.loop-i.i (omega arith), at.before.before.before.requires.in_table.below at.loop-i.i)
+    omega (arith, c.loop-i.invariant.ahead c.loop-i.i (omega arith), c.requires.in_table.below c.loop-i.i)
 
 returns : tie.Need-returns-then-limit-above invariant-loop decreases-loop
 returns c nets more k e =
-    let sub = c.before in
-    let turn = sub.before.before.before in
-    let inv = turn.before.loop-i.invariant in
-    met (inv.resolving nets more k e) (omega arith) k e (omega arith) sub.wrapping_sub_u32-above.result (omega arith)
-    (rw (← inv.ahead turn.before.loop-i.i (omega arith)) sub.wrapping_sub_u32-above.ensures)
+    let inv = c.loop-i.invariant in
+    met (inv.resolving nets more k e) (omega arith) k e (omega arith) c.wrapping_sub_u32-above.result (omega arith)
+    (rw (← inv.ahead c.loop-i.i (omega arith)) c.wrapping_sub_u32-above.ensures)
     c.if-limit-above.true
 
 loop-again : tie.Need-loop-i-preserved invariant-loop decreases-loop
 loop-again c =
-    let sub = c.before in
-    let turn = sub.before.before.before in
-    let i = turn.before.loop-i.i in
-    let inv = turn.before.loop-i.invariant in
+    let i = c.loop-i.i in
+    let inv = c.loop-i.invariant in
     record {
       within = omega arith;
       kept = simp length-set inv.kept;
       ahead = λ j h.
-          get_or-set_other turn.before.loop-i.list i j sub.wrapping_sub_u32-above.result 0 (λ e. omega arith) ∙ inv.ahead j (omega arith);
+          get_or-set_other c.loop-i.list i j c.wrapping_sub_u32-above.result 0 (λ e. omega arith) ∙ inv.ahead j (omega arith);
       resolving = λ nets more k e.
-          resolve-one (inv.resolving nets more k e) (omega arith) k e (omega arith) sub.wrapping_sub_u32-above.result (omega arith)
-          (rw (← inv.ahead i (omega arith)) sub.wrapping_sub_u32-above.ensures)
+          resolve-one (inv.resolving nets more k e) (omega arith) k e (omega arith) c.wrapping_sub_u32-above.result (omega arith)
+          (rw (← inv.ahead i (omega arith)) c.wrapping_sub_u32-above.ensures)
           c.if-limit-above.false;
     }
 
 returns-2 : tie.Need-returns invariant-loop decreases-loop
-returns-2 c nets more k e = resolved (c.before.loop-i.invariant.resolving nets more k e) (omega arith) (omega arith)
+returns-2 c nets more k e = resolved (c.loop-i.invariant.resolving nets more k e) (omega arith) (omega arith)
 
 pub resolve_known_spec : {M : Type 1} → statement M
 resolve_known_spec =
@@ -125,7 +120,7 @@ resolve_known_spec =
     mul-wrapping-sub-u32-2
     shared-slice-read-wrapping-sub-u32
     (λ c κs. search rules)
-    (λ c. let called = c.before in called.before.before.before.before.loop-i.invariant.kept)
+    (λ c. c.loop-i.invariant.kept)
     returns
     (λ c. omega arith)
     (λ c. omega arith)
@@ -133,5 +128,5 @@ resolve_known_spec =
     (λ c. omega arith)
     (λ c. omega arith)
     loop-again
-    (λ c. c.before.loop-i.invariant.kept)
+    (λ c. c.loop-i.invariant.kept)
     returns-2)

@@ -26,62 +26,57 @@ abbrev start : tie.After-occurrence_at-place → tie.Start
 start c = c.before.before.before
 
 abbrev parts : tie.After-put_break-driven → tie.After-occurrence_at-place
-parts c = c.before.before.before.before
-
-abbrev behind-break : tie.After-put_driven-refers → tie.After-put_break-driven
-behind-break c = c.before.before.before.before.before
+parts c = c.before.before.before.before.before
 
 abbrev Told : tie.After-occurrence_at-place → Type 0
-Told c = let a = (start c).args in OccurrenceTold a.numbers.now a.from a.position a.out-1.now a.at
+Told c = let a = c.args in OccurrenceTold a.numbers.now a.from a.position a.out.now a.at
 
 -- The two parts of its line.
 abbrev line : Occurrence → List ℕ
 line o = driven_part o.drives ++ taken_part o.refers o.takes
 
 module _ (c : tie.After-occurrence_at-place) (t : Told c) where
-  placed : PlaceOf (start c).args.numbers.now (start c).args.from t.entry c.occurrence_at-place.result
-  placed = c.occurrence_at-place.ensures t.entry t.stands
+  placed : PlaceOf (start c).args.numbers.now (start c).args.from t.entry c.occurrence-at.result
+  placed = c.occurrence-at.ensures t.entry t.stands
 
   driven-part :
-      take ((start c).args.from + 1 + c.occurrence_at-place.result.drives - ((start c).args.from + 1)) (drop ((start c).args.from + 1) (start c).args.numbers.now)
+      take ((start c).args.from + 1 + c.occurrence-at.result.drives - ((start c).args.from + 1)) (drop ((start c).args.from + 1) (start c).args.numbers.now)
       ≡ t.entry.drives
   driven-part =
-      part-between ((start c).args.from + 1) ((start c).args.from + 1 + c.occurrence_at-place.result.drives) placed.driven
+      part-between ((start c).args.from + 1) ((start c).args.from + 1 + c.occurrence-at.result.drives) placed.driven
       (ap (λ (n : ℕ). (start c).args.from + 1 + n) placed.drives)
 
   taken-part :
-      take (c.occurrence_at-place.result.to - c.occurrence_at-place.result.from) (drop c.occurrence_at-place.result.from (start c).args.numbers.now)
+      take (c.occurrence-at.result.to - c.occurrence-at.result.from) (drop c.occurrence-at.result.from (start c).args.numbers.now)
       ≡ t.entry.takes
-  taken-part = part-between c.occurrence_at-place.result.from c.occurrence_at-place.result.to placed.takes placed.to
+  taken-part = part-between c.occurrence-at.result.from c.occurrence-at.result.to placed.takes placed.to
 
 room-of-parts : {numbers : List ℕ} {from position : ℕ} {out : List ℕ} {at : ℕ} (t : OccurrenceTold numbers from position out at)
     → Room (leading occurrence_break position ++ line t.entry) out at
 room-of-parts {position = position} {out = out} {at = at} t =
     subst (λ (text : List ℕ). Room (leading occurrence_break position ++ text) out at) (occurrence-of-parts t.entry) t.room
 
-parted : (c : tie.After-put_break-driven) (t : Told (parts c))
-    → let a = (start (parts c)).args in
+parted : (c : tie.After-put_break-driven) (t : Told c.before.before.before.before.before)
+    → let a = c.args in
     Laying (leading occurrence_break a.position ++ line t.entry) (line t.entry)
-    a.out-1.now a.at c.put_break-driven.new.1.1.0 c.put_break-driven.result
+    a.out.now a.at c.put_break-driven.new.1.1.0 c.put_break-driven.result
 parted c t = laying-put c.put_break-driven.ensures (laying-start (room-of-parts t))
 
-begun : (c : tie.After-put_driven-refers) (t : Told (parts (behind-break c)))
-    → let a = (start (parts (behind-break c))).args in
+begun : (c : tie.After-put_driven-refers) (t : Told c.before.before.before.before.before.before.before.before.before.before)
+    → let a = c.args in
     Laying (leading occurrence_break a.position ++ line t.entry) (taken_part t.entry.refers t.entry.takes)
-    a.out-1.now a.at c.put_driven-refers.new.1.0 c.put_driven-refers.result
-begun c t = laying-put (rw (driven-part (parts (behind-break c)) t) at c.put_driven-refers.ensures) (parted (behind-break c) t)
+    a.out.now a.at c.put_driven-refers.new.1.0 c.put_driven-refers.result
+begun c t = laying-put (rw (driven-part c.before.before.before.before.before.before.before.before.before t) at c.put_driven-refers.ensures) (parted c.before.before.before.before.before t)
 
 put-break-requires : tie.Need-put_break-driven-requires
 put-break-requires c κs =
-    let p = c.before.before.before in
-    room-first {xs = leading occurrence_break (start p).args.position} (line (start p).requires.entry) (room-of-parts (start p).requires)
+    room-first {xs = leading occurrence_break c.args.position} (line c.requires.entry) (room-of-parts c.requires)
 
 put-driven-requires : tie.Need-put_driven-refers-requires
 put-driven-requires c κs =
-    let b = c.before.before.before.before in
-    let t = (start (parts b)).requires in
-    rw (driven-part (parts b) t)
-    (t.within.drives.numbers, room-first (taken_part t.entry.refers t.entry.takes) (laying-left (parted b t)))
+    let t = c.requires in
+    rw (driven-part c.before.before.before.before.before.before.before.before t)
+    (t.within.drives.numbers, room-first (taken_part t.entry.refers t.entry.takes) (laying-left (parted c.before.before.before.before t)))
 
 -- What is asked of a reference and its arguments, as they stand in the numbers.
 takeable : (out : List ℕ) (at : ℕ) {n m : ℕ} {xs ys : List ℕ} → n ≡ m → xs ≡ ys
@@ -91,21 +86,16 @@ takeable out at e f h = rw (e, f) h
 
 put-taken-requires : tie.Need-put_taken-end-requires
 put-taken-requires c κs =
-    let d = c.before.before.before.before in
-    let p = parts (behind-break d) in
-    let t = (start p).requires in
-    takeable _ _ (placed p t).refers (taken-part p t) (t.within.refers, t.within.takes.numbers, laying-left (begun d t))
+    let t = c.requires in
+    takeable _ _ (placed c.before.before.before.before.before.before.before.before.before.before.before.before.before t).refers (taken-part c.before.before.before.before.before.before.before.before.before.before.before.before.before t) (t.within.refers, t.within.takes.numbers, laying-left (begun c.before.before.before.before t))
 
 returns : tie.Need-returns
 returns c t =
-    let last = c.before.before in
-    let d = last.before.before.before.before.before in
-    let p = parts (behind-break d) in
     record {
       put =
           rw (occurrence-of-parts t.entry)
-          (laying-last (rw (taken-part p t, (placed p t).refers) at last.put_taken-end.ensures) (begun d t));
-      next = (placed p t).next;
+          (laying-last (rw (taken-part c.before.before.before.before.before.before.before.before.before.before.before.before.before.before.before.before t, (placed c.before.before.before.before.before.before.before.before.before.before.before.before.before.before.before.before t).refers) at c.put_taken-end.ensures) (begun c.before.before.before.before.before.before.before t));
+      next = (placed c.before.before.before.before.before.before.before.before.before.before.before.before.before.before.before.before t).next;
     }
 
 pub put_spec : {M : Type 1} → statement M
@@ -113,19 +103,19 @@ put_spec =
     tie.close
     (tie.spec
     (λ c κs. let t = c.before.before.requires in record { o = t.entry; stands = t.stands })
-    (λ c. omega (arith, (placed c (start c).requires).driven.within))
-    (λ c. let p = c.before in omega (arith, (placed p (start p).requires).driven.within, (placed p (start p).requires).drives))
+    (λ c. omega (arith, (placed c c.requires).driven.within))
+    (λ c. omega (arith, (placed c.before c.requires).driven.within, (placed c.before c.requires).drives))
     (λ c. search rules)
     put-break-requires
-    (λ c. let p = parts c.before.before in omega (arith, (placed p (start p).requires).driven.within))
-    (λ c. let p = parts c.before.before in omega (arith, (placed p (start p).requires).driven.within))
-    (λ c. let p = parts c.before.before in omega (arith, (placed p (start p).requires).driven.within))
-    (λ c. let p = parts c.before.before in omega (arith, (placed p (start p).requires).driven.within, (placed p (start p).requires).drives))
+    (λ c. omega (arith, (placed c.before.before.before.before.before.before c.requires).driven.within))
+    (λ c. omega (arith, (placed c.before.before.before.before.before.before c.requires).driven.within))
+    (λ c. omega (arith, (placed c.before.before.before.before.before.before c.requires).driven.within))
+    (λ c. omega (arith, (placed c.before.before.before.before.before.before c.requires).driven.within, (placed c.before.before.before.before.before.before c.requires).drives))
     put-driven-requires
-    (λ c. let p = parts (behind-break c.before.before) in omega (arith, (placed p (start p).requires).takes.within))
-    (λ c. let p = parts (behind-break c.before.before) in omega (arith, (placed p (start p).requires).takes.within, (placed p (start p).requires).to))
-    (λ c. let p = parts (behind-break c.before.before) in omega (arith, (placed p (start p).requires).takes.within, (placed p (start p).requires).to))
-    (λ c. let p = parts (behind-break c.before.before) in omega (arith, (placed p (start p).requires).takes.within, (placed p (start p).requires).to))
+    (λ c. omega (arith, (placed c.before.before.before.before.before.before.before.before.before.before.before c.requires).takes.within))
+    (λ c. omega (arith, (placed c.before.before.before.before.before.before.before.before.before.before.before c.requires).takes.within, (placed c.before.before.before.before.before.before.before.before.before.before.before c.requires).to))
+    (λ c. omega (arith, (placed c.before.before.before.before.before.before.before.before.before.before.before c.requires).takes.within, (placed c.before.before.before.before.before.before.before.before.before.before.before c.requires).to))
+    (λ c. omega (arith, (placed c.before.before.before.before.before.before.before.before.before.before.before c.requires).takes.within, (placed c.before.before.before.before.before.before.before.before.before.before.before c.requires).to))
     put-taken-requires
     (λ c. search rules)
     returns)

@@ -19,41 +19,30 @@ close = 41 ∷ 41 ∷ []
 abbrev nets : List ℕ → List ℕ
 nets takes = each (signed 32) takes ++ close
 
--- The places behind the name and behind the nets.
-abbrev start : tie.After-put_name-nets → tie.Start
-start c = c.before.before.before.before
-
-abbrev behind-name : tie.After-put_more-end → tie.After-put_name-nets
-behind-name c = c.before.before.before.before
-
 named : (c : tie.After-put_name-nets)
-    → let a = (start c).args in
-    Laying (taken_part a.refers a.takes.now) (nets a.takes.now) a.out-1.now a.at c.put_name-nets.new.1.0 c.put_name-nets.result
-named c = laying-put {rest = nets (start c).args.takes.now} c.put_name-nets.ensures (laying-start (start c).requires.2)
+    → let a = c.args in
+    Laying (taken_part a.refers a.takes.now) (nets a.takes.now) a.out.now a.at c.put_name-nets.new.1.0 c.put_name-nets.result
+named c = laying-put {rest = nets c.args.takes.now} c.put_name-nets.ensures (laying-start c.requires.2)
 
 listed : (c : tie.After-put_more-end)
-    → let a = (start (behind-name c)).args in
-    Laying (taken_part a.refers a.takes.now) close a.out-1.now a.at c.put_more-end.new.1.1.0 c.put_more-end.result
-listed c = laying-put {rest = close} c.put_more-end.ensures (named (behind-name c))
+    → let a = c.args in
+    Laying (taken_part a.refers a.takes.now) close a.out.now a.at c.put_more-end.new.1.1.0 c.put_more-end.result
+listed c = laying-put {rest = close} c.put_more-end.ensures (named c.before.before.before.before)
 
 put-name-requires : tie.Need-put_name-nets-requires
 put-name-requires c κs =
-    let s = c.before.before.before in
-    (s.requires.0, room-first {xs = name_of s.args.refers} (nets s.args.takes.now) s.requires.2)
+    (c.requires.0, room-first {xs = name_of c.args.refers} (nets c.args.takes.now) c.requires.2)
 
 put-more-requires : tie.Need-put_more-end-requires
 put-more-requires c κs =
-    let first = c.before.before.before in
-    let s = start first in
-    (s.requires.1, room-first {xs = each (signed 32) s.args.takes.now} close (laying-left (named first)))
+    (c.requires.1, room-first {xs = each (signed 32) c.args.takes.now} close (laying-left (named c.before.before.before)))
 
 copy-requires : tie.Need-copy-requires
-copy-requires c κs = omega (arith, (laying-left (listed c.before.before.before.before)).fits)
+copy-requires c κs = omega (arith, (laying-left (listed c.before.before.before.before.before)).fits)
 
 returns : tie.Need-returns
 returns c =
-    let p = c.before.before in
-    laying-last p.copy.ensures (listed p.before.before.before.before.before)
+    laying-last c.copy.ensures (listed c.before.before.before.before.before.before.before.before)
 
 pub put_taken_spec : {M : Type 1} → statement M
 put_taken_spec =

@@ -11,13 +11,13 @@ use Rattle.read_parts.proofs.number.read_number.Tie as tie
 
 returns : tie.Need-returns-then-bytes-at
 returns c =
-    let a = c.before.before.before.args in
-    c.refuse.ensures ∙ ap number_read (sym (no_byte a.bytes.now a.at c.before.if-bytes-at.true))
+    let a = c.args in
+    c.refuse.ensures ∙ ap number_read (sym (no_byte a.bytes.now a.at c.if-bytes-at.true))
 
 returns-2 : tie.Need-returns-then-first-lt128
 returns-2 c =
-    let a = c.before.before.before.before.args in
-    ap number_read (sym (one_byte a.bytes.now a.at c.before.before.if-bytes-at.false c.if-first-lt128.true))
+    let a = c.args in
+    ap number_read (sym (one_byte a.bytes.now a.at c.if-bytes-at.false c.if-first-lt128.true))
 
 -- The first byte is 128 or more: the function's start from there.
 abbrev start : tie.Else-first-lt128 → tie.Start
@@ -25,45 +25,40 @@ start c = c.before.before.before.before
 
 returns-3 : tie.Need-returns-then-bytes-at-2
 returns-3 c =
-    let far = c.before.before in
-    let a = (start far).args in
+    let a = c.args in
     c.refuse-then-bytes-at-2.ensures
-    ∙ ap number_read (sym (cut_off a.bytes.now a.at far.before.before.if-bytes-at.false far.if-first-lt128.false c.before.if-bytes-at-2.true))
+    ∙ ap number_read (sym (cut_off a.bytes.now a.at c.if-bytes-at.false c.if-first-lt128.false c.if-bytes-at-2.true))
 
 returns-4 : tie.Need-returns-then-second-eq0
 returns-4 c =
-    let far = c.before.before.before.before in
-    let a = (start far).args in
-    let two = c.before.before.before.if-bytes-at-2.false in
-    let high = far.if-first-lt128.false in
+    let a = c.args in
+    let two = c.if-bytes-at-2.false in
+    let high = c.if-first-lt128.false in
     c.refuse-then-second-eq0.ensures
     ∙ ap number_read
     (sym
     (⊎_elim
     (λ w. second-zero a.bytes.now a.at two high w.taken)
     (λ w. second-high a.bytes.now a.at two high w.0.left (leb-true _ _ w.1.taken))
-    c.before.if4.branch))
+    c.then-second-eq0.branch))
 
 cast-t16 : tie.Need-overflow_cast-result-2
 cast-t16 c =
-    let far = c.before.before.before.before in
-    omega (arith, far.before.before.before.shared_slice_known-1.given (start far).args.at)
+    omega (arith, c.shared_slice_known-1.given c.args.at)
 
 mul-t18 : tie.Need-overflow_mul-result
 mul-t18 c = omega (arith, leb-false)
 
 add-t19 : tie.Need-overflow_add-result-2
 add-t19 c =
-    let far = c.before.before.before.before in
-    omega (arith, leb-false, far.before.before.before.shared_slice_known-1.given (start far).args.at)
+    omega (arith, leb-false, c.shared_slice_known-1.given c.args.at)
 
 returns-5 : tie.Need-returns
 returns-5 c =
-    let far = c.before.before.before.before in
-    let a = (start far).args in
-    let two = c.before.before.before.if-bytes-at-2.false in
-    let high = far.if-first-lt128.false in
-    ap number_read (sym (second-good a.bytes.now a.at two high c.before.if-second-eq0.false (leb-false _ _ c.if-second-ge128.false)))
+    let a = c.args in
+    let two = c.if-bytes-at-2.false in
+    let high = c.if-first-lt128.false in
+    ap number_read (sym (second-good a.bytes.now a.at two high c.if-second-eq0.false (leb-false _ _ c.if-second-ge128.false)))
 
 pub read_number_spec : {M : Type 1} → statement M
 read_number_spec =

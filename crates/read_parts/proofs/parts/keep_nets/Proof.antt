@@ -6,33 +6,27 @@ use Rattle.read_parts.specs.Counted.{CountTaken, counted, takes-list}
 use Rattle.read_parts.proofs.parts.keep_nets.Statement.{statement}
 use Rattle.read_parts.proofs.parts.keep_nets.Tie as tie
 
--- The call that reads the count, and the function's start.
-abbrev counting : tie.In-On-2 → tie.After-keep_count-way
-counting c = c.before.before.before.before
-
 abbrev entry : tie.In-On-2 → tie.Start
-entry c = (counting c).before.before.before.before
+entry c = c.before.before.before.before.before.before.before
 
 -- The count is laid out, and reading stands behind it.
 there : (c : tie.In-On-2)
-    → CountTaken most_nets (entry c).args.bytes.now (entry c).args.spot (entry c).args.numbers-1.now
-    c.way-1.given.0.0 (counting c).keep_count-way.new.1.1.1.0
-there c = counted most_nets (entry c).requires c.way-1.given.1 (counting c).keep_count-way.ensures
+    → CountTaken most_nets (entry c).args.bytes.now (entry c).args.spot (entry c).args.numbers.now
+    c.in-On.next c.keep_count-way.new.1.1.1.0
+there c = counted most_nets (entry c).requires c.in-On.is c.keep_count-way.ensures
 
 returns : tie.Need-returns-in_default
 unfolding read_nets
 returns c =
-    takes-ended (read_many read_number) c.enum_told-1.given.1 c.before.before.before.before.keep_count-way.ensures
+    takes-ended (read_many read_number) c.in_default.is c.keep_count-way.ensures
 
 keep-numbers-requires : tie.Need-keep_numbers-requires
-keep-numbers-requires c κs = (there c.before.before.before.before).there.stands
+keep-numbers-requires c κs = (there c.before.before).there.stands
 
 returns-2 : tie.Need-returns
 unfolding read_nets
 returns-2 c =
-    let list = c.before.before in
-    let count = list.before.before in
-    takes-list read_number (there count.before.before.before) count.last_kept-count.ensures list.keep_numbers.ensures
+    takes-list read_number (there c.before.before.before.before.before) c.last_kept-count.ensures c.keep_numbers.ensures
 
 pub keep_nets_spec : {M : Type 1} → statement M
 keep_nets_spec =
@@ -43,7 +37,7 @@ keep_nets_spec =
     (λ c. search rules)
     (λ c. search rules)
     returns
-    (λ c κs. (there c.before.before).some)
+    (λ c κs. (there c).some)
     keep-numbers-requires
     (λ c. search rules)
     returns-2)

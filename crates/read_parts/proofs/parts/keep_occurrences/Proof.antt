@@ -20,17 +20,12 @@ turn c = c.before.before
 
 returns : tie.Need-returns-in_default invariant-loop decreases-loop
 returns c =
-    let called = c.before.before.before.before in
-    let t = turn called in
-    turn-refused t.before.loop-left.inv t.loop-left-test.taken c.enum_told-1.given.1 called.keep_occurrence-way.ensures
+    turn-refused c.loop-left.inv c.loop-left-test.taken c.in_default.is c.keep_occurrence-way.ensures
 
 loop-again : tie.Need-loop-left-preserved invariant-loop decreases-loop
 loop-again c =
-    let way = c.before in
-    let called = way.before.before.before.before in
-    let t = turn called in
-    turn-next t.before.loop-left.inv t.loop-left-test.taken
-    (reached sound-occurrence t.before.loop-left.inv.stands way.way-1.given.1 called.keep_occurrence-way.ensures)
+    turn-next c.loop-left.inv c.loop-left-test.taken
+    (reached sound-occurrence c.loop-left.inv.stands c.in-On.is c.keep_occurrence-way.ensures)
 
 pub keep_occurrences_spec : {M : Type 1} → statement M
 keep_occurrences_spec =
@@ -38,7 +33,7 @@ keep_occurrences_spec =
     (tie.spec
     invariant-loop
     decreases-loop
-    (λ c. turn-first c.before.before.requires)
+    (λ c. turn-first c.requires)
     (λ c κs. search rules)
     (λ c. search rules)
     (λ c. search rules)
@@ -48,4 +43,4 @@ keep_occurrences_spec =
     (λ c. omega arith)
     loop-again
     (λ c. omega arith)
-    (λ c. turn_last c.before.loop-left.invariant c.loop-left-test.false))
+    (λ c. turn_last c.loop-left.invariant c.loop-left-test.false))

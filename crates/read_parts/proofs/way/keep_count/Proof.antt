@@ -4,19 +4,19 @@ use native.Mathlib.Omega.{arith}
 use Rattle.meaning.specs.Reading.{read_number}
 use Rattle.read_parts.specs.Steps.{number_read, step_from}
 use Rattle.read_parts.proofs.Stored.{count_room, count_kept, count-over, count-refused}
-use Rattle.read_parts.specs.declared.number-1.Number.TheVariants.{Is}
+use Rattle.read_parts.specs.declared.number.Number.TheVariants.{Is}
 use borrow.Author.Rules.{rules}
 use Rattle.read_parts.proofs.way.keep_count.Statement.{statement}
 use Rattle.read_parts.proofs.way.keep_count.Tie as tie
 
 -- The function's start, from where a number is found.
 abbrev entry : tie.In-Is → tie.Start
-entry c = let called = c.before.before.before in called.before.before.before
+entry c = c.before.before.before.before
 
 is : (c : tie.In-Is)
-    → Is c.before.value-1.given.0.0 c.before.value-1.given.0.1.0
+    → Is c.in-Is.value c.in-Is.next
     ≡ number_read (step_from read_number (entry c).args.bytes.now (entry c).args.spot)
-is c = sym c.before.value-1.given.1 ∙ c.before.before.before.read_number.ensures
+is c = sym c.in-Is.is ∙ c.read_number.ensures
 
 returns : tie.Need-returns-then-ceiling-value
 returns c = count-over (entry c.before).requires (is c.before) (entry c.before).args.ceiling c.if-ceiling-value.true
@@ -32,10 +32,8 @@ add-t14 c = let h = slice-write-numbers c in omega arith
 
 returns-2 : tie.Need-returns-in-Refused
 returns-2 c =
-    let called = c.before.before.before in
-    let start = called.before.before.before in
-    let none = sym c.before.number-1.given.1 ∙ called.read_number.ensures in
-    count-refused start.requires none start.args.ceiling
+    let none = sym c.in-Refused.is ∙ c.read_number.ensures in
+    count-refused c.requires none c.args.ceiling
 
 returns-3 : tie.Need-returns-else-ceiling-value
 returns-3 c = count_kept (entry c.before).requires (is c.before) (entry c.before).args.ceiling c.if-ceiling-value.false

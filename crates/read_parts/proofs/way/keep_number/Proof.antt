@@ -7,12 +7,9 @@ use Rattle.read_parts.proofs.way.keep_number.Tie as tie
 
 returns : tie.Need-returns
 returns c =
-    let called = c.before.before in
-    let known = called.before.before.before in
-    let start = known.before in
-    let bytes = bytes-all start.args.bytes.now (λ i. (known.shared_slice_known-1.given i).fits) in
-    let kept = called.keep_count.ensures in
-    record { answers = rw (count-largest bytes start.args.spot.place) at kept.answers; lays = kept.lays }
+    let bytes = bytes-all c.args.bytes.now (λ i. (c.shared_slice_known-1.given i).fits) in
+    let kept = c.keep_count.ensures in
+    record { answers = rw (count-largest bytes c.args.spot.place) at kept.answers; lays = kept.lays }
 
 pub keep_number_spec : {M : Type 1} → statement M
 keep_number_spec = tie.close (tie.spec (λ c κs. search rules) (λ c. search rules) returns)

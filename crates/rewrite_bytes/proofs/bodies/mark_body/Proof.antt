@@ -26,35 +26,32 @@ abbrev head : tie.After-occurrence_at-o invariant-loop decreases-loop → tie.At
 head c = c.before.before
 
 abbrev Asked : tie.At-loop-left invariant-loop decreases-loop → Type 0
-Asked c = Markable (begun c).args.numbers.now (begun c).args.place (begun c).args.count (length (begun c).args.table-1.now)
+Asked c = Markable c.args.numbers.now c.args.place c.args.count (length c.args.table.now)
 
 now :
-    (c : tie.After-occurrence_at-o invariant-loop decreases-loop) (s : Asked (head c))
-    → Turn (begun (head c)).args.numbers.now (head c).loop-left.at (head c).loop-left.left ((head c).loop-left.invariant.1 s).0 c.occurrence_at-o.result
-now c s = let sofar = (head c).loop-left.invariant.1 s in turn sofar.0 c.before.loop-left-test.true sofar.1 c.occurrence_at-o.ensures
+    (c : tie.After-occurrence_at-o invariant-loop decreases-loop) (s : Asked c.before.before)
+    → Turn c.args.numbers.now c.loop-left.at c.loop-left.left (c.loop-left.invariant.1 s).0 c.occurrence_at-o.result
+now c s = let sofar = c.loop-left.invariant.1 s in turn sofar.0 c.loop-left-test.true sofar.1 c.occurrence_at-o.ensures
 
 abbrev seen : tie.After-mark invariant-loop decreases-loop → tie.After-occurrence_at-o invariant-loop decreases-loop
 seen c = c.before.before.before
 
 abbrev marked : tie.After-mark-in-loop-left invariant-loop decreases-loop → tie.After-mark invariant-loop decreases-loop
-marked c = let arg = c.before.before.before in arg.before.before
+marked c = c.before.before.before.before.before
 
 loop-again : tie.Need-loop-left-preserved invariant-loop decreases-loop
 loop-again c =
-    let second = c.before.before in
-    let first = marked second in
-    let read = seen first in
-    let loop = head read in (
-      second.mark-in-loop-left.auto.1.0 ∙ first.mark.kept.1.0 ∙ loop.loop-left.inv.0,
+    let first = marked c.before.before in (
+      c.mark-in-loop-left.auto.1.0 ∙ first.mark.kept.1.0 ∙ first.before.before.before.before.before.loop.inv.0,
       λ s.
-          let t = now read s in
-          let sofar = loop.loop-left.inv.1 s in (
+          let t = now first.before.before.before s in
+          let sofar = first.before.before.before.before.before.loop.inv.1 s in (
             t.rest,
             t.next,
             more-marked t.is sofar.2 _ _
-                (drives-part t (loop.loop-left.at + 1 + read.occurrence_at-o.result.drives - (loop.loop-left.at + 1)) (loop.loop-left.at + 1) (omega arith) refl)
-                (takes_part t (read.occurrence_at-o.result.to - read.occurrence_at-o.result.from) read.occurrence_at-o.result.from refl refl)
-                first.mark.ensures second.mark-in-loop-left.ensures,
+                (drives-part t (first.before.before.before.before.before.loop.at + 1 + first.before.before.before.occurrence-at.result.drives - (first.before.before.before.before.before.loop.at + 1)) (first.before.before.before.before.before.loop.at + 1) (omega arith) refl)
+                (takes_part t (first.before.before.before.occurrence-at.result.to - first.before.before.before.occurrence-at.result.from) first.before.before.before.occurrence-at.result.from refl refl)
+                first.mark.ensures c.mark-in-loop-left.ensures,
           ),
     )
 
@@ -69,33 +66,33 @@ mark_body_spec =
     invariant-loop
     decreases-loop
     (λ c. (refl, λ s. (s.os, record { stands = s.stands; many = s.many }, none-marked s.os _ _)))
-    (λ c κs. let sofar = c.before.loop-left.invariant.1 (begun c.before).requires in there sofar.0 c.loop-left-test.true sofar.1)
-    (λ c. let t = now c (begun (head c)).requires in omega (arith, drives-within t, (begun (head c)).good))
-    (λ c. let t = now c (begun (head c)).requires in omega (arith, drives-within t, (begun (head c)).good))
-    (λ c. let t = now c (begun (head c)).requires in omega (arith, drives-within t, (begun (head c)).good))
-    (λ c. let t = now c (begun (head c)).requires in omega (arith, drives-within t, (begun (head c)).good))
+    (λ c κs. let sofar = c.loop-left.invariant.1 c.requires in there sofar.0 c.loop-left-test.true sofar.1)
+    (λ c. let t = now c c.requires in omega (arith, drives-within t, c.before.before.before.before.before.good))
+    (λ c. let t = now c c.requires in omega (arith, drives-within t, c.before.before.before.before.before.good))
+    (λ c. let t = now c c.requires in omega (arith, drives-within t, c.before.before.before.before.before.good))
+    (λ c. let t = now c c.requires in omega (arith, drives-within t, c.before.before.before.before.before.good))
     (λ c. omega arith)
     (λ c. omega arith)
-    (λ c. let t = now c (begun (head c)).requires in omega (arith, drives-within t))
+    (λ c. let t = now c c.requires in omega (arith, drives-within t))
     (λ c κs.
     let read = c.before.before in
     let loop = head read in
-    let at = loop.loop-left.at in
-    indexed _ (part_small (at + 1 + read.occurrence_at-o.result.drives - (at + 1)) (at + 1) (begun loop).requires.small) (loop.loop-left.inv.0 ∙ (begun loop).requires.wide))
-    (λ c. let read = seen c.before.before in let t = now read (begun (head read)).requires in omega (arith, takes-within t, t.read.to, (begun (head read)).good))
-    (λ c. let read = seen c.before.before in let t = now read (begun (head read)).requires in omega (arith, t.read.to))
-    (λ c. let read = seen c.before.before in let t = now read (begun (head read)).requires in omega (arith, t.read.to))
-    (λ c. let read = seen c.before.before in let t = now read (begun (head read)).requires in omega (arith, takes-within t))
+    let at = loop.loop.at in
+    indexed _ (part_small (at + 1 + read.occurrence-at.result.drives - (at + 1)) (at + 1) (begun loop).pre.small) (loop.loop.inv.0 ∙ (begun loop).pre.wide))
+    (λ c. let t = now c.before.before.before.before.before c.requires in omega (arith, takes-within t, t.read.to, c.before.before.before.before.before.before.before.before.before.before.good))
+    (λ c. let t = now c.before.before.before.before.before c.requires in omega (arith, t.read.to))
+    (λ c. let t = now c.before.before.before.before.before c.requires in omega (arith, t.read.to))
+    (λ c. let t = now c.before.before.before.before.before c.requires in omega (arith, takes-within t))
     (λ c κs.
     let first = c.before.before.before.before in
     let loop = head (seen first) in
-    let place = (seen first).occurrence_at-o.result in
-    indexed _ (part_small (place.to - place.from) place.from (begun loop).requires.small) (first.mark.auto.1.0 ∙ loop.loop-left.inv.0 ∙ (begun loop).requires.wide))
-    (λ c. let read = seen (marked c.before.before) in read.before.loop-left-test.taken)
-    (λ c. let read = seen (marked c.before.before) in omega (arith, read.before.loop-left-test.taken))
+    let place = (seen first).occurrence-at.result in
+    indexed _ (part_small (place.to - place.from) place.from (begun loop).pre.small) (first.mark.auto.1.0 ∙ loop.loop.inv.0 ∙ (begun loop).pre.wide))
+    (λ c. let read = seen (marked c.before.before) in read.before.loop-test.taken)
+    (λ c. let read = seen (marked c.before.before) in omega (arith, read.before.loop-test.taken))
     loop-again
-    (λ c. c.before.loop-left.invariant.0)
+    (λ c. c.loop-left.invariant.0)
     (λ c s used stamped.
-    let sofar = c.before.loop-left.invariant.1 s in
-    let none = none_left sofar.0 (omega (arith, sofar.1.many, c.loop-left-test.false)) in
+    let sofar = c.before.loop.invariant.1 s in
+    let none = none_left sofar.0 (omega (arith, sofar.1.many, c.loop-test.false)) in
     all-marked none sofar.2 used stamped))

@@ -30,77 +30,65 @@ head c = c.before.before.before
 
 abbrev Asked : tie.At-loop-left invariant-loop decreases-loop → Type 0
 Asked c =
-    Roomy (begun c).args.numbers.now (begun c).args.place (begun c).args.count (begun c).args.table.now (begun c).args.stamp (length (begun c).args.out-1.now) (begun c).args.to
+    Roomy c.args.numbers.now c.args.place c.args.count c.args.table.now c.args.stamp (length c.args.out.now) c.args.to
 
 now :
-    (c : tie.After-is_withdrawn invariant-loop decreases-loop) (s : Asked (head c))
-    → Turn (begun (head c)).args.numbers.now (head c).loop-left.at (head c).loop-left.left ((head c).loop-left.invariant s).rest c.before.occurrence_at-o.result
+    (c : tie.After-is_withdrawn invariant-loop decreases-loop) (s : Asked c.before.before.before)
+    → Turn c.args.numbers.now c.loop-left.at c.loop-left.left (c.loop-left.invariant s).rest c.occurrence_at-o.result
 now c s =
-    let sofar = (head c).loop-left.invariant s in
-    turn sofar.rest c.before.before.loop-left-test.true sofar.ahead c.before.occurrence_at-o.ensures
+    let sofar = c.loop-left.invariant s in
+    turn sofar.rest c.loop-left-test.true sofar.ahead c.occurrence_at-o.ensures
 
 -- One of the four gates, and the two new nets.
-told : (c : tie.Then-is_withdrawn invariant-loop decreases-loop) → withdrawn c.before.before.occurrence_at-o.result.refers ≡ true
-told c = sym c.before.is_withdrawn.ensures ∙ c.if-is_withdrawn.true
+told : (c : tie.Then-is_withdrawn invariant-loop decreases-loop) → withdrawn c.occurrence_at-o.result.refers ≡ true
+told c = sym c.is_withdrawn.ensures ∙ c.if-is_withdrawn.true
 
 abbrev test : tie.After-seek-first invariant-loop decreases-loop → tie.Then-is_withdrawn invariant-loop decreases-loop
 test c = c.before
 
 found :
-    (c : tie.After-seek-first invariant-loop decreases-loop) (s : Asked (head (test c).before))
-    → Found (seekable s.w ((head (test c).before).loop-left.inv s) (now (test c).before s) (told (test c))) c.seek-first.result
-found c s = c.seek-first.ensures (seekable s.w ((head (test c).before).loop-left.inv s) (now (test c).before s) (told (test c)))
+    (c : tie.After-seek-first invariant-loop decreases-loop) (s : Asked c.before.before.before.before.before)
+    → Found (seekable s.w (c.loop-left.inv s) (now c.before.before s) (told c.before)) c.seek-first.result
+found c s = c.seek-first.ensures (seekable s.w (c.loop-left.inv s) (now c.before.before s) (told c.before))
 
 found-next :
-    (c : tie.After-seek-second invariant-loop decreases-loop) (s : Asked (head (test c.before).before))
-    → Found (seekable-next s.w ((head (test c.before).before).loop-left.inv s) (now (test c.before).before s) (told (test c.before)) (found c.before s))
+    (c : tie.After-seek-second invariant-loop decreases-loop) (s : Asked c.before.before.before.before.before.before)
+    → Found (seekable-next s.w (c.loop-left.inv s) (now c.before.before.before s) (told c.before.before) (found c.before s))
     c.seek-second.result
 found-next c s =
     c.seek-second.ensures
-    (seekable-next s.w ((head (test c.before).before).loop-left.inv s) (now (test c.before).before s) (told (test c.before)) (found c.before s))
+    (seekable-next s.w (c.loop-left.inv s) (now c.before.before.before s) (told c.before.before) (found c.before s))
 
 put-three-requires : tie.Need-put_three-end-requires invariant-loop decreases-loop
 put-three-requires c κs =
-    let gate = c.before in
-    let two = gate.before in
-    let seen = (test two.before).before in
-    let s = (begun (head seen)).requires in
-    subst (λ (g : Gate). Replacing g two.before.seek-first.result two.seek-second.result (head seen).loop-left.out-1 (head seen).loop-left.end) (sym gate.gate_at-gate.ensures)
-    (replacing s.w ((head seen).loop-left.inv s) (now seen s) (told (test two.before)) (found two.before s) (found-next two s))
+    let s = c.requires in
+    subst (λ (g : Gate). Replacing g c.seek-first.result c.seek-second.result c.loop-left.out c.loop-left.end) (sym c.gate_at-gate.ensures)
+    (replacing s.w (c.loop-left.inv s) (now c.before.before.before.before.before s) (told c.before.before.before.before) (found c.before.before.before s) (found-next c.before.before s))
 
 loop-again : tie.Need-loop-left-preserved-then-is_withdrawn invariant-loop decreases-loop
 loop-again c s =
-    let put = c.before.before in
-    let gate = put.before.before in
-    let two = gate.before in
-    let seen = (test two.before).before in
-    replaced-next s.w ((head seen).loop-left.inv s) (now seen s) (told (test two.before)) (found two.before s) (found-next two s)
-    (rw gate.gate_at-gate.ensures at put.put_three-end.ensures)
+    replaced-next s.w (c.loop-left.inv s) (now c.before.before.before.before.before.before.before.before s) (told c.before.before.before.before.before.before.before) (found c.before.before.before.before.before.before s) (found-next c.before.before.before.before.before s)
+    (rw c.gate_at-gate.ensures at c.put_three-end.ensures)
 
 -- An occurrence that stays.
 stays_here :
-    (c : tie.Else-is_withdrawn invariant-loop decreases-loop) (s : Asked (head c.before)) → Stays s.w ((head c.before).loop-left.inv s) (now c.before s)
-stays_here c s = stays s.w ((head c.before).loop-left.inv s) (now c.before s) (sym c.before.is_withdrawn.ensures ∙ c.if-is_withdrawn.false)
+    (c : tie.Else-is_withdrawn invariant-loop decreases-loop) (s : Asked c.before.before.before.before) → Stays s.w (c.loop-left.inv s) (now c.before s)
+stays_here c s = stays s.w (c.loop-left.inv s) (now c.before s) (sym c.is_withdrawn.ensures ∙ c.if-is_withdrawn.false)
 
 put-list-requires : tie.Need-put_list-end-requires invariant-loop decreases-loop
 put-list-requires c κs =
-    let at-else = c.before.before in
-    let loop = head at-else.before in
-    let s = (begun loop).requires in
-    let here = stays_here at-else s in
-    let part = here.part (at-else.before.before.occurrence_at-o.result.to - loop.loop-left.at) loop.loop-left.at refl refl in (
-      part_small (at-else.before.before.occurrence_at-o.result.to - loop.loop-left.at) loop.loop-left.at s.w.small,
+    let s = c.requires in
+    let here = stays_here c.before.before s in
+    let part = here.part (c.occurrence_at-o.result.to - c.loop-left.at) c.loop-left.at refl refl in (
+      part_small (c.occurrence_at-o.result.to - c.loop-left.at) c.loop-left.at s.w.small,
       record { fits = rw part here.room },
     )
 
 loop-again-2 : tie.Need-loop-left-preserved invariant-loop decreases-loop
 loop-again-2 c s =
-    let put = c.before.before in
-    let at-else = put.before.before.before in
-    let loop = head at-else.before in
-    let here = stays_here at-else s in
-    let part = here.part (at-else.before.before.occurrence_at-o.result.to - loop.loop-left.at) loop.loop-left.at refl refl in
-    here.next (rw part at put.put_list-end.ensures)
+    let here = stays_here c.before.before.before.before.before s in
+    let part = here.part (c.occurrence_at-o.result.to - c.loop-left.at) c.loop-left.at refl refl in
+    here.next (rw part at c.put_list-end.ensures)
 
 pub put_body_spec : {M : Type 1} → statement M
 put_body_spec =
@@ -109,31 +97,31 @@ put_body_spec =
     invariant-loop
     decreases-loop
     (λ c s. none-put s.w s.room)
-    (λ c κs. let sofar = c.before.loop-left.invariant (begun c.before).requires in there sofar.rest c.loop-left-test.true sofar.ahead)
-    (λ c. c.before.loop-left-test.true)
+    (λ c κs. let sofar = c.loop-left.invariant c.requires in there sofar.rest c.loop-left-test.true sofar.ahead)
+    (λ c. c.loop-left-test.true)
     (λ c κs. tt)
-    (λ c κs. let seen = c.before in let s = (begun (head seen)).requires in seekable s.w ((head seen).loop-left.invariant s) (now seen s) (told c))
-    (λ c. let s = (begun (head (test c).before)).requires in omega (arith, (found c s).low))
+    (λ c κs. let s = c.requires in seekable s.w (c.loop-left.invariant s) (now c.before s) (told c))
+    (λ c. let s = c.requires in omega (arith, (found c s).low))
     (λ c κs.
     let seen = (test c).before in
-    let s = (begun (head seen)).requires in
-    seekable-next s.w ((head seen).loop-left.inv s) (now seen s) (told (test c)) (found c s))
+    let s = (begun (head seen)).pre in
+    seekable-next s.w ((head seen).loop.inv s) (now seen s) (told (test c)) (found c s))
     (λ c κs.
     let seen = (test c.before).before in
-    let s = (begun (head seen)).requires in
-    (in_net s.w ((head seen).loop-left.inv s) (now seen s) (told (test c.before)), in_takes s.w ((head seen).loop-left.inv s) (now seen s) (told (test c.before))))
-    (λ c. let two = c.before in let s = (begun (head (test two.before).before)).requires in omega (arith, (found two.before s).low))
-    (λ c. let two = c.before in let s = (begun (head (test two.before).before)).requires in omega (arith, (found-next two s).low))
+    let s = (begun (head seen)).pre in
+    (in_net s.w ((head seen).loop.inv s) (now seen s) (told (test c.before)), in_takes s.w ((head seen).loop.inv s) (now seen s) (told (test c.before))))
+    (λ c. let s = c.requires in omega (arith, (found c.before.before s).low))
+    (λ c. let s = c.requires in omega (arith, (found-next c.before s).low))
     put-three-requires
-    (λ c. let two = c.before.before.before.before.before in let s = (begun (head (test two.before).before)).requires in omega (arith, (found-next two s).low))
-    (λ c. let two = c.before.before.before.before.before in omega (arith, (test two.before).before.before.before.loop-left-test.taken))
+    (λ c. let s = c.requires in omega (arith, (found-next c.before.before.before.before.before s).low))
+    (λ c. omega (arith, c.loop-left-test.taken))
     loop-again
-    (λ c. let s = (begun (head c.before)).requires in omega (arith, (stays_here c s).within, (now c.before s).read.next, (begun (head c.before)).good))
-    (λ c. let s = (begun (head c.before)).requires in omega (arith, (now c.before s).read.next))
-    (λ c. let s = (begun (head c.before)).requires in omega (arith, (now c.before s).read.next))
-    (λ c. let s = (begun (head c.before)).requires in omega (arith, (stays_here c s).within))
+    (λ c. let s = c.requires in omega (arith, (stays_here c s).within, (now c.before s).read.next, c.before.before.before.before.before.before.before.before.good))
+    (λ c. let s = c.requires in omega (arith, (now c.before s).read.next))
+    (λ c. let s = c.requires in omega (arith, (now c.before s).read.next))
+    (λ c. let s = c.requires in omega (arith, (stays_here c s).within))
     put-list-requires
-    (λ c. let at-else = c.before.before.before.before.before in omega (arith, at-else.before.before.before.loop-left-test.true))
+    (λ c. omega (arith, c.loop-left-test.true))
     loop-again-2
-    (λ c. laying-length (c.before.loop-left.invariant (begun c.before).requires).laying)
-    (λ c s. all-put s.w (omega (arith, c.loop-left-test.false)) (c.before.loop-left.invariant s)))
+    (λ c. laying-length (c.loop-left.invariant c.requires).laying)
+    (λ c s. all-put s.w (omega (arith, c.loop-left-test.false)) (c.loop-left.invariant s)))

@@ -21,20 +21,20 @@ use Rattle.rewrite_bytes.proofs.files.put_module.Statement.{statement}
 use Rattle.rewrite_bytes.proofs.files.put_module.Tie as tie
 
 abbrev start : tie.After-mark_module → tie.Start
-start c = let known = c.before.before in known.before.before.before
+start c = c.before.before.before.before.before
 
 abbrev marked : tie.After-module_at-header → tie.After-mark_module
 marked c = c.before.before.before
 
 abbrev Asked : tie.After-module_at-header → Type 0
 Asked c =
-    let args = (start (marked c)).args in
-    ModuleWritable args.numbers.now args.start args.own args.table-1.now args.stamp args.out-1.now args.to
+    let args = (start c.before.before.before).args in
+    ModuleWritable args.numbers.now args.start args.own args.table.now args.stamp args.out.now args.to
 
-header : (c : tie.After-module_at-header) (s : Asked c) → HeaderOf (start (marked c)).args.numbers.now (start (marked c)).args.start s.there.m c.module_at-header.result
+header : (c : tie.After-module_at-header) (s : Asked c) → HeaderOf (start c.before.before.before).args.numbers.now (start c.before.before.before).args.start s.there.m c.module_at-header.result
 header c s = c.module_at-header.ensures s.there.m s.there.stands
 
-long : (c : tie.After-module_at-header) (s : Asked c) → c.module_at-header.result.to - (start (marked c)).args.start ≡ 3 + length s.there.m.inputs + length s.there.m.outputs
+long : (c : tie.After-module_at-header) (s : Asked c) → c.module_at-header.result.to - (start c.before.before.before).args.start ≡ 3 + length s.there.m.inputs + length s.there.m.outputs
 long c s = omega (arith, (header c s).from, (header c s).to)
 
 -- What is left behind the front, and behind the count.
@@ -47,32 +47,32 @@ body c s = each occurrence_bytes (rewrite_body (unused s.there.m) s.there.m.occu
 abbrev whole : (c : tie.After-module_at-header) → Asked c → List ℕ
 whole c s = module_bytes (rewrite_module s.there.m)
 
-begun : (c : tie.After-module_at-header) (s : Asked c) → Laying (whole c s) (whole c s) (start (marked c)).args.out-1.now (start (marked c)).args.to (start (marked c)).args.out-1.now (start (marked c)).args.to
+begun : (c : tie.After-module_at-header) (s : Asked c) → Laying (whole c s) (whole c s) (start c.before.before.before).args.out.now (start c.before.before.before).args.to (start c.before.before.before).args.out.now (start c.before.before.before).args.to
 begun c s = laying-start s.room
 
 abbrev read : tie.After-put_list-front → tie.After-module_at-header
 read c = c.before.before.before
 
-part : (c : tie.After-module_at-header) (s : Asked c) → take (c.module_at-header.result.to - (start (marked c)).args.start) (drop (start (marked c)).args.start (start (marked c)).args.numbers.now) ≡ front s.there.m
+part : (c : tie.After-module_at-header) (s : Asked c) → take (c.module_at-header.result.to - (start c.before.before.before).args.start) (drop (start c.before.before.before).args.start (start c.before.before.before).args.numbers.now) ≡ front s.there.m
 part c s = front-part s.there.m s.there.stands _ (long c s)
 
 fronted :
-    (c : tie.After-put_list-front) (s : Asked (read c))
-    → Laying (whole (read c) s) (number_bytes (count (read c) s) ++ body (read c) s) (start (marked (read c))).args.out-1.now (start (marked (read c))).args.to c.put_list-front.new.1.0 c.put_list-front.result
+    (c : tie.After-put_list-front) (s : Asked c.before.before.before)
+    → Laying (whole c.before.before.before s) (number_bytes (count c.before.before.before s) ++ body c.before.before.before s) (start c.before.before.before.before.before.before).args.out.now (start c.before.before.before.before.before.before).args.to c.put_list-front.new.1.0 c.put_list-front.result
 fronted c s =
-    laying-more (begun (read c) s) (each number_bytes (front s.there.m)) (number_bytes (count (read c) s) ++ body (read c) s) (module-bytes s.there.m)
-    (rw (part (read c) s) at c.put_list-front.ensures)
+    laying-more (begun c.before.before.before s) (each number_bytes (front s.there.m)) (number_bytes (count c.before.before.before s) ++ body c.before.before.before s) (module-bytes s.there.m)
+    (rw (part c.before.before.before s) at c.put_list-front.ensures)
 
 -- Behind the new count.
 abbrev front_of : tie.After-put-counted → tie.After-put_list-front
-front_of c = let known = c.before.before in known.before.before.before
+front_of c = c.before.before.before.before.before
 
-same_count : (c : tie.After-module_at-header) (s : Asked c) → c.module_at-header.result.count + 2 * (start (marked c)).args.own ≡ count c s
+same_count : (c : tie.After-module_at-header) (s : Asked c) → c.module_at-header.result.count + 2 * (start c.before.before.before).args.own ≡ count c s
 same_count c s = omega (arith, (header c s).count, s.owned)
 
 counted :
     (c : tie.After-put-counted) (s : Asked (read (front_of c)))
-    → Laying (whole (read (front_of c)) s) (body (read (front_of c)) s) (start (marked (read (front_of c)))).args.out-1.now (start (marked (read (front_of c)))).args.to
+    → Laying (whole (read (front_of c)) s) (body (read (front_of c)) s) (start (marked (read (front_of c)))).args.out.now (start (marked (read (front_of c)))).args.to
     c.put-counted.new.1.0 c.put-counted.result
 counted c s =
     laying-more (fronted (front_of c) s) (number_bytes (count (read (front_of c)) s)) (body (read (front_of c)) s) refl
@@ -80,8 +80,8 @@ counted c s =
 
 roomy :
     (c : tie.After-put-counted) (s : Asked (read (front_of c)))
-    → Roomy (start (marked (read (front_of c)))).args.numbers.now ((read (front_of c)).module_at-header.result.to + 1) (read (front_of c)).module_at-header.result.count
-    (marked (read (front_of c))).mark_module.new.1.1.0 (start (marked (read (front_of c)))).args.stamp (length c.put-counted.new.1.0) c.put-counted.result
+    → Roomy (start (marked (read (front_of c)))).args.numbers.now ((read (front_of c)).module-at.result.to + 1) (read (front_of c)).module-at.result.count
+    (marked (read (front_of c))).mark-module.new.1.1.0 (start (marked (read (front_of c)))).args.stamp (length c.put-counted.new.1.0) c.put-counted.result
 unfolding unused
 roomy c s =
     let r = read (front_of c) in
@@ -95,50 +95,46 @@ roomy c s =
             suits = s.suited.suits;
             single = s.suited.single;
             small = s.there.small;
-            long = (marked r).mark_module.kept.1.1.0 ∙ s.there.wide;
-            stamped = (marked r).mark_module.ensures s.there;
+            long = r.before.before.before.mark-module.kept.1.1.0 ∙ s.there.wide;
+            stamped = r.before.before.before.mark-module.ensures s.there;
           };
       room = (laying-left (counted c s)).fits;
     }
 
 put-requires : tie.Need-put-counted-requires
 put-requires c κs =
-    let f = c.before.before.before.before in
-    let r = read f in
-    let s = (start (marked r)).requires in
-    let room = laying-room (fronted f s) (number_bytes (count r s)) (body r s) refl in
-    rw (same_count r s) (omega (arith, s.suited.few), omega (arith, room.0, room.1))
+    let s = (start c.before.before.before.before.before.before.before.before.before.before).requires in
+    let room = laying-room (fronted c.before.before.before.before s) (number_bytes (count c.before.before.before.before.before.before.before s)) (body c.before.before.before.before.before.before.before s) refl in
+    rw (same_count c.before.before.before.before.before.before.before s) (omega (arith, s.suited.few), omega (arith, room.0, room.1))
 
 returns : tie.Need-returns
 unfolding unused roomy
 returns c s =
-    let done = c.before.before in
-    let put = let known = done.before.before.before in known.before.before in
-    (laying-last (done.put_body.ensures (roomy put s)) (counted put s), (marked (read (front_of put))).mark_module.ensures s.there)
+    (laying-last (c.put_body.ensures (roomy c.before.before.before.before.before.before s)) (counted c.before.before.before.before.before.before s), (marked (read (front_of c.before.before.before.before.before.before))).mark-module.ensures s.there)
 
 pub put_module_spec : {M : Type 1} → statement M
 put_module_spec =
     tie.close
     (tie.spec
-    (λ c κs. let known = c.before.before in known.before.before.requires.there)
+    (λ c κs. c.requires.there)
     (λ c κs. let s = (start c.before.before).requires in record { m = s.there.m; stands = s.there.stands })
-    (λ c. let s = (start (marked c)).requires in omega (arith, (parts s.there.m s.there.stands).end, (header c s).from, (header c s).to, (start (marked c)).well-formed))
-    (λ c. let s = (start (marked c)).requires in omega (arith, (header c s).from, (header c s).to))
-    (λ c. let s = (start (marked c)).requires in omega (arith, (header c s).from, (header c s).to))
-    (λ c. let s = (start (marked c)).requires in omega (arith, (parts s.there.m s.there.stands).end, (header c s).from, (header c s).to))
+    (λ c. let s = (start c.before.before.before).requires in omega (arith, (parts s.there.m s.there.stands).end, (header c s).from, (header c s).to, (start c.before.before.before).well-formed))
+    (λ c. let s = (start c.before.before.before).requires in omega (arith, (header c s).from, (header c s).to))
+    (λ c. let s = (start c.before.before.before).requires in omega (arith, (header c s).from, (header c s).to))
+    (λ c. let s = (start c.before.before.before).requires in omega (arith, (parts s.there.m s.there.stands).end, (header c s).from, (header c s).to))
     (λ c κs.
     let r = c.before.before in
     let s = (start (marked r)).requires in
     let room = laying-room (begun r s) (each number_bytes (front s.there.m)) (number_bytes (count r s) ++ body r s) (module-bytes s.there.m) in (
-      part_small (r.module_at-header.result.to - (start (marked r)).args.start) (start (marked r)).args.start s.there.small,
+      part_small (r.module-at.result.to - (start (marked r)).args.start) (start (marked r)).args.start s.there.small,
       record { fits = rw (part r s) (omega (arith, room.1)) },
     ))
     (λ c. search rules)
-    (λ c. let r = read c.before.before.before in let s = (start (marked r)).requires in omega (arith, same_count r s, s.suited.few))
-    (λ c. let r = read c.before.before.before in let s = (start (marked r)).requires in omega (arith, same_count r s, s.suited.few))
+    (λ c. let s = (start c.before.before.before.before.before.before.before.before.before).requires in omega (arith, same_count c.before.before.before.before.before.before s, s.suited.few))
+    (λ c. let s = (start c.before.before.before.before.before.before.before.before.before).requires in omega (arith, same_count c.before.before.before.before.before.before s, s.suited.few))
     put-requires
-    (λ c. let r = read (front_of c.before.before) in let s = (start (marked r)).requires in omega (arith, (parts s.there.m s.there.stands).end, (header r s).from, (header r s).to, (start (marked r)).well-formed))
-    (λ c κs. let put = c.before.before.before.before in roomy put (start (marked (read (front_of put)))).requires)
+    (λ c. let r = read (front_of c.before.before) in let s = (start r.before.before.before).requires in omega (arith, (parts s.there.m s.there.stands).end, (header r s).from, (header r s).to, (start r.before.before.before).well-formed))
+    (λ c κs. roomy c.before.before.before (start (marked (read (front_of c.before.before.before)))).requires)
     (λ c. search rules)
     (λ c. search rules)
     returns)

@@ -11,4 +11,4 @@ pair_kind_spec =
     (tie.spec
     (λ c. rw c.if-kind-eq7.true)
     (λ c. rw c.if-kind-eq15.true)
-    (λ c. rw (ne_eqb _ 7 c.before.if-kind-eq7.false, ne_eqb _ 15 c.if-kind-eq15.false)))
+    (λ c. rw (ne_eqb _ 7 c.if-kind-eq7.false, ne_eqb _ 15 c.if-kind-eq15.false)))

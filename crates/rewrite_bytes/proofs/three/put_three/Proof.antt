@@ -59,23 +59,16 @@ all_small g first second pair two four is_pair is_two s_first s_second s_net (mo
 
 put-list-requires : tie.Need-put_list-requires
 put-list-requires c κs =
-    let two = c.before.before in
-    let pair = two.before in
-    let start = pair.before.before in
-    let p = start.requires in
-    let same = bytes-are start.args.gate start.args.first start.args.second _ _ pair.pair_kind-pair.ensures two.two_kind-two.ensures in (
-      all_small start.args.gate start.args.first start.args.second _ _ p.four pair.pair_kind-pair.ensures two.two_kind-two.ensures
+    let p = c.requires in
+    let same = bytes-are c.args.gate c.args.first c.args.second _ _ c.pair_kind-pair.ensures c.two_kind-two.ensures in (
+      all_small c.args.gate c.args.first c.args.second _ _ p.four c.pair_kind-pair.ensures c.two_kind-two.ensures
           p.small_first p.small_second p.net p.takes,
       record { fits = omega (arith, ap length same, p.room) },
     )
 
 returns : tie.Need-returns
 returns c =
-    let put = c.before.before in
-    let two = put.before.before.before in
-    let pair = two.before in
-    let start = pair.before.before in
-    rw (bytes-are start.args.gate start.args.first start.args.second _ _ pair.pair_kind-pair.ensures two.two_kind-two.ensures) at put.put_list.ensures
+    rw (bytes-are c.args.gate c.args.first c.args.second _ _ c.pair_kind-pair.ensures c.two_kind-two.ensures) at c.put_list.ensures
 
 pub put_three_spec : {M : Type 1} → statement M
 put_three_spec =

@@ -12,4 +12,4 @@ two_kind_spec =
     (λ c. rw c.if-kind-eq4.true)
     (λ c. rw c.if-kind-eq7.true)
     (λ c. rw c.if-kind-eq12.true)
-    (λ c. rw (ne_eqb _ 4 c.before.before.if-kind-eq4.false, ne_eqb _ 7 c.before.if-kind-eq7.false, ne_eqb _ 12 c.if-kind-eq12.false)))
+    (λ c. rw (ne_eqb _ 4 c.if-kind-eq4.false, ne_eqb _ 7 c.if-kind-eq7.false, ne_eqb _ 12 c.if-kind-eq12.false)))

@@ -29,19 +29,19 @@ mark_spec =
     decreases-loop
     (λ c. (refl, λ used s. stamped-same used (λ x. used x || member x []) (λ x. or-false (used x)) s))
     (λ c. omega (arith, c.loop-i-test.true))
-    (λ c. c.before.loop-i-test.true)
-    (λ c. omega (arith, c.shared_slice_known-1.given c.before.before.loop-i.i))
-    (λ c. let loop = c.before.before in omega (arith, loop.before.requires.below loop.loop-i.i c.before.loop-i-test.true, loop.loop-i.invariant.0))
-    (λ c. omega (arith, c.before.loop-i-test.true))
-    (λ c. omega (arith, c.before.loop-i-test.true))
+    (λ c. c.loop-i-test.true)
+    (λ c. omega (arith, c.shared_slice_known-1.given c.loop-i.i))
+    (λ c. omega (arith, c.requires.below c.loop-i.i c.loop-i-test.true, c.loop-i.invariant.0))
+    (λ c. omega (arith, c.loop-i-test.true))
+    (λ c. omega (arith, c.loop-i-test.true))
     (λ c.
     let loop = c.before.before in
-    let more = c.before.loop-i-test.true in (
-      length-set loop.loop-i.table _ _ ∙ loop.loop-i.invariant.0,
+    let more = c.before.loop-test.true in (
+      length-set loop.loop.table _ _ ∙ loop.loop.invariant.0,
       λ used s.
-          marked_more loop.before.args.list.now loop.loop-i.i used more
-          (omega (arith, loop.before.requires.below loop.loop-i.i more, loop.loop-i.invariant.0)) (loop.loop-i.invariant.1 used s),
+          marked_more loop.before.args.list.now loop.loop.i used more
+          (omega (arith, loop.before.requires.below loop.loop.i more, loop.loop.invariant.0)) (loop.loop.invariant.1 used s),
     ))
-    (λ c. c.before.loop-i.invariant.0)
+    (λ c. c.loop-i.invariant.0)
     (λ c used s.
-    rw (take_all c.before.loop-i.i c.before.before.args.list.now c.loop-i-test.false) at (c.before.loop-i.invariant.1 used s)))
+    rw (take_all c.before.loop.i c.before.before.args.list.now c.loop-test.false) at (c.before.loop.invariant.1 used s)))

@@ -22,11 +22,11 @@ seek_spec =
     invariant-loop
     decreases-loop
     (λ c s. s.is)
-    (λ c. let loop = c.before in let s = loop.before.requires in omega (arith, s.long, low_of s.used loop.loop-i.i (loop.loop-i.invariant s)))
-    (λ c. let loop = c.before.before in let s = loop.before.requires in omega (arith, low_of s.used loop.loop-i.i (loop.loop-i.invariant s)))
-    (λ c. let loop = c.before.before in let s = loop.before.requires in omega (arith, low_of s.used loop.loop-i.i (loop.loop-i.invariant s)))
+    (λ c. let s = c.requires in omega (arith, s.long, low_of s.used c.loop-i.i (c.loop-i.invariant s)))
+    (λ c. let s = c.requires in omega (arith, low_of s.used c.loop-i.i (c.loop-i.invariant s)))
+    (λ c. let s = c.requires in omega (arith, low_of s.used c.loop-i.i (c.loop-i.invariant s)))
     (λ c s.
     let loop = c.before.before in
-    let e = loop.loop-i.invariant s in
-    sym (used-here s.used loop.loop-i.i (low_of s.used loop.loop-i.i e) (told-used s.used s.stamped loop.loop-i.i c.loop-i-test.true)) ∙ e)
-    (λ c s. let loop = c.before.before in found_here s loop.loop-i.i (loop.loop-i.invariant s) c.loop-i-test.false))
+    let e = loop.loop.invariant s in
+    sym (used-here s.used loop.loop.i (low_of s.used loop.loop.i e) (told-used s.used s.stamped loop.loop.i c.if1.true)) ∙ e)
+    (λ c s. found_here s c.loop-i.i (c.loop-i.invariant s) c.loop-i-test.false))

@@ -27,32 +27,30 @@ turn c = c.before.before.before.before
 module _ (c : tie.In-loop-k invariant-loop decreases-loop)
     (s : Peopled (start c.before).args.image.now (start c.before).args.starts.now (start c.before).args.own.now (start c.before).args.modules)
   where
-    inside : c.before.loop-k.k < length s.table.ms
-    inside = omega (arith, c.loop-k-test.true, s.table.all)
+    inside : c.before.loop.k < length s.table.ms
+    inside = omega (arith, c.loop-test.true, s.table.all)
 
-    here : Here s.table.ms c.before.loop-k.k
-    here = here-at s.table.ms c.before.loop-k.k inside
+    here : Here s.table.ms c.before.loop.k
+    here = here-at s.table.ms c.before.loop.k inside
 
 -- The count that was read is the module's.
 module _ (c : tie.After-struct_known-1 invariant-loop decreases-loop)
     (s : Peopled (start (turn c).before).args.image.now (start (turn c).before).args.starts.now (start (turn c).before).args.own.now (start (turn c).before).args.modules)
   where
-    counted : c.before.before.module_at-header.result.count ≡ length (here (turn c) s).m.occurrences
+    counted : c.before.before.module-at.result.count ≡ length (here (turn c) s).m.occurrences
     counted =
-        let there = s.stands (turn c).before.loop-k.k (here (turn c) s).m (here (turn c) s).later (here (turn c) s).here in
-        (c.before.before.module_at-header.ensures there.0 there.1).count ∙ there.2
+        let there = s.stands (turn c).before.loop.k (here (turn c) s).m (here (turn c) s).later (here (turn c) s).here in
+        (c.before.before.module-at.ensures there.0 there.1).count ∙ there.2
 
 returns : tie.Need-returns-then-header-own-gt4096 invariant-loop decreases-loop
 returns c s =
-    let t = turn c.before in
-    t.before.loop-k.inv s
-    ∙ many-here (here t s) (omega (arith, c.if-header-own-gt4096.true, counted c.before s, s.table.entry t.before.loop-k.k (here t s).m (here t s).later (here t s).here))
+    c.loop-k.inv s
+    ∙ many-here (here c.before.before.before.before.before s) (omega (arith, c.if-header-own-gt4096.true, counted c.before s, s.table.entry c.loop-k.k (here c.before.before.before.before.before s).m (here c.before.before.before.before.before s).later (here c.before.before.before.before.before s).here))
 
 loop-again : tie.Need-loop-k-preserved invariant-loop decreases-loop
 loop-again c s =
-    let t = turn c.before in
-    t.before.loop-k.inv s
-    ∙ few-here (here t s) (omega (arith, c.if-header-own-gt4096.false, counted c.before s, s.table.entry t.before.loop-k.k (here t s).m (here t s).later (here t s).here))
+    c.loop-k.inv s
+    ∙ few-here (here c.before.before.before.before.before s) (omega (arith, c.if-header-own-gt4096.false, counted c.before s, s.table.entry c.loop-k.k (here c.before.before.before.before.before s).m (here c.before.before.before.before.before s).later (here c.before.before.before.before.before s).here))
 
 pub few_occurrences_spec : {M : Type 1} → statement M
 few_occurrences_spec =
@@ -61,21 +59,21 @@ few_occurrences_spec =
     invariant-loop
     decreases-loop
     (λ c s. refl)
-    (λ c. let s = (start c.before).requires in omega (arith, inside c s, s.started))
-    (λ c. let s = (start c.before.before).requires in omega (arith, inside c.before s, s.started))
+    (λ c. let s = c.requires in omega (arith, inside c s, s.started))
+    (λ c. let s = c.requires in omega (arith, inside c.before s, s.started))
     (λ c κs.
-    let s = (start c.before.before).requires in
-    let there = s.stands c.before.before.loop-k.k (here c.before s).m (here c.before s).later (here c.before s).here in
+    let s = (start c.before.before).pre in
+    let there = s.stands c.before.before.loop.k (here c.before s).m (here c.before s).later (here c.before s).here in
     record { m = there.0; stands = there.1 })
-    (λ c. let t = c.before.before in let s = (start t.before).requires in omega (arith, inside t s, s.table.long))
-    (λ c. let t = c.before.before.before in let s = (start t.before).requires in omega (arith, inside t s, s.table.long))
-    (λ c. omega (arith, c.shared_slice_known-in-loop-k-2-1.given c.before.before.before.before.loop-k.k))
-    (λ c. omega (arith, c.shared_slice_known-in-loop-k-2-1.given c.before.before.before.before.loop-k.k))
+    (λ c. let s = c.requires in omega (arith, inside c.before.before s, s.table.long))
+    (λ c. let s = c.requires in omega (arith, inside c.before.before.before s, s.table.long))
+    (λ c. omega (arith, c.shared_slice_known-in-loop-k-2-1.given c.loop-k.k))
+    (λ c. omega (arith, c.shared_slice_known-in-loop-k-2-1.given c.loop-k.k))
     (λ c.
-    let s = (start (turn c).before).requires in
-    omega (arith, counted c s, s.few (turn c).before.loop-k.k (here (turn c) s).m (here (turn c) s).later (here (turn c) s).here, c.before.shared_slice_known-in-loop-k-2-1.given (turn c).before.loop-k.k))
+    let s = (start (turn c).before).pre in
+    omega (arith, counted c s, s.few (turn c).before.loop.k (here (turn c) s).m (here (turn c) s).later (here (turn c) s).here, c.before.shared-slice-known5.given (turn c).before.loop.k))
     returns
-    (λ c. let t = turn c.before in omega (arith, t.loop-k-test.taken, (start t.before).good))
-    (λ c. omega (arith, (turn c.before).loop-k-test.taken))
+    (λ c. omega (arith, c.loop-k-test.taken, c.before.before.before.before.before.before.before.before.before.before.good))
+    (λ c. omega (arith, c.loop-k-test.taken))
     loop-again
-    (λ c s. c.before.loop-k.invariant s ∙ few-left s.table.ms c.before.loop-k.k (omega (arith, c.loop-k-test.false, s.table.all))))
+    (λ c s. c.loop-k.invariant s ∙ few-left s.table.ms c.loop-k.k (omega (arith, c.loop-k-test.false, s.table.all))))

@@ -20,24 +20,21 @@ decreases-loop nets own modules k₀ k = modules - k
 
 returns : tie.Need-returns-then-nets-k-gt4096 invariant-loop decreases-loop
 returns c s =
-    let turn = c.before.before.before in
-    let h = here-at s.table.ms turn.before.loop-k.k (omega (arith, turn.loop-k-test.true, s.table.all)) in
-    turn.before.loop-k.invariant s
-    ∙ crowded-here h (omega (arith, c.if-nets-k-gt4096.true, s.entry turn.before.loop-k.k h.m h.later h.here, s.table.entry turn.before.loop-k.k h.m h.later h.here))
+    let h = here-at s.table.ms c.loop-k.k (omega (arith, c.loop-k-test.true, s.table.all)) in
+    c.loop-k.invariant s
+    ∙ crowded-here h (omega (arith, c.if-nets-k-gt4096.true, s.entry c.loop-k.k h.m h.later h.here, s.table.entry c.loop-k.k h.m h.later h.here))
 
 loop-again : tie.Need-loop-k-preserved invariant-loop decreases-loop
 loop-again c s =
-    let turn = c.before.before.before in
-    let h = here-at s.table.ms turn.before.loop-k.k (omega (arith, turn.loop-k-test.true, s.table.all)) in
-    turn.before.loop-k.invariant s
-    ∙ uncrowded_here h (omega (arith, c.if-nets-k-gt4096.false, s.entry turn.before.loop-k.k h.m h.later h.here, s.table.entry turn.before.loop-k.k h.m h.later h.here))
+    let h = here-at s.table.ms c.loop-k.k (omega (arith, c.loop-k-test.true, s.table.all)) in
+    c.loop-k.invariant s
+    ∙ uncrowded_here h (omega (arith, c.if-nets-k-gt4096.false, s.entry c.loop-k.k h.m h.later h.here, s.table.entry c.loop-k.k h.m h.later h.here))
 
 add-if1 : tie.Need-overflow_add-nets invariant-loop decreases-loop
 add-if1 c =
-    let turn = c.before.before in
-    let s = turn.before.before.requires in
-    let h = here-at s.table.ms turn.before.loop-k.k (omega (arith, turn.loop-k-test.true, s.table.all)) in
-    omega (arith, s.entry turn.before.loop-k.k h.m h.later h.here, s.few turn.before.loop-k.k h.m h.later h.here, c.shared_slice_known-in-loop-k-1.given c.before.before.before.loop-k.k)
+    let s = c.requires in
+    let h = here-at s.table.ms c.loop-k.k (omega (arith, c.loop-k-test.true, s.table.all)) in
+    omega (arith, s.entry c.loop-k.k h.m h.later h.here, s.few c.loop-k.k h.m h.later h.here, c.shared_slice_known-in-loop-k-1.given c.loop-k.k)
 
 pub first_crowded_spec : {M : Type 1} → statement M
 first_crowded_spec =
@@ -46,15 +43,15 @@ first_crowded_spec =
     invariant-loop
     decreases-loop
     (λ c s. refl)
-    (λ c. let s = c.before.before.requires in omega (arith, c.loop-k-test.true, s.table.all, s.long))
-    (λ c. let s = c.before.before.before.requires in omega (arith, c.before.loop-k-test.true, s.table.all, s.long))
-    (λ c. let s = c.before.before.before.requires in omega (arith, c.before.loop-k-test.true, s.table.all, s.table.long))
-    (λ c. let turn = c.before.before in let s = turn.before.before.requires in omega (arith, turn.loop-k-test.true, s.table.all, s.table.long))
-    (λ c. omega (arith, c.shared_slice_known-in-loop-k-1.given c.before.before.before.loop-k.k))
-    (λ c. omega (arith, c.shared_slice_known-in-loop-k-1.given c.before.before.before.loop-k.k))
+    (λ c. let s = c.requires in omega (arith, c.loop-k-test.true, s.table.all, s.long))
+    (λ c. let s = c.requires in omega (arith, c.loop-k-test.true, s.table.all, s.long))
+    (λ c. let s = c.requires in omega (arith, c.loop-k-test.true, s.table.all, s.table.long))
+    (λ c. let s = c.requires in omega (arith, c.loop-k-test.true, s.table.all, s.table.long))
+    (λ c. omega (arith, c.shared_slice_known-in-loop-k-1.given c.loop-k.k))
+    (λ c. omega (arith, c.shared_slice_known-in-loop-k-1.given c.loop-k.k))
     add-if1
     returns
-    (λ c. let turn = c.before.before.before in omega (arith, turn.loop-k-test.true, turn.before.before.well-formed))
-    (λ c. omega (arith, c.before.before.before.loop-k-test.true))
+    (λ c. omega (arith, c.loop-k-test.true, c.well-formed))
+    (λ c. omega (arith, c.loop-k-test.true))
     loop-again
-    (λ c s. c.before.loop-k.invariant s ∙ uncrowded_left s.table.ms _ (omega (arith, c.loop-k-test.false, s.table.all))))
+    (λ c s. c.loop-k.invariant s ∙ uncrowded_left s.table.ms _ (omega (arith, c.loop-k-test.false, s.table.all))))

@@ -19,15 +19,13 @@ decreases-loop own modules k₀ k = modules - k
 
 returns : tie.Need-returns-then-own-k-gt0 invariant-loop decreases-loop
 returns c s =
-    let turn = c.before.before in
-    let h = here-at s.ms turn.before.loop-k.k (omega (arith, turn.loop-k-test.true, s.all)) in
-    turn.before.loop-k.invariant s ∙ user_here h (omega (arith, c.if-own-k-gt0.true, s.entry turn.before.loop-k.k h.m h.later h.here))
+    let h = here-at s.ms c.loop-k.k (omega (arith, c.loop-k-test.true, s.all)) in
+    c.loop-k.invariant s ∙ user_here h (omega (arith, c.if-own-k-gt0.true, s.entry c.loop-k.k h.m h.later h.here))
 
 loop-again : tie.Need-loop-k-preserved invariant-loop decreases-loop
 loop-again c s =
-    let turn = c.before.before in
-    let h = here-at s.ms turn.before.loop-k.k (omega (arith, turn.loop-k-test.true, s.all)) in
-    turn.before.loop-k.invariant s ∙ no_user_here h (omega (arith, c.if-own-k-gt0.false, s.entry turn.before.loop-k.k h.m h.later h.here))
+    let h = here-at s.ms c.loop-k.k (omega (arith, c.loop-k-test.true, s.all)) in
+    c.loop-k.invariant s ∙ no_user_here h (omega (arith, c.if-own-k-gt0.false, s.entry c.loop-k.k h.m h.later h.here))
 
 pub first_user_spec : {M : Type 1} → statement M
 first_user_spec =
@@ -36,10 +34,10 @@ first_user_spec =
     invariant-loop
     decreases-loop
     (λ c s. refl)
-    (λ c. let s = c.before.before.requires in omega (arith, c.loop-k-test.true, s.all, s.long))
-    (λ c. let s = c.before.before.before.requires in omega (arith, c.before.loop-k-test.true, s.all, s.long))
+    (λ c. let s = c.requires in omega (arith, c.loop-k-test.true, s.all, s.long))
+    (λ c. let s = c.requires in omega (arith, c.loop-k-test.true, s.all, s.long))
     returns
-    (λ c. let turn = c.before.before in omega (arith, turn.loop-k-test.true, turn.before.before.well-formed))
-    (λ c. omega (arith, c.before.before.loop-k-test.true))
+    (λ c. omega (arith, c.loop-k-test.true, c.well-formed))
+    (λ c. omega (arith, c.loop-k-test.true))
     loop-again
-    (λ c s. c.before.loop-k.invariant s ∙ no_user_left s.ms _ (omega (arith, c.loop-k-test.false, s.all))))
+    (λ c s. c.loop-k.invariant s ∙ no_user_left s.ms _ (omega (arith, c.loop-k-test.false, s.all))))

@@ -19,37 +19,32 @@ invariant-loop sizes reached modules k₀ k = (k ≤ modules) × ((s : Sized siz
 abbrev decreases-loop : tie.decreases-loop-k
 decreases-loop sizes reached modules k₀ k = k
 
-abbrev turn : tie.After-shared_slice_known-in-loop-k-1 invariant-loop decreases-loop → tie.In-loop-k invariant-loop decreases-loop
-turn c = c.before.before
-
 module _ (c : tie.In-loop-k invariant-loop decreases-loop) (s : Sized c.before.before.args.sizes.now c.before.before.args.reached.now c.before.before.args.modules)
   where
     abbrev position : ℕ
-    position = c.before.loop-k.k - 1
+    position = c.before.loop.k - 1
 
-    again : position + 1 ≡ c.before.loop-k.k
-    again = omega (arith, c.loop-k-test.true)
+    again : position + 1 ≡ c.before.loop.k
+    again = omega (arith, c.loop-test.true)
 
     inside : position < length s.ms
-    inside = omega (arith, c.loop-k-test.true, c.before.loop-k.invariant.0, s.all)
+    inside = omega (arith, c.loop-test.true, c.before.loop.invariant.0, s.all)
 
     behind : sizes_verdict (position + 1) (rewrite_file (drop (position + 1) s.ms)) ≡ good
-    behind = subst (λ (n : ℕ). sizes_verdict n (rewrite_file (drop n s.ms)) ≡ good) (sym again) (c.before.loop-k.invariant.1 s)
+    behind = subst (λ (n : ℕ). sizes_verdict n (rewrite_file (drop n s.ms)) ≡ good) (sym again) (c.before.loop.invariant.1 s)
 
 returns : tie.Need-returns-then-sizes-k-gt65535 invariant-loop decreases-loop
 returns c s =
-    let t = turn c.before in
-    let h = here-at s.ms (position t s) (inside t s) in
-    large-whole 0 (position t s) s.ms
-    (rw (zero-add (position t s)) (large-here h (behind t s) (omega (arith, c.if-sizes-k-gt65535.true, s.size (position t s) h.m h.later h.here, s.reach (position t s) h.m h.later h.here))))
+    let h = here-at s.ms (position c.before.before.before s) (inside c.before.before.before s) in
+    large-whole 0 (position c.before.before.before s) s.ms
+    (rw (zero-add (position c.before.before.before s)) (large-here h (behind c.before.before.before s) (omega (arith, c.if-sizes-k-gt65535.true, s.size (position c.before.before.before s) h.m h.later h.here, s.reach (position c.before.before.before s) h.m h.later h.here))))
 
 loop-again : tie.Need-loop-k-preserved invariant-loop decreases-loop
 loop-again c = (
-  omega (arith, (turn c.before).before.loop-k.inv.0),
+  omega (arith, c.loop-k.inv.0),
   λ s.
-      let t = turn c.before in
-      let h = here-at s.ms (position t s) (inside t s) in
-      small-here h (behind t s) (omega (arith, c.if-sizes-k-gt65535.false, s.size (position t s) h.m h.later h.here, s.reach (position t s) h.m h.later h.here)),
+      let h = here-at s.ms (position c.before.before.before s) (inside c.before.before.before s) in
+      small-here h (behind c.before.before.before s) (omega (arith, c.if-sizes-k-gt65535.false, s.size (position c.before.before.before s) h.m h.later h.here, s.reach (position c.before.before.before s) h.m h.later h.here)),
 )
 
 pub last_large_spec : {M : Type 1} → statement M
@@ -60,13 +55,13 @@ last_large_spec =
     decreases-loop
     (λ c. (omega arith, λ s. small-left s.ms _ (omega (arith, s.all))))
     (λ c. c.loop-k-test.true)
-    (λ c. let s = c.before.before.requires in omega (arith, inside c s, s.sizes_long))
-    (λ c. let s = c.before.before.before.requires in omega (arith, inside c.before s, s.sizes_long))
-    (λ c. let s = c.before.before.before.requires in omega (arith, inside c.before s, s.reached_long))
-    (λ c. let s = (turn c).before.before.requires in omega (arith, inside (turn c) s, s.reached_long))
-    (λ c. let s = (turn c).before.before.requires in omega (arith, (s.low (position (turn c) s) (inside (turn c) s)).1))
-    (λ c. let s = (turn c).before.before.requires in let low = s.low (position (turn c) s) (inside (turn c) s) in omega (arith, low.0, low.1))
+    (λ c. let s = c.requires in omega (arith, inside c s, s.sizes_long))
+    (λ c. let s = c.requires in omega (arith, inside c.before s, s.sizes_long))
+    (λ c. let s = c.requires in omega (arith, inside c.before s, s.reached_long))
+    (λ c. let s = c.requires in omega (arith, inside c.before.before s, s.reached_long))
+    (λ c. let s = c.requires in omega (arith, (s.low (position c.before.before s) (inside c.before.before s)).1))
+    (λ c. let s = c.requires in let low = s.low (position c.before.before s) (inside c.before.before s) in omega (arith, low.0, low.1))
     returns
-    (λ c. omega (arith, (turn c.before).loop-k-test.taken))
+    (λ c. omega (arith, c.loop-k-test.taken))
     loop-again
-    (λ c s. rw (let none : c.before.loop-k.k ≡ 0 = omega (arith, c.loop-k-test.false) in none) at (c.before.loop-k.invariant.1 s)))
+    (λ c s. rw (let none : c.loop-k.k ≡ 0 = omega (arith, c.loop-k-test.false) in none) at (c.loop-k.invariant.1 s)))

@@ -21,10 +21,10 @@ abbrev decreases-loop : tie.decreases-loop-k
 decreases-loop image starts modules own₀ reached₀ k₀ own reached k = k
 
 abbrev start : tie.At-loop-k invariant-loop decreases-loop → tie.Start invariant-loop decreases-loop
-start c = let known = c.before.before.before in known.before.before
+start c = c.before.before.before.before.before
 
 abbrev turn : tie.After-fours_of-found invariant-loop decreases-loop → tie.In-loop-k invariant-loop decreases-loop
-turn c = c.before.before
+turn c = c.before
 
 -- The module whose turn it is, and those behind it.
 module _
@@ -33,32 +33,31 @@ module _
     (length (start c.before).args.own.now) (length (start c.before).args.reached.now))
   where
     abbrev position : ℕ
-    position = c.before.loop-k.k - 1
+    position = c.before.loop.k - 1
 
     low : position < length s.rs
-    low = omega (arith, c.loop-k-test.true, c.before.loop-k.invariant.0, s.all)
+    low = omega (arith, c.loop-test.true, c.before.loop.invariant.0, s.all)
 
-    behind : Counted s.rs (position + 1) c.before.loop-k.own c.before.loop-k.reached
+    behind : Counted s.rs (position + 1) c.before.loop.own c.before.loop.reached
     behind =
-        let again : position + 1 ≡ c.before.loop-k.k = omega (arith, c.loop-k-test.true) in
-        subst (λ (n : ℕ). Counted s.rs n c.before.loop-k.own c.before.loop-k.reached) (sym again) (c.before.loop-k.invariant.3 s)
+        let again : position + 1 ≡ c.before.loop.k = omega (arith, c.loop-test.true) in
+        subst (λ (n : ℕ). Counted s.rs n c.before.loop.own c.before.loop.reached) (sym again) (c.before.loop.invariant.3 s)
 
-    in-own : position < length c.before.loop-k.own
-    in-own = omega (arith, low, s.own_long, c.before.loop-k.invariant.1)
+    in-own : position < length c.before.loop.own
+    in-own = omega (arith, low, s.own_long, c.before.loop.invariant.1)
 
-    in-reached : position < length c.before.loop-k.reached
-    in-reached = omega (arith, low, s.reached_long, c.before.loop-k.invariant.2)
+    in-reached : position < length c.before.loop.reached
+    in-reached = omega (arith, low, s.reached_long, c.before.loop.invariant.2)
 
 loop-again : tie.Need-loop-k-preserved invariant-loop decreases-loop
-loop-again c =
-    let t = turn c in (
-      omega (arith, t.before.loop-k.inv.0),
-      length-set t.before.loop-k.own _ _ ∙ t.before.loop-k.inv.1,
-      length-set t.before.loop-k.reached _ _ ∙ t.before.loop-k.inv.2,
-      λ s.
-          let found = c.fours_of-found.ensures (reaching s (low t s) (behind t s).tabled) in
-          counted-more (here-at s.rs (position t s) (low t s)) _ _ (behind t s) (in-own t s) (in-reached t s) found.0 found.1,
-    )
+loop-again c = (
+  omega (arith, c.loop-k.inv.0),
+  length-set c.loop-k.own _ _ ∙ c.loop-k.inv.1,
+  length-set c.loop-k.reached _ _ ∙ c.loop-k.inv.2,
+  λ s.
+      let found = c.fours_of-found.ensures (reaching s (low c.before.before s) (behind c.before.before s).tabled) in
+      counted-more (here-at s.rs (position c.before.before s) (low c.before.before s)) _ _ (behind c.before.before s) (in-own c.before.before s) (in-reached c.before.before s) found.0 found.1,
+)
 
 pub count_fours_spec : {M : Type 1} → statement M
 count_fours_spec =
@@ -68,13 +67,13 @@ count_fours_spec =
     decreases-loop
     (λ c. (omega arith, refl, refl, λ s. counted_none s.rs _ _ _ (omega (arith, s.all)) s.reached_long))
     (λ c. c.loop-k-test.true)
-    (λ c κs. let t = c.before in let s = (start t.before).requires in reaching s (low t s) (behind t s).tabled)
-    (λ c. let t = turn c in let s = (start t.before).requires in omega (arith, in-own t s))
-    (λ c. let t = turn c in let s = (start t.before).requires in in-own t s)
-    (λ c. let t = turn c in let s = (start t.before).requires in omega (arith, in-reached t s))
-    (λ c. let t = turn c in let s = (start t.before).requires in in-reached t s)
-    (λ c. omega (arith, (turn c).loop-k-test.true))
+    (λ c κs. let s = (start c.before).pre in reaching s (low c.before s) (behind c.before s).tabled)
+    (λ c. let s = (start c.before.before).pre in omega (arith, in-own c.before.before s))
+    (λ c. let s = (start c.before.before).pre in in-own c.before.before s)
+    (λ c. let s = (start c.before.before).pre in omega (arith, in-reached c.before.before s))
+    (λ c. let s = (start c.before.before).pre in in-reached c.before.before s)
+    (λ c. omega (arith, c.loop-k-test.true))
     loop-again
-    (λ c. c.before.loop-k.invariant.1)
-    (λ c. c.before.loop-k.invariant.2)
-    (λ c s. let none : c.before.loop-k.k ≡ 0 = omega (arith, c.loop-k-test.false) in rw none at (c.before.loop-k.invariant.3 s)))
+    (λ c. c.loop-k.invariant.1)
+    (λ c. c.loop-k.invariant.2)
+    (λ c s. let none : c.loop-k.k ≡ 0 = omega (arith, c.loop-k-test.false) in rw none at (c.loop-k.invariant.3 s)))

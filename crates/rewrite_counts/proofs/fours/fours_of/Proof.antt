@@ -18,7 +18,7 @@ decreases-loop image starts k reached at₀ left₀ own₀ sum₀ at left own su
 
 -- The start, from where the header is read, and from the loop.
 abbrev start : tie.After-module_at-header invariant-loop decreases-loop → tie.Start invariant-loop decreases-loop
-start c = let lists = c.before.before in lists.before.before.before
+start c = c.before.before.before.before.before
 
 abbrev begun : tie.At-loop-left invariant-loop decreases-loop → tie.Start invariant-loop decreases-loop
 begun c = start c.before.before
@@ -32,25 +32,21 @@ abbrev head : tie.After-is_withdrawn invariant-loop decreases-loop → tie.At-lo
 head c = c.before.before.before
 
 now :
-    (c : tie.After-is_withdrawn invariant-loop decreases-loop) (s : Asked (head c))
-    → Turn (begun (head c)).args.image.now s.scene.m s.scene.later (head c).loop-left.at (head c).loop-left.left
-    ((head c).loop-left.invariant s).filled ((head c).loop-left.invariant s).rest c.before.occurrence_at-o.result
-now c s = turn c.before.before.loop-left-test.true ((head c).loop-left.invariant s).ahead c.before.occurrence_at-o.ensures
-
--- It refers to a module.
-abbrev seen : tie.After-struct_known-then-o-ge16-1 invariant-loop decreases-loop → tie.After-is_withdrawn invariant-loop decreases-loop
-seen c = c.before.before.before.before
+    (c : tie.After-is_withdrawn invariant-loop decreases-loop) (s : Asked c.before.before.before)
+    → Turn (begun c.before.before.before).args.image.now s.scene.m s.scene.later c.loop-left.at c.loop-left.left
+    (c.loop-left.invariant s).filled (c.loop-left.invariant s).rest c.occurrence_at-o.result
+now c s = turn c.loop-left-test.true (c.loop-left.invariant s).ahead c.occurrence_at-o.ensures
 
 module_here :
-    (c : tie.After-struct_known-then-o-ge16-1 invariant-loop decreases-loop) (s : Asked (head (seen c))) → AtModule s ((head (seen c)).loop-left.inv s) (now (seen c) s)
+    (c : tie.After-struct_known-then-o-ge16-1 invariant-loop decreases-loop) (s : Asked c.before.before.before.before.before.before.before) → AtModule s (c.loop-left.inv s) (now c.before.before.before.before s)
 module_here c s =
-    at_module s ((head (seen c)).loop-left.inv s) (now (seen c) s) (sym (seen c).is_withdrawn.ensures ∙ c.before.before.before.if-is_withdrawn.false)
-    c.before.if-o-ge16.true
+    at_module s (c.loop-left.inv s) (now c.before.before.before.before s) (sym c.is_withdrawn.ensures ∙ c.if-is_withdrawn.false)
+    c.if-o-ge16.true
 
 -- It refers to one of the four gates.
 four-here :
-    (c : tie.Then-is_withdrawn invariant-loop decreases-loop) (s : Asked (head c.before)) → Step s ((head c.before).loop-left.inv s) (now c.before s) 1 1
-four-here c s = at-four s ((head c.before).loop-left.inv s) (now c.before s) (sym c.before.is_withdrawn.ensures ∙ c.if-is_withdrawn.true)
+    (c : tie.Then-is_withdrawn invariant-loop decreases-loop) (s : Asked c.before.before.before.before) → Step s (c.loop-left.inv s) (now c.before s) 1 1
+four-here c s = at-four s (c.loop-left.inv s) (now c.before s) (sym c.is_withdrawn.ensures ∙ c.if-is_withdrawn.true)
 
 pub fours_of_spec : {M : Type 1} → statement M
 fours_of_spec =
@@ -58,28 +54,28 @@ fours_of_spec =
     (tie.spec
     invariant-loop
     decreases-loop
-    (λ c. let first = c.before.before.before in omega (arith, in_starts first.requires.scene))
-    (λ c. let first = c.before.before.before.before in in_starts first.requires.scene)
-    (λ c κs. let first = c.before.before.before.before in module_there first.requires.scene)
-    (λ c. let first = start c.before in omega (arith, (c.before.module_at-header.ensures _ (module_stands first.requires.scene)).body.within, first.good))
-    (λ c s. none-walked s (c.before.module_at-header.ensures _ (module_stands s.scene)))
-    (λ c κs. occurrence-there c.loop-left-test.true (c.before.loop-left.invariant (begun c.before).requires).ahead)
-    (λ c. c.before.loop-left-test.true)
+    (λ c. omega (arith, in_starts c.requires.scene))
+    (λ c. in_starts c.requires.scene)
+    (λ c κs. module_there c.requires.scene)
+    (λ c. let first = start c.before in omega (arith, (c.module_at-header.ensures _ (module_stands first.pre.scene)).body.within, first.good))
+    (λ c s. none-walked s (c.module_at-header.ensures _ (module_stands s.scene)))
+    (λ c κs. occurrence-there c.loop-left-test.true (c.loop-left.invariant (begun c.before).pre).ahead)
+    (λ c. c.loop-left-test.true)
     (λ c κs. tt)
-    (λ c. omega (arith, (four-here c (begun (head c.before)).requires).owning))
-    (λ c. omega (arith, (four-here c (begun (head c.before)).requires).fits))
+    (λ c. omega (arith, (four-here c (begun c.before.before.before.before).pre).owning))
+    (λ c. omega (arith, (four-here c (begun c.before.before.before.before).pre).fits))
     (λ c. omega arith)
     (λ c s. (four-here c s).next refl refl)
     (λ c. search rules)
-    (λ c. c.before.if-o-ge16.true)
-    (λ c. omega (arith, (module_here c (begun (head (seen c))).requires).inside))
-    (λ c. (module_here c.before (begun (head (seen c.before))).requires).inside)
-    (λ c. omega (arith, (module_here c.before (begun (head (seen c.before))).requires).step.fits))
+    (λ c. c.if-o-ge16.true)
+    (λ c. omega (arith, (module_here c (begun c.before.before.before.before.before.before.before).pre).inside))
+    (λ c. (module_here c.before (begun c.before.before.before.before.before.before.before.before).pre).inside)
+    (λ c. omega (arith, (module_here c.before (begun c.before.before.before.before.before.before.before.before).pre).step.fits))
     (λ c. omega arith)
     (λ c s. (module_here c.before s).step.next (omega arith) refl)
     (λ c. omega arith)
     (λ c s.
     let told = c.before.before.before in
-    (at_other s ((head told).loop-left.invariant s) (now told s) (sym told.is_withdrawn.ensures ∙ c.before.before.if-is_withdrawn.false) c.if-o-ge16.false).next
+    (at_other s ((head told).loop.invariant s) (now told s) (sym told.is-withdrawn.ensures ∙ c.before.before.if1.false) c.if2.false).next
     (omega arith) (omega arith))
-    (λ c s. all-walked s (omega (arith, c.loop-left-test.false)) (c.before.loop-left.invariant s)))
+    (λ c s. all-walked s (omega (arith, c.loop-left-test.false)) (c.loop-left.invariant s)))

@@ -12,4 +12,4 @@ is_withdrawn_spec =
     (λ c. rw c.if-number-eq4.true)
     (λ c. rw c.if-number-eq7.true)
     (λ c. rw c.if-number-eq12.true)
-    (λ c. rw (ne_eqb _ 4 c.before.before.if-number-eq4.false, ne_eqb _ 7 c.before.if-number-eq7.false, ne_eqb _ 12 c.if-number-eq12.false)))
+    (λ c. rw (ne_eqb _ 4 c.if-number-eq4.false, ne_eqb _ 7 c.if-number-eq7.false, ne_eqb _ 12 c.if-number-eq12.false)))

@@ -20,27 +20,23 @@ decreases-loop row out₀ from i₀ out i = length row - i
 loop-holds : tie.Need-loop-i-init invariant-loop decreases-loop
 loop-holds c = rw (add-zero c.args.from) (row-begin digit c.args.row.now c.args.out.now c.args.from (omega (arith, c.requires)))
 
--- The place of the next digit, and that of the line feed, are inside.
-abbrev turn : tie.After-shared_slice_known-1 invariant-loop decreases-loop → tie.At-loop-i invariant-loop decreases-loop
-turn c = c.before.before
-
 inside : tie.Need-bounds-out-from invariant-loop decreases-loop
-inside c = omega (arith, (turn c).before.requires, put-length (turn c).loop-i.invariant.down)
+inside c = omega (arith, c.requires, put-length c.loop-i.invariant.down)
 
 loop-again : tie.Need-loop-i-preserved invariant-loop decreases-loop
 loop-again c =
-    let a = (turn c).before.args in
-    let l = (turn c).loop-i in
+    let a = c.args in
+    let l = c.loop-i in
     rw (← add_assoc a.from l.i 1)
-    (row_more l.inv c.before.loop-i-test.true (put_byte _ l.out (a.from + l.i) (inside c)))
+    (row_more l.inv c.loop-i-test.true (put_byte _ l.out (a.from + l.i) (inside c)))
 
 end-inside : tie.Need-bounds-out-end invariant-loop decreases-loop
-end-inside c = omega (arith, c.before.before.requires, put-length c.before.loop-i.invariant.down, c.before.loop-i.invariant.passed)
+end-inside c = omega (arith, c.requires, put-length c.loop-i.invariant.down, c.loop-i.invariant.passed)
 
 whole : tie.Need-returns invariant-loop decreases-loop
 unfolding line_text
 whole c =
-    put-after (row-end c.before.loop-i.invariant c.loop-i-test.false) (put_byte line_feed c.before.loop-i.out _ (end-inside c))
+    put-after (row-end c.loop-i.invariant c.loop-i-test.false) (put_byte line_feed c.loop-i.out _ (end-inside c))
 
 pub put_line_spec : {M : Type 1} → statement M
 put_line_spec =

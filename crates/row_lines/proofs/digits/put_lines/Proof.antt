@@ -12,33 +12,25 @@ invariant-loop values rows outputs out₀ at₀ from₀ row₀ out at from row =
 abbrev decreases-loop : tie.decreases-loop-row
 decreases-loop values rows outputs out₀ at₀ from₀ row₀ out at from row = rows - row
 
--- Where a line is put, and the loop's turn around it.
-abbrev putting : tie.After-put_line-at invariant-loop decreases-loop → tie.Else-out-at invariant-loop decreases-loop
-putting c = c.before.before.before
-
 abbrev turn : tie.Else-out-at invariant-loop decreases-loop → tie.In-loop-row invariant-loop decreases-loop
 turn c = c.before.before
 
 -- The next row's values are there, and the line's room.
 inside : tie.Need-slice_bounds-put_line-end invariant-loop decreases-loop
-inside c = omega (arith, (turn c).before.loop-row.invariant.inside, c.before.if-values-from.false)
+inside c = omega (arith, c.loop-row.invariant.inside, c.if-values-from.false)
 
 room : (c : tie.After-put_line-arg-in-loop-row-1 invariant-loop decreases-loop)
-    → let e = c.before.before in
-    let l = (turn e).before.loop-row in
-    let s = (turn e).before.before.before.before.args in
-    l.at + length (take (l.from + s.outputs - l.from) (drop l.from s.values.now)) < length l.out-1
+    → let l = c.loop-row in
+    let s = c.args in
+    l.at + length (take (l.from + s.outputs - l.from) (drop l.from s.values.now)) < length l.out
 room c =
-    let e = c.before.before in
-    let l = (turn e).before.loop-row in
-    let s = (turn e).before.before.before.before.args in
-    omega (arith, e.if-out-at.false, l.inv.room-is, length-take (l.from + s.outputs - l.from) (drop l.from s.values.now))
+    let l = c.loop-row in
+    let s = c.args in
+    omega (arith, c.if-out-at.false, l.inv.room-is, length-take (l.from + s.outputs - l.from) (drop l.from s.values.now))
 
 loop-again : tie.Need-loop-row-preserved invariant-loop decreases-loop
 loop-again c =
-    let p = c.before.before in
-    let e = putting p in
-    lays_more (turn e).before.loop-row.inv (turn e).loop-row-test.taken e.before.if-values-from.left e.if-out-at.left p.put_line-at.ensures
+    lays_more c.loop-row.inv c.loop-row-test.taken c.if-values-from.left c.if-out-at.left c.put_line-at.ensures
 
 pub put_lines_spec : {M : Type 1} → statement M
 put_lines_spec =
@@ -47,12 +39,12 @@ put_lines_spec =
     invariant-loop
     decreases-loop
     (λ c. lays-begin _ _ _ _)
-    (λ c. c.before.loop-row.invariant.inside)
-    (λ c. c.before.before.loop-row.invariant.goes.same)
-    (λ c. lays_no_values c.before.before.loop-row.invariant c.if-values-from.true)
-    (λ c. omega (arith, c.before.before.loop-row.invariant.room-is))
-    (λ c. c.before.before.before.loop-row.invariant.goes.same)
-    (λ c. lays_no_room c.before.before.before.loop-row.invariant c.if-out-at.true)
+    (λ c. c.loop-row.invariant.inside)
+    (λ c. c.loop-row.invariant.goes.same)
+    (λ c. lays_no_values c.loop-row.invariant c.if-values-from.true)
+    (λ c. omega (arith, c.loop-row.invariant.room-is))
+    (λ c. c.loop-row.invariant.goes.same)
+    (λ c. lays_no_room c.loop-row.invariant c.if-out-at.true)
     (λ c. omega (arith, inside c))
     (λ c. omega arith)
     (λ c. omega arith)
@@ -61,5 +53,5 @@ put_lines_spec =
     (λ c. omega arith)
     (λ c. omega arith)
     loop-again
-    (λ c. c.before.loop-row.invariant.goes.same)
-    (λ c. lays_all c.before.loop-row.invariant c.loop-row-test.false))
+    (λ c. c.loop-row.invariant.goes.same)
+    (λ c. lays_all c.loop-row.invariant c.loop-row-test.false))

@@ -15,13 +15,13 @@ empty [] e = refl
 empty (b ∷ line) e = absurd (omega arith)
 
 returns : tie.Need-returns-then-line-eq0
-returns c = empty c.before.args.line.now c.if-line-eq0.true
+returns c = empty c.args.line.now c.if-line-eq0.true
 
 returns-2 : tie.Need-returns-then-line-last-eq13
-returns-2 c = let l = c.before.before.before.args.line.now in rw (eq-eqb (get_or l (length l - 1) 0) carriage_return c.if-line-last-eq13.true)
+returns-2 c = let l = c.args.line.now in rw (eq-eqb (get_or l (length l - 1) 0) carriage_return c.if-line-last-eq13.true)
 
 returns-3 : tie.Need-returns
-returns-3 c = let l = c.before.before.before.args.line.now in rw (ne_eqb (get_or l (length l - 1) 0) carriage_return c.if-line-last-eq13.false)
+returns-3 c = let l = c.args.line.now in rw (ne_eqb (get_or l (length l - 1) 0) carriage_return c.if-line-last-eq13.false)
 
 pub bare_length_spec : {M : Type 1} → statement M
 bare_length_spec = tie.close (tie.spec returns (λ c. search rules) (λ c. search rules) returns-2 returns-3)

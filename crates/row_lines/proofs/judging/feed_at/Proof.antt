@@ -34,18 +34,16 @@ none text i h = ap feed_at (drop_of_length-le text h)
 
 returns : tie.Need-returns-then-text-i-eq10 invariant-loop decreases-loop
 returns c =
-    let t = c.before.before in
-    let text = t.before.before.args.text.now in
-    omega (arith, here text t.before.loop-i.i t.loop-i-test.true c.if-text-i-eq10.true)
+    let text = c.args.text.now in
+    omega (arith, here text c.loop-i.i c.loop-i-test.true c.if-text-i-eq10.true)
 
 loop-again : tie.Need-loop-i-preserved invariant-loop decreases-loop
 loop-again c =
-    let t = c.before.before in
-    let text = t.before.before.args.text.now in
-    (omega arith, omega (arith, further text t.before.loop-i.i t.loop-i-test.true c.if-text-i-eq10.false))
+    let text = c.args.text.now in
+    (omega arith, omega (arith, further text c.loop-i.i c.loop-i-test.true c.if-text-i-eq10.false))
 
 returns-2 : tie.Need-returns invariant-loop decreases-loop
-returns-2 c = omega (arith, none c.before.before.args.text.now c.before.loop-i.i c.loop-i-test.false)
+returns-2 c = omega (arith, none c.args.text.now c.loop-i.i c.loop-i-test.false)
 
 pub feed_at_spec : {M : Type 1} → statement M
 feed_at_spec =

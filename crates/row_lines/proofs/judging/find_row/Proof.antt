@@ -13,39 +13,32 @@ use Rattle.row_lines.proofs.judging.find_row.Tie as tie
 returns : tie.Need-returns-then-feed-text
 unfolding found_in
 returns c =
-    let t = c.before.before.before.args.text.now in
-    rw (eq-eqb (feed_at t) (length t) (sym c.before.feed_at-feed.ensures ∙ c.if-feed-text.true))
+    let t = c.args.text.now in
+    rw (eq-eqb (feed_at t) (length t) (sym c.feed_at-feed.ensures ∙ c.if-feed-text.true))
 
 line-long : tie.Need-slice_bounds-bare_length-end
 line-long c =
-    let feed = c.before.before in
-    let t = feed.before.before.args.text.now in
-    sym (length-take-le feed.feed_at-feed.result t (omega (arith, feed.feed_at-feed.ensures, feed-within t)))
+    let t = c.args.text.now in
+    sym (length-take-le c.feed_at-feed.result t (omega (arith, c.feed_at-feed.ensures, feed-within t)))
 
 word-long : tie.Need-slice_bounds-judge-end
 word-long c =
-    let line = c.before.before in
-    let feed = line.before.before in
-    let t = feed.before.before.args.text.now in
+    let t = c.args.text.now in
     sym
-    (length-take-le c.before.bare_length-bare.result t
-    (omega (arith, c.before.bare_length-bare.ensures, bare-within (take feed.feed_at-feed.result t), line-long line, feed.feed_at-feed.ensures, feed-within t)))
+    (length-take-le c.bare_length-bare.result t
+    (omega (arith, c.bare_length-bare.ensures, bare-within (take c.feed_at-feed.result t), line-long c.before, c.feed_at-feed.ensures, feed-within t)))
 
 one_more : tie.Need-overflow_add-feed
 one_more c =
-    let feed = c.before.before.before.before in
-    let t = feed.before.before.args.text.now in
-    omega (arith, c.before.before.before.if-feed-text.false, feed.feed_at-feed.ensures, feed-within t)
+    let t = c.args.text.now in
+    omega (arith, c.if-feed-text.false, c.feed_at-feed.ensures, feed-within t)
 
 returns-2 : tie.Need-returns
 returns-2 c =
-    let bare = c.before.before in
-    let feed = bare.before.before.before in
-    let s = feed.before.before in
-    found-there s.args.inputs s.args.text.now feed.feed_at-feed.result bare.bare_length-bare.result c.judge.result
-    feed.feed_at-feed.ensures
-    bare.before.before.if-feed-text.false
-    bare.bare_length-bare.ensures
+    found-there c.args.inputs c.args.text.now c.feed_at-feed.result c.bare_length-bare.result c.judge.result
+    c.feed_at-feed.ensures
+    c.if-feed-text.false
+    c.bare_length-bare.ensures
     c.judge.ensures
 
 pub find_row_spec : {M : Type 1} → statement M

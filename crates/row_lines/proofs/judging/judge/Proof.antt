@@ -11,30 +11,25 @@ use Rattle.row_lines.proofs.judging.judge.Tie as tie
 returns : tie.Need-returns-then-other-word
 unfolding judged
 returns c =
-    let s = c.before.before.before in
-    let w = s.args.word.now in
-    let found = c.before.first_other-other.ensures in
+    let w = c.args.word.now in
+    let found = c.first_other-other.ensures in
     rw (ne_eqb (first_other w) (length w) (λ e. c.if-other-word.true (found ∙ e)), found)
 
 -- Every byte belongs there.
-belong : (c : tie.After-count_values-values) → first_other c.before.before.before.before.args.word.now ≡ length c.before.before.before.before.args.word.now
-belong c = sym c.before.before.first_other-other.ensures ∙ c.before.if-other-word.false
+belong : (c : tie.After-count_values-values) → first_other c.args.word.now ≡ length c.args.word.now
+belong c = sym c.first_other-other.ensures ∙ c.if-other-word.false
 
 returns-2 : tie.Need-returns-then-values-inputs
 unfolding judged
 returns-2 c =
-    let k = c.before in
-    let s = k.before.before.before.before in
-    let w = s.args.word.now in
-    rw (eq-eqb (first_other w) (length w) (belong k), ne_eqb (length (values_of w)) s.args.inputs (λ e. c.if-values-inputs.true (k.count_values-values.ensures ∙ e)), k.count_values-values.ensures)
+    let w = c.args.word.now in
+    rw (eq-eqb (first_other w) (length w) (belong c.before), ne_eqb (length (values_of w)) c.args.inputs (λ e. c.if-values-inputs.true (c.count_values-values.ensures ∙ e)), c.count_values-values.ensures)
 
 returns-3 : tie.Need-returns
 unfolding judged
 returns-3 c =
-    let k = c.before in
-    let s = k.before.before.before.before in
-    let w = s.args.word.now in
-    rw (eq-eqb (first_other w) (length w) (belong k), eq-eqb (length (values_of w)) s.args.inputs (sym k.count_values-values.ensures ∙ c.if-values-inputs.false))
+    let w = c.args.word.now in
+    rw (eq-eqb (first_other w) (length w) (belong c.before), eq-eqb (length (values_of w)) c.args.inputs (sym c.count_values-values.ensures ∙ c.if-values-inputs.false))
 
 pub judge_spec : {M : Type 1} → statement M
 judge_spec = tie.close (tie.spec (λ c κs. search rules) returns (λ c κs. search rules) returns-2 returns-3)

@@ -19,54 +19,44 @@ decreases-loop text most inputs values₀ rows₀ given₀ next₀ values rows g
 
 -- Where a line was looked for, and the loop and the entry in front of it.
 abbrev looked : tie.In-Row invariant-loop decreases-loop → tie.After-find_row invariant-loop decreases-loop
-looked c = c.before.before.before
-
-abbrev turn : tie.After-find_row invariant-loop decreases-loop → tie.In-loop-rows invariant-loop decreases-loop
-turn c = c.before.before.before
+looked c = c.before
 
 abbrev entry : tie.In-loop-rows invariant-loop decreases-loop → tie.Start invariant-loop decreases-loop
 entry c = c.before.before.before.before
 
 -- What was found stands at the place where the text goes on.
 found_here : (c : tie.After-find_row invariant-loop decreases-loop)
-    → let s = (entry (turn c)).args in
-    c.find_row.result ≡ found_in s.inputs (drop (turn c).before.loop-rows.next s.text.now)
+    → let s = c.args in
+    c.find_row.result ≡ found_in s.inputs (drop c.loop-rows.next s.text.now)
 found_here c =
-    let s = (entry (turn c)).args in
-    c.find_row.ensures ∙ ap (found_in s.inputs) (part_to_end s.text.now (turn c).before.loop-rows.next)
+    let s = c.args in
+    c.find_row.ensures ∙ ap (found_in s.inputs) (part_to_end s.text.now c.loop-rows.next)
 
 row : (c : tie.In-Row invariant-loop decreases-loop)
-    → let s = (entry (turn (looked c))).args in
-    FoundRow s.inputs (drop (turn (looked c)).before.loop-rows.next s.text.now) c.before.bare-1.given.0.0 c.before.bare-1.given.0.1.0
-row c = found-row _ _ (sym (found_here (looked c)) ∙ c.before.bare-1.given.1)
+    → let s = c.args in
+    FoundRow s.inputs (drop c.loop-rows.next s.text.now) c.in-Row.bare c.in-Row.whole
+row c = found-row _ _ (sym (found_here c.before) ∙ c.in-Row.is)
 
 -- The row ends inside the text.
 end-inside : tie.Need-slice_bounds-put_at-end invariant-loop decreases-loop
 end-inside c =
-    let k = looked c in
-    let s = (entry (turn k)).args in
-    let next = (turn k).before.loop-rows.next in
-    omega (arith, (turn k).before.loop-rows.inv.inside, (row c).inside, (row c).within, length-drop next s.text.now)
+    let s = c.args in
+    let next = c.loop-rows.next in
+    omega (arith, c.loop-rows.inv.inside, (row c).inside, (row c).within, length-drop next s.text.now)
 
 next-inside : (c : tie.In-Row invariant-loop decreases-loop)
-    → (turn (looked c)).before.loop-rows.next + c.before.bare-1.given.0.1.0 ≤ length (entry (turn (looked c))).args.text.now
+    → c.loop-rows.next + c.in-Row.whole ≤ length c.args.text.now
 next-inside c =
-    let k = looked c in
-    let s = (entry (turn k)).args in
-    omega (arith, (turn k).before.loop-rows.inv.inside, (row c).within, length-drop (turn k).before.loop-rows.next s.text.now)
+    let s = c.args in
+    omega (arith, c.loop-rows.inv.inside, (row c).within, length-drop c.loop-rows.next s.text.now)
 
 loop-again : tie.Need-loop-rows-preserved invariant-loop decreases-loop
 loop-again c =
-    let put = c.before.before in
-    let r = put.before.before.before in
-    let t = turn (looked r) in
-    taking-row t.before.loop-rows.inv t.loop-rows-test.taken (looked r).before.before.if-values-given.false (row r) put.put_at-given.ensures
+    taking-row c.loop-rows.inv c.loop-rows-test.taken c.if-values-given.false (row c.before.before.before.before.before) c.put_at-given.ensures
 
 returns : tie.Need-returns-in-Stop invariant-loop decreases-loop
 returns c =
-    let k = c.before.before.before in
-    let t = turn k in
-    taking-found t.before.loop-rows.inv t.loop-rows-test.taken k.before.before.if-values-given.false (sym (found_here k) ∙ c.before.line-1.given.1)
+    taking-found c.loop-rows.inv c.loop-rows-test.taken c.if-values-given.false (sym (found_here c.before) ∙ c.in-Stop.is)
 
 pub take_rows_spec : {M : Type 1} → statement M
 take_rows_spec =
@@ -75,9 +65,9 @@ take_rows_spec =
     invariant-loop
     decreases-loop
     (λ c. taking-begin _ _ _ _)
-    (λ c. omega (arith, c.before.loop-rows.invariant.room-is))
-    (λ c. c.before.before.loop-rows.invariant.inside)
-    (λ c. c.before.before.loop-rows.invariant.inside)
+    (λ c. omega (arith, c.loop-rows.invariant.room-is))
+    (λ c. c.loop-rows.invariant.inside)
+    (λ c. c.loop-rows.invariant.inside)
     (λ c. omega arith)
     (λ c κs. search rules)
     (λ c. search rules)
@@ -85,15 +75,15 @@ take_rows_spec =
     (λ c. omega arith)
     (λ c. omega arith)
     end-inside
-    (λ c κs. omega (arith, (turn (looked c.before.before)).before.loop-rows.inv.room-is))
+    (λ c κs. omega (arith, c.loop-rows.inv.room-is))
     (λ c. omega (arith, next-inside c.before.before.before.before.before))
     (λ c. omega arith)
     (λ c. omega arith)
     loop-again
     (λ c. search rules)
-    (λ c. (turn c.before.before.before).before.loop-rows.inv.goes.same)
+    (λ c. c.loop-rows.inv.goes.same)
     returns
-    (λ c. c.before.loop-rows.invariant.goes.same)
-    (λ c. taking-all c.before.loop-rows.invariant c.loop-rows-test.false)
-    (λ c. c.before.before.loop-rows.invariant.goes.same)
-    (λ c. taking-full c.before.before.loop-rows.invariant c.if-values-given.true))
+    (λ c. c.loop-rows.invariant.goes.same)
+    (λ c. taking-all c.loop-rows.invariant c.loop-rows-test.false)
+    (λ c. c.loop-rows.invariant.goes.same)
+    (λ c. taking-full c.loop-rows.invariant c.if-values-given.true))

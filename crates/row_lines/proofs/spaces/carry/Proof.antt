@@ -62,24 +62,19 @@ module _ (from to : ℕ) (text : List ℕ) where
   unfolding moved
   there h g = rw (le-leb from to h, le-leb to (length text) g)
 
-abbrev turn : tie.After-slice_known-1 invariant-loop decreases-loop → tie.In-loop-i invariant-loop decreases-loop
-turn c = c.before
-
 inside : tie.Need-bounds-text-from invariant-loop decreases-loop
-inside c = omega (arith, put-length (turn c).before.loop-i.invariant.1)
+inside c = omega (arith, put-length c.loop-i.invariant.1)
 
 loop-again : tie.Need-loop-i-preserved invariant-loop decreases-loop
 loop-again c =
-    let l = (turn c).before.loop-i in
-    let s = (turn c).before.before.before.before in
-    (omega arith, moved_more s.args.text.now l.text s.args.from l.i (omega (arith, inside c, put-length l.inv.1)) l.inv.1)
+    let l = c.loop-i in
+    (omega arith, moved_more c.args.text.now l.text c.args.from l.i (omega (arith, inside c, put-length l.inv.1)) l.inv.1)
 
 returns-3 : tie.Need-returns invariant-loop decreases-loop
 returns-3 c =
-    let l = c.before.loop-i in
-    let s = c.before.before.before.before in
-    let all : l.i ≡ s.args.to - s.args.from = omega arith in
-    rw (there s.args.from s.args.to s.args.text.now (omega arith) (omega arith)) (rw all at l.invariant.1)
+    let l = c.loop-i in
+    let all : l.i ≡ c.args.to - c.args.from = omega arith in
+    rw (there c.args.from c.args.to c.args.text.now (omega arith) (omega arith)) (rw all at l.invariant.1)
 
 pub carry_spec : {M : Type 1} → statement M
 carry_spec =
@@ -92,9 +87,9 @@ carry_spec =
     (λ c. (omega arith, put-nothing _ 0 (omega arith)))
     (λ c. omega arith)
     inside
-    (λ c. omega (arith, put-length (turn c).before.loop-i.invariant.1))
+    (λ c. omega (arith, put-length c.loop-i.invariant.1))
     (λ c. omega arith)
     (λ c. omega arith)
     loop-again
-    (λ c. put-length c.before.loop-i.invariant.1)
+    (λ c. put-length c.loop-i.invariant.1)
     returns-3)

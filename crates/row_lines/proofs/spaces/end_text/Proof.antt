@@ -36,11 +36,10 @@ module _ (filled : ℕ) (text : List ℕ) where
 
 returns-4 : tie.Need-returns
 returns-4 c =
-    let s = c.before.before.before.before in
-    let f = s.args.filled in
-    let t = s.args.text.now in
-    let e = open-ended f t c.before.before.before.if-filled-eq0.false c.before.before.if-text-filled.false c.if-text-last-eq10.false in
-    (omega (arith, ap length e), set-laid t f line_feed c.before.before.if-text-filled.false ∙ ap (laid t f) (sym e))
+    let f = c.args.filled in
+    let t = c.args.text.now in
+    let e = open-ended f t c.if-filled-eq0.false c.if-text-filled.false c.if-text-last-eq10.false in
+    (omega (arith, ap length e), set-laid t f line_feed c.if-text-filled.false ∙ ap (laid t f) (sym e))
 
 pub end_text_spec : {M : Type 1} → statement M
 end_text_spec =

@@ -17,27 +17,22 @@ invariant-loop word values₀ i₀ values i =
 abbrev decreases-loop : tie.decreases-loop-i
 decreases-loop word values₀ i₀ values i = length word - i
 
-abbrev turn : tie.After-mark_of invariant-loop decreases-loop → tie.In-loop-i invariant-loop decreases-loop
-turn c = c.before.before
-
 loop-again : tie.Need-loop-i-preserved invariant-loop decreases-loop
 loop-again c =
-    let k = c.before in
-    let t = turn k in
-    let l = t.before.loop-i in
-    let w = t.before.before.before.args.word.now in
+    let l = c.loop-i in
+    let w = c.args.word.now in
     ⊎_elim
     (λ a.
-    let one = value-here w l.i t.loop-i-test.taken (omega (arith, k.mark_of.ensures, a.0.taken)) in
+    let one = value-here w l.i c.loop-i-test.taken (omega (arith, c.mark_of.ensures, a.0.taken)) in
     (omega arith, omega (arith, a.1), omega (arith, a.1, ap length one)))
     (λ a.
-    let none = no_value-here w l.i t.loop-i-test.taken (omega (arith, k.mark_of.ensures, a.0.left)) in
+    let none = no_value-here w l.i c.loop-i-test.taken (omega (arith, c.mark_of.ensures, a.0.left)) in
     (omega arith, omega (arith, a.1), omega (arith, a.1, ap length none)))
     c.if-mark_of-lt-GAP.branch
 
 returns : tie.Need-returns invariant-loop decreases-loop
 returns c =
-    let none = no_values c.before.before.before.args.word.now c.before.loop-i.i c.loop-i-test.false in
+    let none = no_values c.args.word.now c.loop-i.i c.loop-i-test.false in
     omega (arith, ap length none)
 
 pub count_values_spec : {M : Type 1} → statement M

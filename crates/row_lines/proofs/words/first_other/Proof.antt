@@ -31,24 +31,19 @@ none : (word : List ℕ) (i : ℕ) → length word ≤ i → first_other (drop i
 unfolding first_other
 none word i h = ap first_other (drop_of_length-le word h)
 
-abbrev turn : tie.After-mark_of invariant-loop decreases-loop → tie.In-loop-i invariant-loop decreases-loop
-turn c = c.before.before
-
 returns : tie.Need-returns-then-mark_of-eq-OTHER invariant-loop decreases-loop
 returns c =
-    let t = turn c.before in
-    let w = t.before.before.before.args.word.now in
-    omega (arith, t.before.loop-i.inv.1, here w t.before.loop-i.i t.loop-i-test.taken (sym c.before.mark_of.ensures ∙ c.if-mark_of-eq-OTHER.true))
+    let w = c.args.word.now in
+    omega (arith, c.loop-i.inv.1, here w c.loop-i.i c.loop-i-test.taken (sym c.mark_of.ensures ∙ c.if-mark_of-eq-OTHER.true))
 
 loop-again : tie.Need-loop-i-preserved invariant-loop decreases-loop
 loop-again c =
-    let t = turn c.before in
-    let w = t.before.before.before.args.word.now in
-    let rest = further w t.before.loop-i.i t.loop-i-test.taken (λ e. c.if-mark_of-eq-OTHER.false (c.before.mark_of.ensures ∙ e)) in
-    (omega arith, omega (arith, t.before.loop-i.inv.1, rest))
+    let w = c.args.word.now in
+    let rest = further w c.loop-i.i c.loop-i-test.taken (λ e. c.if-mark_of-eq-OTHER.false (c.mark_of.ensures ∙ e)) in
+    (omega arith, omega (arith, c.loop-i.inv.1, rest))
 
 returns-2 : tie.Need-returns invariant-loop decreases-loop
-returns-2 c = omega (arith, none c.before.before.before.args.word.now c.before.loop-i.i c.loop-i-test.false)
+returns-2 c = omega (arith, none c.args.word.now c.loop-i.i c.loop-i-test.false)
 
 pub first_other_spec : {M : Type 1} → statement M
 first_other_spec =

@@ -22,29 +22,29 @@ module _ (b : ℕ) (no_digit : (leb 48 b && leb b 57) ≡ false) where
 
 returns : tie.Need-returns-in-88
 unfolding mark_of
-returns c = ⊎_elim (λ e. rw e) (λ e. rw e) c.in-88.keys1
+returns c = ⊎_elim (λ e. rw e) (λ e. rw e) c.in-88.is
 
 returns-2 : tie.Need-returns-in-90
 unfolding mark_of
-returns-2 c = ⊎_elim (λ e. rw e) (λ e. rw e) c.in-90.keys2
+returns-2 c = ⊎_elim (λ e. rw e) (λ e. rw e) c.in-90.is
 
 returns-3 : tie.Need-returns-in-95
 unfolding mark_of
-returns-3 c = rw c.in-95.keys3
+returns-3 c = rw c.in-95.is
 
 returns-4 : tie.Need-returns-in-48-to-57
-returns-4 c = sym (digit _ c.before.if-byte-lt48.false c.if-byte-lt58.true)
+returns-4 c = sym (digit _ c.if-byte-lt48.false c.in-48-to-57.if-byte-lt58-own.true)
 
 returns-5 : tie.Need-returns-in_default
 returns-5 c =
-    let b = c.before.before.args.byte in
-    none b (rw (lt-leb 48 b c.if-byte-lt48.true)) (λ e. omega arith) (λ e. omega arith) (λ e. omega arith) (λ e. omega arith) (λ e. omega arith)
+    let b = c.args.byte in
+    none b (rw (lt-leb 48 b c.in_default.if-byte-lt48-own.true)) (λ e. omega arith) (λ e. omega arith) (λ e. omega arith) (λ e. omega arith) (λ e. omega arith)
 
 returns-6 : tie.Need-returns-in_default-2
 returns-6 c =
-    let b = c.before.before.before.args.byte in
-    let r = c.before.before.in_default-1.rest in
-    none b (rw (lt-leb b 57 c.if-byte-lt58.false) (and-false (leb 48 b)))
+    let b = c.args.byte in
+    let r = c.in_default-1.rest in
+    none b (rw (lt-leb b 57 c.in_default.if-byte-lt58-own.false) (and-false (leb 48 b)))
     (λ e. r.0.0.1 (inl e))
     (λ e. r.0.0.1 (inr e))
     (λ e. r.0.1 (inl e))

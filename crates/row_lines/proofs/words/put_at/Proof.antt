@@ -52,56 +52,47 @@ invariant-loop word values₀ from at₀ i₀ values at i = Puts word values₀ 
 abbrev decreases-loop : tie.decreases-loop-i
 decreases-loop word values₀ from at₀ i₀ values at i = length word - i
 
-abbrev turn : tie.After-mark_of-mark invariant-loop decreases-loop → tie.In-loop-i invariant-loop decreases-loop
-turn c = c.before.before
-
-abbrev entry : tie.In-loop-i invariant-loop decreases-loop → tie.Start invariant-loop decreases-loop
-entry t = t.before.before.before.before
-
 loop-holds : tie.Need-loop-i-init invariant-loop decreases-loop
 loop-holds c =
-    let s = c.before.before in
     record {
       passed = omega arith;
-      inside = s.requires;
-      goes = goes-begin _ _ _ (fitting-fits s.args.values.now s.args.from (values_of s.args.word.now) s.requires);
+      inside = c.requires;
+      goes = goes-begin _ _ _ (fitting-fits c.args.values.now c.args.from (values_of c.args.word.now) c.requires);
     }
 
 -- There is room for another value.
 room : tie.Need-bounds-values-at invariant-loop decreases-loop
-room c = let h = (turn c.before.before).before.loop-i.inv.inside in omega (arith, c.if-at-values.false)
+room c = let h = c.loop-i.inv.inside in omega (arith, c.if-at-values.false)
 
 loop-again : tie.Need-loop-i-preserved invariant-loop decreases-loop
 loop-again c =
-    let k = c.before in
-    let t = turn k in
-    let l = t.before.loop-i in
-    let w = (entry t).args.word.now in
+    let l = c.loop-i in
+    let w = c.args.word.now in
     ⊎_elim
     (λ a.
-    let one = value-here w l.i t.loop-i-test.taken (omega (arith, k.mark_of-mark.ensures, a.0.taken)) in
-    puts-value l.inv t.loop-i-test.taken
-    (one ∙ ap (λ (m : ℕ). m ∷ values_of (drop (l.i + 1) w)) (sym k.mark_of-mark.ensures))
+    let one = value-here w l.i c.loop-i-test.taken (omega (arith, c.mark_of-mark.ensures, a.0.taken)) in
+    puts-value l.inv c.loop-i-test.taken
+    (one ∙ ap (λ (m : ℕ). m ∷ values_of (drop (l.i + 1) w)) (sym c.mark_of-mark.ensures))
     a.1.left
     a.2
     a.3)
     (λ a.
-    let none = no_value-here w l.i t.loop-i-test.taken (omega (arith, k.mark_of-mark.ensures, a.0.left)) in
-    puts_none l.inv t.loop-i-test.taken none a.1 a.2)
+    let none = no_value-here w l.i c.loop-i-test.taken (omega (arith, c.mark_of-mark.ensures, a.0.left)) in
+    puts_none l.inv c.loop-i-test.taken none a.1 a.2)
     c.if-mark-lt-GAP.branch
 
 same_length : tie.Need-shape_of-values-then-at-values invariant-loop decreases-loop
-same_length c = (turn c.before.before).before.loop-i.inv.goes.same
+same_length c = c.loop-i.inv.goes.same
 
 returns : tie.Need-returns-then-at-values invariant-loop decreases-loop
 returns c =
-    let l = (turn c.before.before).before.loop-i in
+    let l = c.loop-i in
     goes_end (fitting-full l.values l.at _ c.if-at-values.true) l.inv.goes
 
 returns-2 : tie.Need-returns invariant-loop decreases-loop
 returns-2 c =
-    let l = c.before.loop-i in
-    let w = c.before.before.before.before.args.word.now in
+    let l = c.loop-i in
+    let w = c.args.word.now in
     goes_end (fitting-none l.values l.at (no_values w l.i c.loop-i-test.false)) l.invariant.goes
 
 pub put_at_spec : {M : Type 1} → statement M
@@ -120,5 +111,5 @@ put_at_spec =
     (λ c. omega arith)
     (λ c. omega arith)
     loop-again
-    (λ c. c.before.loop-i.invariant.goes.same)
+    (λ c. c.loop-i.invariant.goes.same)
     returns-2)

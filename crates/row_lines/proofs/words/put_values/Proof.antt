@@ -9,9 +9,8 @@ use Rattle.row_lines.proofs.words.put_values.Tie as tie
 
 returns : tie.Need-returns
 returns c =
-    let put = c.before.before in
-    let all : length put.before.before.before.before.args.values-1.now - 0 ≡ length put.before.before.before.before.args.values-1.now = omega arith in
-    rw all at put.put_at.ensures
+    let all : length c.args.values.now - 0 ≡ length c.args.values.now = omega arith in
+    rw all at c.put_at.ensures
 
 pub put_values_spec : {M : Type 1} → statement M
 put_values_spec = tie.close (tie.spec (λ c κs. search rules) (λ c. search rules) returns)

@@ -18,65 +18,54 @@ decreases-loop image from to scratch out₀ count i₀ out i = count - i
 
 loop-holds : tie.Need-loop-i-init invariant-loop decreases-loop
 loop-holds c =
-    let a = c.before.before.before.args in
+    let a = c.args in
     front-none (values_at 0 a.image.now a.from a.to 0 a.scratch.now) a.out.now
 
--- Where the function began, from a turn of its loop.
-abbrev start : tie.At-loop-i invariant-loop decreases-loop → tie.Start invariant-loop decreases-loop
-start c = c.before.before.before.before
-
 entry-requires : tie.Need-entry-requires invariant-loop decreases-loop
-entry-requires c κs = omega (arith, (start c.before).requires.readable.inside)
+entry-requires c κs = omega (arith, c.requires.readable.inside)
 
 -- The slot is one of scratch,
-slot-inside : (c : tie.After-entry invariant-loop decreases-loop) → c.entry.result < length (start c.before.before).args.scratch.now
+slot-inside : (c : tie.After-entry invariant-loop decreases-loop) → c.entry.result < length c.args.scratch.now
 slot-inside c =
-    let from = start c.before.before in
     omega
-    (arith, c.entry.ensures, from.requires.readable.slots (from.args.from + c.before.before.loop-i.i) (omega arith) (omega (arith, c.before.loop-i-test.true)))
+    (arith, c.entry.ensures, c.requires.readable.slots (c.args.from + c.loop-i.i) (omega arith) (omega (arith, c.loop-i-test.true)))
 
 -- and its value the one whose turn it is.
 value :
     (c : tie.After-entry invariant-loop decreases-loop)
-    → let a = (start c.before.before).args in
-    get_or a.scratch.now c.entry.result 0 ≡ get_or (values_at 0 a.image.now a.from a.to 0 a.scratch.now) c.before.before.loop-i.i 0
+    → let a = c.args in
+    get_or a.scratch.now c.entry.result 0 ≡ get_or (values_at 0 a.image.now a.from a.to 0 a.scratch.now) c.loop-i.i 0
 value c =
-    let from = start c.before.before in
-    let a = from.args in
+    let a = c.args in
     ap (λ (slot : ℕ). get_or a.scratch.now slot 0) c.entry.ensures
-    ∙ sym (value-at 0 a.image.now a.from a.to a.scratch.now c.before.before.loop-i.i c.before.loop-i-test.true from.requires.readable.inside)
+    ∙ sym (value-at 0 a.image.now a.from a.to a.scratch.now c.loop-i.i c.loop-i-test.true c.requires.readable.inside)
 
 -- There are as many values as places.
 all-values :
     (c : tie.At-loop-i invariant-loop decreases-loop)
-    → let a = (start c).args in
+    → let a = c.args in
     length (values_at 0 a.image.now a.from a.to 0 a.scratch.now) ≡ a.to - a.from
 all-values c =
-    let from = start c in
-    let a = from.args in
-    length-of-values 0 a.image.now a.from a.to 0 a.scratch.now from.requires.readable.inside
+    let a = c.args in
+    length-of-values 0 a.image.now a.from a.to 0 a.scratch.now c.requires.readable.inside
 
 cast-out : tie.Need-overflow_cast-out invariant-loop decreases-loop
 cast-out c =
-    let turn = c.before in
-    let from = start turn.before.before in
-    let i = turn.before.before.loop-i.i in
+    let i = c.loop-i.i in
     omega
-    (arith, value turn, all-at from.requires.bytes i 0 (omega (arith, all-values turn.before.before, turn.before.loop-i-test.true)))
+    (arith, value c.before, all-at c.requires.bytes i 0 (omega (arith, all-values c.before.before.before, c.loop-i-test.true)))
 
 slice-write-out : tie.Need-bounds-out-i invariant-loop decreases-loop
 slice-write-out c =
-    let head = c.before.before.before in
-    omega (arith, head.loop-i.invariant.size, head.before.before.before.before.requires.room, c.before.before.loop-i-test.true)
+    omega (arith, c.loop-i.invariant.size, c.requires.room, c.loop-i-test.true)
 
 loop-again : tie.Need-loop-i-preserved invariant-loop decreases-loop
 loop-again c =
-    let head = c.before.before.before in
-    let taken = c.before.before.loop-i-test.true in
-    front-more head.loop-i.invariant (omega (arith, all-values head, taken)) (omega (arith, head.before.before.before.before.requires.room, taken)) (value c.before)
+    let taken = c.loop-i-test.true in
+    front-more c.loop-i.invariant (omega (arith, all-values c.before.before.before, taken)) (omega (arith, c.requires.room, taken)) (value c.before)
 
 returns : tie.Need-returns invariant-loop decreases-loop
-returns c = front-all c.before.loop-i.invariant (omega (arith, all-values c.before, c.loop-i-test.false))
+returns c = front-all c.loop-i.invariant (omega (arith, all-values c.before, c.loop-i-test.false))
 
 pub give_spec : {M : Type 1} → statement M
 give_spec =
@@ -84,9 +73,9 @@ give_spec =
     (tie.spec
     invariant-loop
     decreases-loop
-    (λ c. c.before.before.before.requires.readable.ordered)
+    (λ c. c.requires.readable.ordered)
     loop-holds
-    (λ c. omega (arith, (start c.before).fits))
+    (λ c. omega (arith, c.before.before.before.before.before.fits))
     entry-requires
     (λ c. let h = slot-inside c in omega arith)
     (λ c. slot-inside c.before)
@@ -95,5 +84,5 @@ give_spec =
     (λ c. omega arith)
     (λ c. omega arith)
     loop-again
-    (λ c. c.before.loop-i.invariant.size)
+    (λ c. c.loop-i.invariant.size)
     returns)

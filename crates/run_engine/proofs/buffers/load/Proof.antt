@@ -19,31 +19,26 @@ decreases-loop values scratch₀ i₀ i-end scratch i = length values - i
 
 loop-holds : tie.Need-loop-i-init invariant-loop decreases-loop
 loop-holds c =
-    let start = c.before.before in
-    front-none (map entered start.args.values.now) start.args.scratch.now
+    front-none (map entered c.args.values.now) c.args.scratch.now
 
 -- In a turn the entry is one of scratch.
-inside : (c : tie.After-entered invariant-loop decreases-loop) → c.before.before.before.loop-i.i < length c.before.before.before.loop-i.scratch
+inside : (c : tie.After-entered invariant-loop decreases-loop) → c.loop-i.i < length c.loop-i.scratch
 inside c =
-    let turn = c.before.before in
-    omega (arith, turn.before.loop-i.invariant.size, turn.before.before.before.before.requires, turn.loop-i-test.true)
+    omega (arith, c.loop-i.invariant.size, c.requires, c.loop-i-test.true)
 
 loop-again : tie.Need-loop-i-preserved invariant-loop decreases-loop
 loop-again c =
-    let turn = c.before.before in
-    let start = turn.before.before.before.before in
-    let values = start.args.values.now in
-    front-more turn.before.loop-i.invariant (omega (arith, turn.loop-i-test.true, length-map values entered))
-    (omega (arith, start.requires, turn.loop-i-test.true))
-    (c.entered.ensures ∙ sym (entry_at values turn.before.loop-i.i))
+    let values = c.args.values.now in
+    front-more c.loop-i.invariant (omega (arith, c.loop-i-test.true, length-map values entered))
+    (omega (arith, c.requires, c.loop-i-test.true))
+    (c.entered.ensures ∙ sym (entry_at values c.loop-i.i))
 
 returns : tie.Need-returns invariant-loop decreases-loop
 returns c =
-    let start = c.before.before.before.before in
-    let values = start.args.values.now in
+    let values = c.args.values.now in
     let long = length-map values entered in
-    front-all c.before.loop-i.invariant (omega (arith, c.loop-i-test.false, long))
-    ∙ ap (λ (n : ℕ). map entered values ++ drop n start.args.scratch.now) long
+    front-all c.loop-i.invariant (omega (arith, c.loop-i-test.false, long))
+    ∙ ap (λ (n : ℕ). map entered values ++ drop n c.args.scratch.now) long
 
 pub load_spec : {M : Type 1} → statement M
 load_spec =
@@ -59,5 +54,5 @@ load_spec =
     (λ c. omega arith)
     (λ c. omega arith)
     loop-again
-    (λ c. c.before.loop-i.invariant.size)
+    (λ c. c.loop-i.invariant.size)
     returns)

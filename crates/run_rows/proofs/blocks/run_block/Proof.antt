@@ -14,10 +14,7 @@ use Rattle.run_rows.proofs.blocks.run_block.Tie as tie
 -- Where the function began, from where the header is read, and what is known of any block that is asked for there; from where the rows are
 -- packed, and from where the module has run.
 abbrev start : tie.After-module_at-header → tie.Start
-start c = let lists = c.before.before.before in lists.before.before.before.before
-
-abbrev headed : tie.After-take_block → tie.After-module_at-header
-headed c = c.before.before
+start c = c.before.before.before.before.before.before.before
 
 abbrev packed : tie.After-run_module → tie.After-take_block
 packed c = c.before.before.before
@@ -25,54 +22,44 @@ packed c = c.before.before.before
 abbrev Asked : tie.After-module_at-header → Type 0
 Asked c =
     let a = (start c).args in
-    BlockRuns a.image.now a.starts.now a.nets.now a.site a.values.now a.from a.count (length a.entries-1.now) a.at (length a.out-1.now)
+    BlockRuns a.image.now a.starts.now a.nets.now a.site a.values.now a.from a.count (length a.entries.now) a.at (length a.out.now)
 
 take-block-requires : tie.Need-take_block-requires
 take-block-requires c κs =
-    let h = c.before in
-    let b = (start h).requires in
-    packs b (h.module_at-header.ensures (scene b.standing).m (module_stands (scene b.standing))) refl
+    let b = (start c.before).requires in
+    packs b (c.module_at-header.ensures (scene b.standing).m (module_stands (scene b.standing))) refl
 
 run-module-requires : tie.Need-run_module-requires
 run-module-requires c κs =
-    let p = c.before.before in
-    let h = headed p in
-    let b = (start h).requires in
-    runs b (h.module_at-header.ensures (scene b.standing).m (module_stands (scene b.standing))) refl p.take_block.ensures
+    let b = (start c.before.before.before.before).pre in
+    runs b (c.module_at-header.ensures (scene b.standing).m (module_stands (scene b.standing))) refl c.take_block.ensures
 
 give-block-requires : tie.Need-give_block-requires
 give-block-requires c κs =
-    let ran = c.before.before.before in
-    let p = packed ran in
-    let h = headed p in
-    let b = (start h).requires in
-    let header = h.module_at-header.ensures (scene b.standing).m (module_stands (scene b.standing)) in
-    gives b header refl p.take_block.ensures (ran.run_module.ensures (runs b header refl p.take_block.ensures))
-    ran.run_module.auto.1.1.1.1.0
+    let b = (start c.before.before.before.before.before.before.before).pre in
+    let header = c.module_at-header.ensures (scene b.standing).m (module_stands (scene b.standing)) in
+    gives b header refl c.take_block.ensures (c.run_module.ensures (runs b header refl c.take_block.ensures))
+    c.run_module.auto.1.1.1.1.0
 
 returns : tie.Need-returns
 returns c b =
-    let gave = c.before.before in
-    let ran = gave.before.before.before.before in
-    let p = packed ran in
-    let h = headed p in
-    let header = h.module_at-header.ensures (scene b.standing).m (module_stands (scene b.standing)) in
-    gave.give_block.ensures
-    (gives b header refl p.take_block.ensures (ran.run_module.ensures (runs b header refl p.take_block.ensures))
-    ran.run_module.auto.1.1.1.1.0)
+    let header = c.module_at-header.ensures (scene b.standing).m (module_stands (scene b.standing)) in
+    c.give_block.ensures
+    (gives b header refl c.take_block.ensures (c.run_module.ensures (runs b header refl c.take_block.ensures))
+    c.run_module.auto.1.1.1.1.0)
 
 pub run_block_spec : {M : Type 1} → statement M
 run_block_spec =
     tie.close
     (tie.spec
-    (λ c. let lists = c.before in omega (arith, in_starts (scene lists.before.before.before.before.requires.standing)))
-    (λ c. let lists = c.before.before in in_starts (scene lists.before.before.before.before.requires.standing))
-    (λ c κs. let lists = c.before.before in module_there (scene lists.before.before.before.before.requires.standing))
+    (λ c. omega (arith, in_starts (scene c.requires.standing)))
+    (λ c. in_starts (scene c.requires.standing))
+    (λ c κs. module_there (scene c.requires.standing))
     take-block-requires
     run-module-requires
     give-block-requires
     (λ c.
     let ran = c.before.before.before.before.before.before in
-    ran.run_module.auto.1.1.1.1.0 ∙ (packed ran).take_block.ensures.size)
-    (λ c. c.before.before.give_block.auto.1.1.1.1.1.1.0)
+    ran.run-module.auto.1.1.1.1.0 ∙ (packed ran).take-block.ensures.size)
+    (λ c. c.give_block.auto.1.1.1.1.1.1.0)
     returns)

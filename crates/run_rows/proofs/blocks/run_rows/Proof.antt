@@ -32,7 +32,7 @@ decreases-loop image starts nets site rows values entries₀ out₀ k inputs out
 
 -- Where the function began, from where its header is read, and the header from a turn of its loop.
 abbrev began : tie.After-module_at-header invariant-loop decreases-loop → tie.Start invariant-loop decreases-loop
-began c = let lists = c.before.before.before in lists.before.before.before.before
+began c = c.before.before.before.before.before.before.before
 
 abbrev header : tie.At-loop-done invariant-loop decreases-loop → tie.After-module_at-header invariant-loop decreases-loop
 header c = c.before.before
@@ -40,23 +40,23 @@ header c = c.before.before
 -- What the header says of the module, in a turn.
 abbrev Asked : tie.At-loop-done invariant-loop decreases-loop → Type 0
 Asked c =
-    let a = (began (header c)).args in
-    RowsRun a.image.now a.starts.now a.nets.now a.site a.rows a.values.now (length a.entries-1.now) (length a.out-1.now)
+    let a = (began c.before.before).args in
+    RowsRun a.image.now a.starts.now a.nets.now a.site a.rows a.values.now (length a.entries.now) (length a.out.now)
 
-ins : (c : tie.At-loop-done invariant-loop decreases-loop) (s : Asked c) → (header c).module_at-header.result.inputs ≡ length s.standing.found.m.inputs
-ins c s = inputs_are s.standing (header c).module_at-header.ensures
+ins : (c : tie.At-loop-done invariant-loop decreases-loop) (s : Asked c) → c.module_at-header.result.inputs ≡ length s.standing.found.m.inputs
+ins c s = inputs_are s.standing c.module_at-header.ensures
 
 outs :
     (c : tie.At-loop-done invariant-loop decreases-loop) (s : Asked c)
-    → let h = (header c).module_at-header.result in
+    → let h = c.module_at-header.result in
     h.to - h.from ≡ length s.standing.found.m.outputs
-outs c s = omega (arith, outputs-are s.standing (header c).module_at-header.ensures)
+outs c s = omega (arith, outputs-are s.standing c.module_at-header.ensures)
 
 loop-holds : tie.Need-loop-done-init invariant-loop decreases-loop
 unfolding joined
 loop-holds c =
     let a = (began c.before).args in
-    record { until = omega arith; same = refl; size = refl; laid_so = λ s. sym (laid-nothing a.out-1.now 0) }
+    record { until = omega arith; same = refl; size = refl; laid_so = λ s. sym (laid-nothing a.out.now 0) }
 
 -- A turn once its rows are counted: there are so many, and no more than 256.
 abbrev turned : tie.After-run_block invariant-loop decreases-loop → tie.After-least-some invariant-loop decreases-loop
@@ -64,53 +64,44 @@ turned c = c.before.before.before
 
 upto :
     (c : tie.After-least-some invariant-loop decreases-loop)
-    → c.before.before.loop-done.done + c.least-some.result ≤ (began (header c.before.before)).args.rows
-upto c = omega (arith, c.least-some.ensures, c.before.loop-done-test.true)
+    → c.loop-done.done + c.least-some.result ≤ (began c.before.before.before.before).args.rows
+upto c = omega (arith, c.least-some.ensures, c.loop-done-test.true)
 
 few : (c : tie.After-least-some invariant-loop decreases-loop) → c.least-some.result ≤ 256
 few c = omega (arith, c.least-some.ensures)
 
 read-place :
     (c : tie.After-least-some invariant-loop decreases-loop)
-    → let head = c.before.before in
-    head.loop-done.done * (header head).module_at-header.result.inputs ≤ length (began (header head)).args.values.now
+    → c.loop-done.done * c.module_at-header.result.inputs ≤ length (began c.before.before.before.before).args.values.now
 read-place c =
-    let head = c.before.before in
-    let s = (began (header head)).requires in
-    omega (arith, read-there s head.loop-done.done c.least-some.result (upto c) (ins head s) (outs head s))
+    let s = (began c.before.before.before.before).pre in
+    omega (arith, read-there s c.loop-done.done c.least-some.result (upto c) (ins c.before.before s) (outs c.before.before s))
 
 write-place :
     (c : tie.After-least-some invariant-loop decreases-loop)
-    → let head = c.before.before in
-    let h = (header head).module_at-header.result in
-    head.loop-done.done * (h.to - h.from) ≤ length (began (header head)).args.out-1.now
+    → let h = c.module_at-header.result in
+    c.loop-done.done * (h.to - h.from) ≤ length (began c.before.before.before.before).args.out.now
 write-place c =
-    let head = c.before.before in
-    let s = (began (header head)).requires in
-    omega (arith, write-there s head.loop-done.done c.least-some.result (upto c) (ins head s) (outs head s))
+    let s = (began c.before.before.before.before).pre in
+    omega (arith, write-there s c.loop-done.done c.least-some.result (upto c) (ins c.before.before s) (outs c.before.before s))
 
 run-block-requires : tie.Need-run_block-requires invariant-loop decreases-loop
 run-block-requires c κs =
-    let least = c.before.before in
-    let head = least.before.before in
-    let s = (began (header head)).requires in
-    turn-runs s head.loop-done.done least.least-some.result (upto least) (ins head s) (outs head s) (few least) head.loop-done.invariant.same head.loop-done.invariant.size
+    let s = (began c.before.before.before.before.before.before).pre in
+    turn-runs s c.loop-done.done c.least-some.result (upto c.before.before) (ins c.before.before.before.before s) (outs c.before.before.before.before s) (few c.before.before) c.loop-done.invariant.same c.loop-done.invariant.size
 
 loop-again : tie.Need-loop-done-preserved invariant-loop decreases-loop
 loop-again c =
-    let ran = c.before.before.before in
-    let least = turned ran in
-    let head = least.before.before in
-    let l = head.loop-done in
-    let a = (began (header head)).args in
+    let l = c.loop-done in
+    let a = (began c.before.before.before.before.before.before.before.before.before.before).args in
     record {
-      until = upto least;
-      same = ran.run_block.auto.1.1.1.1.1.1.1.0 ∙ l.inv.same;
-      size = ran.run_block.auto.1.1.1.1.1.1.1.1.1.0 ∙ l.inv.size;
+      until = upto c.before.before.before.before.before.before;
+      same = c.run_block.auto.1.1.1.1.1.1.1.0 ∙ l.inv.same;
+      size = c.run_block.auto.1.1.1.1.1.1.1.1.1.0 ∙ l.inv.size;
       laid_so = λ s.
-          turn_more s l.done least.least-some.result (upto least) (ins head s) (outs head s) a.out-1.now refl (l.inv.laid_so s)
-          (ran.run_block.ensures
-          (turn-runs s l.done least.least-some.result (upto least) (ins head s) (outs head s) (few least) l.inv.same l.inv.size));
+          turn_more s l.done c.least-some.result (upto c.before.before.before.before.before.before) (ins c.before.before.before.before.before.before.before.before s) (outs c.before.before.before.before.before.before.before.before s) a.out.now refl (l.inv.laid_so s)
+          (c.run_block.ensures
+          (turn-runs s l.done c.least-some.result (upto c.before.before.before.before.before.before) (ins c.before.before.before.before.before.before.before.before s) (outs c.before.before.before.before.before.before.before.before s) (few c.before.before.before.before.before.before) l.inv.same l.inv.size));
     }
 
 pub run_rows_spec : {M : Type 1} → statement M
@@ -119,24 +110,24 @@ run_rows_spec =
     (tie.spec
     invariant-loop
     decreases-loop
-    (λ c. let lists = c.before in omega (arith, in_starts (scene lists.before.before.before.before.requires.standing)))
-    (λ c. let lists = c.before.before in in_starts (scene lists.before.before.before.before.requires.standing))
-    (λ c κs. let lists = c.before.before in module_there (scene lists.before.before.before.before.requires.standing))
-    (λ c. omega (arith, outputs-are (began c.before).requires.standing c.before.module_at-header.ensures))
+    (λ c. omega (arith, in_starts (scene c.requires.standing)))
+    (λ c. in_starts (scene c.requires.standing))
+    (λ c κs. module_there (scene c.requires.standing))
+    (λ c. omega (arith, outputs-are (began c.before).pre.standing c.module_at-header.ensures))
     loop-holds
     (λ c. omega (arith, c.loop-done-test.true))
     (λ c κs. search rules)
-    (λ c. omega (arith, read-place c, (began (header c.before.before)).good))
-    (λ c. let least = c.before in omega (arith, write-place least, (began (header least.before.before)).good))
+    (λ c. omega (arith, read-place c, (began c.before.before.before.before).good))
+    (λ c. omega (arith, write-place c.before, (began c.before.before.before.before.before).good))
     run-block-requires
-    (λ c. let least = turned c.before.before.before in omega (arith, upto least, (began (header least.before.before)).fits))
+    (λ c. omega (arith, upto c.before.before.before.before.before.before, (began c.before.before.before.before.before.before.before.before.before.before).fits))
     (λ c.
     let least = turned c.before.before.before in
-    omega (arith, least.least-some.ensures, least.before.loop-done-test.taken))
+    omega (arith, least.least.ensures, least.before.loop-test.taken))
     loop-again
-    (λ c. c.before.loop-done.invariant.same)
-    (λ c. c.before.loop-done.invariant.size)
+    (λ c. c.loop-done.invariant.same)
+    (λ c. c.loop-done.invariant.size)
     (λ c s.
-    let l = c.before.loop-done in
+    let l = c.before.loop in
     let a = (began (header c.before)).args in
-    all-given s a.out-1.now (omega (arith, l.invariant.until, c.loop-done-test.false)) (l.invariant.laid_so s)))
+    all-given s a.out.now (omega (arith, l.invariant.until, c.loop-test.false)) (l.invariant.laid_so s)))

@@ -29,38 +29,35 @@ start c = c.before.before.before.before
 abbrev slot : tie.After-byte_of-in-loop-j invariant-loop decreases-loop → tie.After-entry-slot invariant-loop decreases-loop
 slot c = c.before.before.before.before
 
-slot-inside : (c : tie.After-entry-slot invariant-loop decreases-loop) → c.entry-slot.result < length (start c.before.before).args.entries.now
+slot-inside : (c : tie.After-entry-slot invariant-loop decreases-loop) → c.entry-slot.result < length c.args.entries.now
 slot-inside c =
-    let from = start c.before.before in
     omega
-    (arith, c.entry-slot.ensures, from.requires.readable.slots (from.args.from + c.before.before.loop-j.j) (omega arith) (omega (arith, c.before.loop-j-test.true)))
+    (arith, c.entry-slot.ensures, c.requires.readable.slots (c.args.from + c.loop-j.j) (omega arith) (omega (arith, c.loop-j-test.true)))
 
 -- The entry that is read is the output's.
 output :
     (c : tie.After-entry-slot invariant-loop decreases-loop)
-    → let a = (start c.before.before).args in
-    get_or a.entries.now c.entry-slot.result [] ≡ get_or (values_at [] a.image.now a.from a.to 0 a.entries.now) c.before.before.loop-j.j []
+    → let a = c.args in
+    get_or a.entries.now c.entry-slot.result [] ≡ get_or (values_at [] a.image.now a.from a.to 0 a.entries.now) c.loop-j.j []
 output c =
-    let from = start c.before.before in
-    let a = from.args in
+    let a = c.args in
     ap (λ (s : ℕ). get_or a.entries.now s []) c.entry-slot.ensures
-    ∙ sym (value-at [] a.image.now a.from a.to a.entries.now c.before.before.loop-j.j c.before.loop-j-test.true from.requires.readable.inside)
+    ∙ sym (value-at [] a.image.now a.from a.to a.entries.now c.loop-j.j c.loop-j-test.true c.requires.readable.inside)
 
 loop-again : tie.Need-loop-j-preserved invariant-loop decreases-loop
 loop-again c =
-    let read = slot c in
-    let l = read.before.before.loop-j in
-    let p = (start read.before.before).requires in
-    let a = (start read.before.before).args in
-    let taken = read.before.loop-j-test.taken in
+    let l = c.loop-j in
+    let p = c.requires in
+    let a = c.args in
+    let taken = c.loop-j-test.taken in
     record {
       until = omega (arith, taken);
       lows =
           fetched-more l.inv.lows (omega (arith, l.inv.lows.size, p.low-long, taken))
-          (c.before.before.byte_of.ensures ∙ ap (λ (e : List ℕ). get_or e a.word 0 / 2 ^ a.shift % 256) (output read));
+          (c.byte_of.ensures ∙ ap (λ (e : List ℕ). get_or e a.word 0 / 2 ^ a.shift % 256) (output c.before.before.before.before));
       highs =
           fetched-more l.inv.highs (omega (arith, l.inv.highs.size, p.high-long, taken))
-          (c.byte_of-in-loop-j.ensures ∙ ap (λ (e : List ℕ). get_or e (a.word + 4) 0 / 2 ^ a.shift % 256) (output read));
+          (c.byte_of-in-loop-j.ensures ∙ ap (λ (e : List ℕ). get_or e (a.word + 4) 0 / 2 ^ a.shift % 256) (output c.before.before.before.before));
     }
 
 pub fetch_spec : {M : Type 1} → statement M
@@ -69,31 +66,31 @@ fetch_spec =
     (tie.spec
     invariant-loop
     decreases-loop
-    (λ c. c.before.before.before.requires.readable.ordered)
+    (λ c. c.requires.readable.ordered)
     (λ c. record { until = omega arith; lows = fetched-none; highs = fetched-none })
-    (λ c. omega (arith, (start c.before).fits))
-    (λ c κs. omega (arith, (start c.before).requires.readable.inside))
+    (λ c. omega (arith, c.before.before.before.before.before.fits))
+    (λ c κs. omega (arith, c.requires.readable.inside))
     (λ c. let h = slot-inside c in omega arith)
     slot-inside
-    (λ c κs. let p = (start c.before.before.before).requires in (omega (arith, p.one), p.place))
+    (λ c κs. let p = c.requires in (omega (arith, p.one), p.place))
     (λ c.
     let turn = c.before.before.before in
-    omega (arith, turn.before.loop-j.invariant.lows.size, (start turn.before).requires.low-long, turn.loop-j-test.true))
+    omega (arith, turn.before.loop.invariant.lows.size, (start turn.before).pre.low-long, turn.loop-test.true))
     (λ c. let h = slot-inside c.before.before in omega arith)
     (λ c. slot-inside c.before.before)
-    (λ c. let read = c.before.before.before in omega (arith, (start read.before.before).requires.one))
+    (λ c. omega (arith, c.requires.one))
     (λ c κs.
     let read = c.before.before.before in
-    let p = (start read.before.before).requires in (omega (arith, p.one), p.place))
+    let p = (start read.before.before).pre in (omega (arith, p.one), p.place))
     (λ c.
     let turn = (slot c).before in
-    omega (arith, turn.before.loop-j.inv.highs.size, (start turn.before).requires.high-long, turn.loop-j-test.taken))
-    (λ c. omega (arith, (slot c).before.loop-j-test.true))
-    (λ c. omega (arith, (slot c).before.loop-j-test.true))
+    omega (arith, turn.before.loop.inv.highs.size, (start turn.before).pre.high-long, turn.loop-test.taken))
+    (λ c. omega (arith, c.loop-j-test.true))
+    (λ c. omega (arith, c.loop-j-test.true))
     loop-again
-    (λ c. c.before.loop-j.invariant.lows.size)
-    (λ c. c.before.loop-j.invariant.highs.size)
+    (λ c. c.loop-j.invariant.lows.size)
+    (λ c. c.loop-j.invariant.highs.size)
     (λ c.
-    let l = c.before.loop-j in
-    let all : l.j ≡ (start c.before).args.to - (start c.before).args.from = omega (arith, l.invariant.until, c.loop-j-test.false) in
+    let l = c.before.loop in
+    let all : l.j ≡ (start c.before).args.to - (start c.before).args.from = omega (arith, l.invariant.until, c.loop-test.false) in
     (subst (Fetched _ _ _ _ _) all l.invariant.lows, subst (Fetched _ _ _ _ _) all l.invariant.highs)))

@@ -37,42 +37,39 @@ turn c = c.before.before
 loop-holds : tie.Need-loop-done-init invariant-loop decreases-loop
 unfolding joined
 loop-holds c =
-    let a = c.before.before.args in
-    record { until = omega arith; even = λ h. refl; size = refl; laid_so = λ g. sym (laid-nothing a.out-1.now a.at) }
+    let a = c.args in
+    record { until = omega arith; even = λ h. refl; size = refl; laid_so = λ g. sym (laid-nothing a.out.now a.at) }
 
 -- The place that a turn writes at.
 there :
     (c : tie.After-least-some invariant-loop decreases-loop)
-    → let a = (start c.before.before).args in
-    a.at + c.before.before.loop-done.done * (a.to - a.from) ≤ length a.out-1.now
-there c = rows-room (start c.before.before).requires c.before.before.loop-done.done c.before.before.loop-done.invariant.until
+    → let a = c.args in
+    a.at + c.loop-done.done * (a.to - a.from) ≤ length a.out.now
+there c = rows-room c.requires c.loop-done.done c.loop-done.invariant.until
 
 give-some-requires : tie.Need-give_some-requires invariant-loop decreases-loop
 give-some-requires c κs =
-    let least = c.before in
-    let l = least.before.before.loop-done in
-    let taken = least.before.loop-done-test.true in
-    turn-shown (start least.before.before).requires (l.invariant.even taken) taken (omega (arith, least.least-some.ensures)) (omega (arith, least.least-some.ensures)) refl
+    let l = c.loop-done in
+    let taken = c.loop-done-test.true in
+    turn-shown c.requires (l.invariant.even taken) taken (omega (arith, c.least-some.ensures)) (omega (arith, c.least-some.ensures)) refl
     l.invariant.size
 
 loop-again : tie.Need-loop-done-preserved invariant-loop decreases-loop
 loop-again c =
-    let gave = c.before.before in
-    let least = turn gave in
-    let l = least.before.before.loop-done in
-    let a = (start least.before.before).args in
-    let taken = least.before.loop-done-test.taken in
-    let some = least.least-some.result in
-    let few : some ≤ 8 = omega (arith, least.least-some.ensures) in
-    let upto : l.done + some ≤ a.count = omega (arith, least.least-some.ensures, taken) in
+    let l = c.loop-done in
+    let a = c.args in
+    let taken = c.loop-done-test.taken in
+    let some = c.least-some.result in
+    let few : some ≤ 8 = omega (arith, c.least-some.ensures) in
+    let upto : l.done + some ≤ a.count = omega (arith, c.least-some.ensures, taken) in
     record {
       until = upto;
-      even = λ h. omega (arith, least.least-some.ensures, l.inv.even taken);
-      size = gave.give_some.auto.1.1.1.1.1.1.1.0 ∙ l.inv.size;
+      even = λ h. omega (arith, c.least-some.ensures, l.inv.even taken);
+      size = c.give_some.auto.1.1.1.1.1.1.1.0 ∙ l.inv.size;
       laid_so = λ g.
-          gave.give_some.ensures (turn-shown g (l.inv.even taken) taken upto few refl l.inv.size)
+          c.give_some.ensures (turn-shown g (l.inv.even taken) taken upto few refl l.inv.size)
           ∙ ap (λ (o : List ℕ). laid o (a.at + l.done * (a.to - a.from)) (given (λ r. g.values (l.done + r)) some)) (l.inv.laid_so g)
-          ∙ joined-laid (λ r. map code (g.values r)) (a.to - a.from) (λ r. length-map (g.values r) code ∙ g.many r) a.out-1.now a.at l.done some
+          ∙ joined-laid (λ r. map code (g.values r)) (a.to - a.from) (λ r. length-map (g.values r) code ∙ g.many r) a.out.now a.at l.done some
           (rows-room g (l.done + some) upto) refl;
     }
 
@@ -82,19 +79,19 @@ give_block_spec =
     (tie.spec
     invariant-loop
     decreases-loop
-    (λ c. c.before.before.requires.readable.ordered)
+    (λ c. c.requires.readable.ordered)
     loop-holds
     (λ c. omega (arith, c.loop-done-test.true))
     (λ c κs. search rules)
-    (λ c. omega (arith, there c, (start c.before.before).good))
-    (λ c. omega (arith, there c, (start c.before.before).good))
+    (λ c. omega (arith, there c, c.before.before.before.before.before.good))
+    (λ c. omega (arith, there c, c.before.before.before.before.before.good))
     give-some-requires
-    (λ c. let least = turn c.before.before in omega (arith, least.least-some.ensures, least.before.loop-done-test.taken))
-    (λ c. let least = turn c.before.before in omega (arith, least.least-some.ensures, least.before.loop-done-test.taken))
+    (λ c. omega (arith, c.least-some.ensures, c.loop-done-test.taken))
+    (λ c. omega (arith, c.least-some.ensures, c.loop-done-test.taken))
     loop-again
-    (λ c. c.before.loop-done.invariant.size)
+    (λ c. c.loop-done.invariant.size)
     (λ c g.
-    let l = c.before.loop-done in
+    let l = c.before.loop in
     let a = (start c.before).args in
-    let all : l.done ≡ a.count = omega (arith, l.invariant.until, c.loop-done-test.false) in
-    l.invariant.laid_so g ∙ ap (λ (n : ℕ). laid a.out-1.now a.at (given g.values n)) all))
+    let all : l.done ≡ a.count = omega (arith, l.invariant.until, c.loop-test.false) in
+    l.invariant.laid_so g ∙ ap (λ (n : ℕ). laid a.out.now a.at (given g.values n)) all))

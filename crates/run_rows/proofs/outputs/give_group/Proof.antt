@@ -32,51 +32,48 @@ start c = c.before.before.before.before
 loop-holds : tie.Need-loop-r-init invariant-loop decreases-loop
 unfolding joined
 loop-holds c =
-    let a = c.before.before.before.args in
+    let a = c.args in
     record {
       until = omega arith;
       here = omega (arith, zero-mul a.outputs);
       size = refl;
-      laid_so = λ g. sym (laid-nothing a.out-1.now a.at);
+      laid_so = λ g. sym (laid-nothing a.out.now a.at);
     }
 
 -- The row's part is one of the buffer.
-inside : (c : tie.In-loop-r invariant-loop decreases-loop) → let l = c.before.loop-r in l.place + (start c.before).args.outputs ≤ length l.out-1
+inside : (c : tie.In-loop-r invariant-loop decreases-loop) → let l = c.loop-r in l.place + c.args.outputs ≤ length l.out
 inside c =
-    let l = c.before.loop-r in
-    omega (arith, row_room (start c.before).requires l.r c.loop-r-test.true, l.invariant.here, l.invariant.size)
+    let l = c.loop-r in
+    omega (arith, row_room c.requires l.r c.loop-r-test.true, l.invariant.here, l.invariant.size)
 
 long : (c : tie.In-loop-r invariant-loop decreases-loop)
-    → let l = c.before.loop-r in
-    let outputs = (start c.before).args.outputs in
-    length (mid_of l.place (l.place + outputs - l.place) l.out-1) ≡ outputs
+    → let l = c.loop-r in
+    let outputs = c.args.outputs in
+    length (mid_of l.place (l.place + outputs - l.place) l.out) ≡ outputs
 long c =
-    let l = c.before.loop-r in
-    let outputs = (start c.before).args.outputs in
-    mid_len l.place (l.place + outputs) l.out-1 (inside c) ∙ omega arith
+    let l = c.loop-r in
+    let outputs = c.args.outputs in
+    mid_len l.place (l.place + outputs) l.out (inside c) ∙ omega arith
 
 give-row-requires : tie.Need-give_row-requires invariant-loop decreases-loop
 give-row-requires c κs =
-    let turn = c.before in
-    let g = (start turn.before).requires in
-    (omega (arith, turn.loop-r-test.true, g.few), row-given g turn.before.loop-r.r turn.loop-r-test.true (long turn))
+    let g = c.requires in
+    (omega (arith, c.loop-r-test.true, g.few), row-given g c.loop-r.r c.loop-r-test.true (long c.before))
 
 loop-again : tie.Need-loop-r-preserved invariant-loop decreases-loop
 loop-again c =
-    let gave = c.before.before in
-    let turn = gave.before.before in
-    let l = turn.before.loop-r in
-    let a = (start turn.before).args in
-    let taken = turn.loop-r-test.true in
+    let l = c.loop-r in
+    let a = c.args in
+    let taken = c.loop-r-test.true in
     record {
       until = omega (arith, taken);
       here = omega (arith, l.invariant.here, ap (λ (n : ℕ). n * a.outputs) (add-one l.r), suc-mul l.r a.outputs);
       size =
-          same_len_mid l.place (l.place + a.outputs - l.place) l.out-1 gave.give_row.new.1.1.1.0 gave.give_row.auto.1.1.1.0
+          same_len_mid l.place (l.place + a.outputs - l.place) l.out c.give_row.new.1.1.1.0 c.give_row.auto.1.1.1.0
           ∙ l.invariant.size;
       laid_so = λ g.
-          row_more g a.out-1.now refl (l.invariant.laid_so g) l.invariant.here refl taken
-          (gave.give_row.ensures (row-given g l.r taken (long turn)));
+          row_more g a.out.now refl (l.invariant.laid_so g) l.invariant.here refl taken
+          (c.give_row.ensures (row-given g l.r taken (long c.before.before.before.before)));
     }
 
 pub give_group_spec : {M : Type 1} → statement M
@@ -86,8 +83,8 @@ give_group_spec =
     invariant-loop
     decreases-loop
     loop-holds
-    (λ c. omega (arith, inside c, (start c.before).good))
-    (λ c. omega (arith, c.loop-r-test.true, (start c.before).requires.few))
+    (λ c. omega (arith, inside c, c.before.before.before.before.before.good))
+    (λ c. omega (arith, c.loop-r-test.true, c.requires.few))
     (λ c. omega arith)
     (λ c. omega arith)
     inside
@@ -95,8 +92,8 @@ give_group_spec =
     (λ c. omega arith)
     (λ c. omega arith)
     loop-again
-    (λ c. c.before.loop-r.invariant.size)
+    (λ c. c.loop-r.invariant.size)
     (λ c g.
-    let l = c.before.loop-r in
-    let all : l.r ≡ (start c.before).args.count = omega (arith, l.invariant.until, c.loop-r-test.false) in
-    l.invariant.laid_so g ∙ ap (λ (n : ℕ). laid (start c.before).args.out-1.now (start c.before).args.at (given g.values n)) all))
+    let l = c.before.loop in
+    let all : l.r ≡ (start c.before).args.count = omega (arith, l.invariant.until, c.loop-test.false) in
+    l.invariant.laid_so g ∙ ap (λ (n : ℕ). laid (start c.before).args.out.now (start c.before).args.at (given g.values n)) all))

@@ -8,16 +8,12 @@ use Rattle.run_rows.specs.Giving.{shown-group}
 use Rattle.run_rows.proofs.outputs.give_some.Statement.{statement}
 use Rattle.run_rows.proofs.outputs.give_some.Tie as tie
 
--- Where the function began, from where the bytes are fetched, and these from where they are lent on.
-abbrev start : tie.After-fetch → tie.Start
-start c = c.before.before.before.before.before
-
 abbrev fetched : tie.After-give_group-arg-1 → tie.After-fetch
-fetched c = let lent = c.before.before.before in lent.before.before
+fetched c = c.before.before.before.before.before
 
 fetch-requires : tie.Need-fetch-requires
 fetch-requires c κs =
-    let g = c.before.before.before.before.requires in
+    let g = c.requires in
     let all = length-replicate {A = ℕ} 192 0 in
     record {
       readable = g.readable;
@@ -30,16 +26,15 @@ fetch-requires c κs =
 give-group-requires : tie.Need-give_group-requires
 give-group-requires c κs =
     let f = fetched c in
-    let g = (start f).requires in
+    let g = f.before.before.before.before.before.pre in
     let all = length-replicate {A = ℕ} 192 0 in
     shown-group g f.fetch.ensures.0 f.fetch.ensures.1 (omega (arith, g.narrow, all)) (omega (arith, g.narrow, all)) refl
 
 returns : tie.Need-returns
 returns c g =
-    let gave = c.before.before in
-    let f = fetched gave.before in
+    let f = fetched c.before.before.before in
     let all = length-replicate {A = ℕ} 192 0 in
-    gave.give_group.ensures
+    c.give_group.ensures
     (shown-group g f.fetch.ensures.0 f.fetch.ensures.1 (omega (arith, g.narrow, all)) (omega (arith, g.narrow, all)) refl)
 
 pub give_some_spec : {M : Type 1} → statement M
@@ -49,9 +44,9 @@ give_some_spec =
     (λ c. search rules)
     (λ c. search rules)
     fetch-requires
-    (λ c. let f = c.before.before in (start f).requires.readable.ordered)
-    (λ c. let f = c.before.before.before in sym f.fetch.auto.1.1.1.1.1.1.0)
-    (λ c. let f = c.before.before.before.before in sym f.fetch.auto.1.1.1.1.1.1.1.0)
+    (λ c. c.requires.readable.ordered)
+    (λ c. sym c.fetch.auto.1.1.1.1.1.1.0)
+    (λ c. sym c.fetch.auto.1.1.1.1.1.1.1.0)
     give-group-requires
-    (λ c. c.before.before.give_group.auto.1.1.1.1.1.0)
+    (λ c. c.give_group.auto.1.1.1.1.1.0)
     returns)

@@ -20,27 +20,22 @@ invariant-loop image from to units others unit₀ family₀ i₀ unit family i =
 abbrev decreases-loop : tie.decreases-loop-i
 decreases-loop image from to units others unit₀ family₀ i₀ unit family i = to - i
 
--- Where the function began, from a turn of its loop; and the turn, from where its slot is read.
-abbrev start : tie.At-loop-i invariant-loop decreases-loop → tie.Start invariant-loop decreases-loop
-start c = c.before.before.before.before
-
 abbrev turn : tie.After-entry-slot invariant-loop decreases-loop → tie.At-loop-i invariant-loop decreases-loop
 turn c = c.before.before
 
 loop-holds : tie.Need-loop-i-init invariant-loop decreases-loop
 loop-holds c =
-    let from = c.before.before.before in
-    let a = from.args in (
-      going_start 0 a.image.now a.from a.to a.units.now from.requires.0.ordered (λ xs. omega arith),
-      going_start 0 a.image.now a.from a.to a.others.now from.requires.1.ordered (λ xs. omega arith),
+    let a = c.args in (
+      going_start 0 a.image.now a.from a.to a.units.now c.requires.0.ordered (λ xs. omega arith),
+      going_start 0 a.image.now a.from a.to a.others.now c.requires.1.ordered (λ xs. omega arith),
     )
 
 -- The slot that was read is one of both lists.
-slot-in-units : (c : tie.After-entry-slot invariant-loop decreases-loop) → c.entry-slot.result < length (start (turn c)).args.units.now
-slot-in-units c = going-slot (turn c).loop-i.invariant.0 (start (turn c)).requires.0 c.before.loop-i-test.true c.entry-slot.ensures
+slot-in-units : (c : tie.After-entry-slot invariant-loop decreases-loop) → c.entry-slot.result < length c.args.units.now
+slot-in-units c = going-slot c.loop-i.invariant.0 c.requires.0 c.loop-i-test.true c.entry-slot.ensures
 
-slot-in-others : (c : tie.After-entry-slot invariant-loop decreases-loop) → c.entry-slot.result < length (start (turn c)).args.others.now
-slot-in-others c = going-slot (turn c).loop-i.invariant.1 (start (turn c)).requires.1 c.before.loop-i-test.true c.entry-slot.ensures
+slot-in-others : (c : tie.After-entry-slot invariant-loop decreases-loop) → c.entry-slot.result < length c.args.others.now
+slot-in-others c = going-slot c.loop-i.invariant.1 c.requires.1 c.loop-i-test.true c.entry-slot.ensures
 
 -- The larger of the latest so far and of what stands at the slot.
 later :
@@ -54,19 +49,16 @@ later times most is same xs = omega (arith, is, ap (λ (slot : ℕ). get_or time
 
 loop-again : tie.Need-loop-i-preserved invariant-loop decreases-loop
 loop-again c =
-    let first = c.before.before in
-    let read = first.before.before in
-    let from = start (turn read) in
-    let inv = (turn read).loop-i.invariant in
-    let taken = read.before.loop-i-test.true in (
-      going_more inv.0 taken from.requires.0.inside (later from.args.units.now _ first.larger-unit.ensures read.entry-slot.ensures),
-      going_more inv.1 taken from.requires.1.inside (later from.args.others.now _ c.larger-family.ensures read.entry-slot.ensures),
+    let inv = c.loop-i.invariant in
+    let taken = c.loop-i-test.true in (
+      going_more inv.0 taken c.requires.0.inside (later c.args.units.now _ c.larger-unit.ensures c.entry-slot.ensures),
+      going_more inv.1 taken c.requires.1.inside (later c.args.others.now _ c.larger-family.ensures c.entry-slot.ensures),
     )
 
 returns : tie.Need-returns invariant-loop decreases-loop
 unfolding largest
 returns c =
-    let l = c.before.loop-i in
+    let l = c.loop-i in
     (omega (arith, going-all l.invariant.0 c.loop-i-test.false), omega (arith, going-all l.invariant.1 c.loop-i-test.false))
 
 pub latest_spec : {M : Type 1} → statement M
@@ -76,14 +68,14 @@ latest_spec =
     invariant-loop
     decreases-loop
     loop-holds
-    (λ c κs. omega (arith, (start c.before).requires.0.inside))
+    (λ c κs. omega (arith, c.requires.0.inside))
     (λ c. let h = slot-in-units c in omega arith)
     (λ c. slot-in-units c.before)
     (λ c κs. tt)
     (λ c. let h = slot-in-others c.before.before in omega arith)
-    (λ c. let first = c.before.before in slot-in-others first.before)
+    (λ c. slot-in-others c.before.before.before)
     (λ c κs. tt)
-    (λ c. let first = c.before.before in omega (arith, first.before.before.before.loop-i-test.true))
-    (λ c. let first = c.before.before in omega (arith, first.before.before.before.loop-i-test.true))
+    (λ c. omega (arith, c.loop-i-test.true))
+    (λ c. omega (arith, c.loop-i-test.true))
     loop-again
     returns)

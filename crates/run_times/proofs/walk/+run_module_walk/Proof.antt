@@ -29,12 +29,12 @@ use Rattle.run_times.proofs.walk.+run_module_walk.Proof.Setting.{passed-one, pas
 -- `run_module`, whose measure is t. The header that was read is the module's, so its occurrences can be walked.
 module _ (t : ℕ) where
   abbrev began :
-      run-module-lts.After-module-at (run-module-claims t) (run-module-at t) run-module.Post
+      run-module-lts.After-module_at-header (run-module-claims t) (run-module-at t) run-module.Post
       → run-module-lts.Start (run-module-claims t) (run-module-at t) run-module.Post
   began c = let known = c.before.before.before in known.before.before.before.before
 
   abbrev walkable :
-      (c : run-module-lts.After-module-at (run-module-claims t) (run-module-at t) run-module.Post) {scratch : List ℕ}
+      (c : run-module-lts.After-module_at-header (run-module-claims t) (run-module-at t) run-module.Post) {scratch : List ℕ}
       → let a = (began c).args in
       (s : Runnable a.image.now a.starts.now a.nets.now a.k scratch)
       → Walkable a.image.now a.starts.now a.nets.now a.k c.module-at.result scratch
@@ -56,14 +56,14 @@ module _ (t : ℕ) where
   -- The slot that a gate fills is one of either list.
   in-units :
       (c : walk-lts.After-at_gate-times (walk-claims t) (walk_at t) walk.Post Inv-loop μ-loop)
-      → let l = (gate-read t c.before.before.before).before.before.loop-left in
-      l.filled < length l.units-1
+      → let l = (gate-read t c.before.before.before).before.before.loop in
+      l.filled < length l.units
   in-units c = let gate = c.before.before.before in turns.gate-room (units-own t (gate-read t gate)) (gate-kind t gate)
 
   in-others :
       (c : walk-lts.After-at_gate-times (walk-claims t) (walk_at t) walk.Post Inv-loop μ-loop)
-      → let l = (gate-read t c.before.before.before).before.before.loop-left in
-      l.filled < length l.others-1
+      → let l = (gate-read t c.before.before.before).before.before.loop in
+      l.filled < length l.others
   in-others c = let gate = c.before.before.before in turns.gate-room (others-own t (gate-read t gate)) (gate-kind t gate)
 
   mul-units : walk-lts.Need-offset_bounds-units-here (walk-claims t) (walk_at t) walk.Post Inv-loop μ-loop
@@ -80,9 +80,9 @@ module _ (t : ℕ) where
   loop-again c =
       let gate = c.before.before.before in
       let read = gate-read t gate in
-      let inv = read.before.before.loop-left.inv in (
-        λ s ahead. turns.turn-gate (here t read inv.0 s ahead) (gate-kind t gate) c.at_gate-times.ensures.0,
-        λ s ahead. turns.turn-gate (here t read inv.1 s ahead) (gate-kind t gate) c.at_gate-times.ensures.1,
+      let inv = read.before.before.loop.inv in (
+        λ s ahead. turns.turn-gate (here t read inv.0 s ahead) (gate-kind t gate) c.at-gate.ensures.0,
+        λ s ahead. turns.turn-gate (here t read inv.1 s ahead) (gate-kind t gate) c.at-gate.ensures.1,
       )
 
   -- At a module, once its arguments are passed: its parts of the lists begin within them.
@@ -96,21 +96,21 @@ module _ (t : ℕ) where
   lent-others c =
       let passed = c.before.before.before in
       let told = passed-from t (passed-one t passed) in
-      modules.lent-inside (others-own t (module-read t told)) (module-kind t told) passed.copy-then-o-gt0.ensures
+      modules.lent-inside (others-own t (module-read t told)) (module-kind t told) passed.copy2.ensures
 
   mul-lent-units : walk-lts.Need-offset_bounds-units-frame (walk-claims t) (walk_at t) walk.Post Inv-loop μ-loop
   mul-lent-units c =
       let read = module-read t (passed-from t (passed-one t c.before.before)) in
       let from = start t read.before.before in
       let now = units-own t read in
-      omega (arith, frame_is from.requires.1.0.runnable.scene, turns.enough now, now.progress.size, from.good)
+      omega (arith, frame_is from.pre.1.0.runnable.scene, turns.enough now, now.progress.size, from.good)
 
   mul-lent-others : walk-lts.Need-offset_bounds-others-frame (walk-claims t) (walk_at t) walk.Post Inv-loop μ-loop
   mul-lent-others c =
       let read = module-read t (passed-from t (passed-one t c.before.before.before)) in
       let from = start t read.before.before in
       let now = others-own t read in
-      omega (arith, frame_is from.requires.1.1.runnable.scene, turns.enough now, now.progress.size, from.good)
+      omega (arith, frame_is from.pre.1.1.runnable.scene, turns.enough now, now.progress.size, from.good)
 
   run-module-requires : walk-lts.Need-run_module-requires (walk-claims t) (walk_at t) walk.Post Inv-loop μ-loop
   run-module-requires c κs =
@@ -118,10 +118,10 @@ module _ (t : ℕ) where
       let one = passed-one t both in
       let told = passed-from t one in
       let read = module-read t told in (
-        omega (arith, modules.falls (units-own t read) (module-kind t told), (start t read.before.before).requires.0),
+        omega (arith, modules.falls (units-own t read) (module-kind t told), (start t read.before.before).pre.0),
         (
           modules.calls (units-own t read) (module-kind t told) one.copy.ensures,
-          modules.calls (others-own t read) (module-kind t told) both.copy-then-o-gt0.ensures,
+          modules.calls (others-own t read) (module-kind t told) both.copy2.ensures,
         ),
       )
 
@@ -133,8 +133,8 @@ module _ (t : ℕ) where
       let told = passed-from t one in
       let now = units-own t (module-read t told) in
       let kind = module-kind t told in
-      modules.fetches now kind one.copy.ensures ran.run_module.new.1.1.1.1.1.0
-      ran.run_module.auto.1.1.1.1.1.0
+      modules.fetches now kind one.copy.ensures ran.run-module.new.1.1.1.1.1.0
+      ran.run-module.auto.1.1.1.1.1.0
       (one.before.before.module-at.ensures (modules.sub now kind).m (module_stands (modules.sub now kind)))
 
   copy-requires-4 : walk-lts.Need-copy-requires-then-o-gt0-3 (walk-claims t) (walk_at t) walk.Post Inv-loop μ-loop
@@ -145,8 +145,8 @@ module _ (t : ℕ) where
       let told = passed-from t one in
       let now = others-own t (module-read t told) in
       let kind = module-kind t told in
-      modules.fetches now kind both.copy-then-o-gt0.ensures ran.run_module.last.1.1.1.1.1.1.0
-      ran.run_module.kept.1.1.1.1.1.1.0
+      modules.fetches now kind both.copy2.ensures ran.run-module.last.1.1.1.1.1.1.0
+      ran.run-module.kept.1.1.1.1.1.1.0
       (one.before.before.module-at.ensures (modules.sub now kind).m (module_stands (modules.sub now kind)))
 
   loop-again-2 : walk-lts.Need-loop-left-preserved-then-o-gt0 (walk-claims t) (walk_at t) walk.Post Inv-loop μ-loop
@@ -158,29 +158,29 @@ module _ (t : ℕ) where
       let told = passed-from t one in
       let read = module-read t told in
       let kind = module-kind t told in
-      let inv = read.before.before.loop-left.inv in (
+      let inv = read.before.before.loop.inv in (
         λ s ahead.
             let now = here t read inv.0 s ahead in
-            modules.turn_module now kind one.copy.ensures ran.run_module.last.1.1.1.1.1.0
-            ran.run_module.kept.1.1.1.1.1.0
+            modules.turn_module now kind one.copy.ensures ran.run-module.last.1.1.1.1.1.0
+            ran.run-module.kept.1.1.1.1.1.0
             (one.before.before.module-at.ensures (modules.sub now kind).m (module_stands (modules.sub now kind)))
-            (ran.run_module.ensures.0 (modules.calls now kind one.copy.ensures))
-            (fetched_one t fetched).copy-then-o-gt0-2.ensures,
+            (ran.run-module.ensures.0 (modules.calls now kind one.copy.ensures))
+            (fetched_one t fetched).copy3.ensures,
         λ s ahead.
             let now = here t read inv.1 s ahead in
-            modules.turn_module now kind both.copy-then-o-gt0.ensures ran.run_module.last.1.1.1.1.1.1.0
-            ran.run_module.kept.1.1.1.1.1.1.0
+            modules.turn_module now kind both.copy2.ensures ran.run-module.last.1.1.1.1.1.1.0
+            ran.run-module.kept.1.1.1.1.1.1.0
             (one.before.before.module-at.ensures (modules.sub now kind).m (module_stands (modules.sub now kind)))
-            (ran.run_module.ensures.1 (modules.calls now kind both.copy-then-o-gt0.ensures))
-            fetched.copy-then-o-gt0-3.ensures,
+            (ran.run-module.ensures.1 (modules.calls now kind both.copy2.ensures))
+            fetched.copy4.ensures,
       )
 
   loop-again-3 : walk-lts.Need-loop-left-preserved (walk-claims t) (walk_at t) walk.Post Inv-loop μ-loop
   loop-again-3 c =
       let read = module-read t c.before.before in
-      let inv = read.before.before.loop-left.inv in (
-        λ s ahead. turns.turn-idle (here t read inv.0 s ahead) (omega (arith, c.if-o-gt0.false)),
-        λ s ahead. turns.turn-idle (here t read inv.1 s ahead) (omega (arith, c.if-o-gt0.false)),
+      let inv = read.before.before.loop.inv in (
+        λ s ahead. turns.turn-idle (here t read inv.0 s ahead) (omega (arith, c.if1.false)),
+        λ s ahead. turns.turn-idle (here t read inv.1 s ahead) (omega (arith, c.if1.false)),
       )
 
 pub +run_module_walk_spec : {M : Type 1} → statement M
@@ -188,31 +188,28 @@ pub +run_module_walk_spec : {M : Type 1} → statement M
     close μ-run-module μ-walk
     (λ t.
     run-module-lts.spec (run-module-claims t) (run-module-at t) run-module.Post
-    (λ c. let known = c.before in omega (arith, in_starts known.before.before.before.before.requires.1.0.scene))
-    (λ c. let known = c.before.before in in_starts known.before.before.before.before.requires.1.0.scene)
-    (λ c κs. let known = c.before.before in module_there known.before.before.before.before.requires.1.0.scene)
+    (λ c. omega (arith, in_starts c.before.before.before.before.before.requires.1.0.scene))
+    (λ c. let c.before = c.before.before in in_starts c.before.before.before.before.before.requires.1.0.scene)
+    (λ c κs. let c.before = c.before.before in module_there c.before.before.before.before.before.requires.1.0.scene)
     (λ c κs.
-    let header = c.before.before in
-    let from = began t header in
-    (omega (arith, from.requires.0), (walkable t header from.requires.1.0, walkable t header from.requires.1.1)))
+    let from = began t c.before.before in
+    (omega (arith, from.pre.0), (walkable t c.before.before from.pre.1.0, walkable t c.before.before from.pre.1.1)))
     (λ c. c.before.before.before.before.walk.auto.1.1.1.1.1.1.0)
     (λ c. c.before.before.before.before.walk.auto.1.1.1.1.1.1.1.0)
     (λ c.
-    let walked = c.before.before.before.before in
-    let header = walked.before.before.before in
-    (λ s. walked.walk.ensures.0 (walkable t header s), λ s. walked.walk.ensures.1 (walkable t header s))))
+    let c.before.before = c.before.before.before.before.before.before.before in
+    (λ s. c.before.before.before.before.walk.ensures.0 (walkable t c.before.before s), λ s. c.before.before.before.before.walk.ensures.1 (walkable t c.before.before s))))
     (λ t.
     walk-lts.spec (walk-claims t) (walk_at t) walk.Post Inv-loop μ-loop
-    (λ c. let known = c.before in omega (arith, in_nets known.before.before.before.before.requires.1.0.runnable.scene))
-    (λ c. let known = c.before.before in in_nets known.before.before.before.before.requires.1.0.runnable.scene)
+    (λ c. let c.before = c.before in omega (arith, in_nets c.before.before.before.before.before.requires.1.0.runnable.scene))
+    (λ c. let c.before = c.before.before in in_nets c.before.before.before.before.before.requires.1.0.runnable.scene)
     (add_at t)
     (λ c.
-    let known = c.before.before.before in
-    let a = known.before.before.before.before.args in
-    (walking_begins (times_work one_each) a.units-1.now, walking_begins (times_work (delay_in a.family.delays)) a.others-1.now))
+    let c.before = c.before.before.before in
+    let a = c.before.before.before.before.before.args in
+    (walking_begins (times_work one_each) a.units.now, walking_begins (times_work (delay_in a.family.delays)) a.others.now))
     (λ c κs.
-    let l = c.before in
-    occurrence-there (omega (arith, c.loop-left-test.true)) (come l.loop-left.invariant.0 (start t l).requires.1.0).ahead)
+    occurrence-there (omega (arith, c.loop-test.true)) (come c.before.loop.invariant.0 (start t c.before).requires.1.0).ahead)
     (λ c. omega arith)
     (add-filled t)
     (λ c κs. search rules)
@@ -224,19 +221,18 @@ pub +run_module_walk_spec : {M : Type 1} → statement M
     (in-units t)
     (mul-others t)
     (in-others t)
-    (λ c. omega (arith, (gate-read t c.before.before.before).before.loop-left-test.taken))
+    (λ c. omega (arith, (gate-read t c.before.before.before).before.loop-test.taken))
     (loop-again t)
     (λ c. search rules)
     (λ c. search rules)
     (λ c. module_of-kind _ (module-kind t c.before.before.before))
     (λ c.
-    let told = c.before.before.before in
-    let read = module-read t told in
-    omega (arith, modules.target-listed (units-own t read) (module-kind t told), (start t read.before.before).good))
-    (λ c. let told = c.before.before.before.before in modules.target-listed (units-own t (module-read t told)) (module-kind t told))
-    (λ c κs. let told = c.before.before.before.before in module_there (modules.sub (units-own t (module-read t told)) (module-kind t told)))
-    (λ c κs. let told = called-from t c.before in modules.passes (units-own t (module-read t told)) (module-kind t told))
-    (λ c κs. let told = passed-from t c.before.before.before in modules.passes (others-own t (module-read t told)) (module-kind t told))
+    let read = module-read t c.before.before.before in
+    omega (arith, modules.target-listed (units-own t read) (module-kind t c.before.before.before), (start t read.before.before).good))
+    (λ c. let c.before.before.before = c.before.before.before.before in modules.target-listed (units-own t (module-read t c.before.before.before)) (module-kind t c.before.before.before))
+    (λ c κs. let c.before.before.before = c.before.before.before.before in module_there (modules.sub (units-own t (module-read t c.before.before.before)) (module-kind t c.before.before.before)))
+    (λ c κs. let c.before.before.before = called-from t c.before in modules.passes (units-own t (module-read t c.before.before.before)) (module-kind t c.before.before.before))
+    (λ c κs. let c.before.before.before = passed-from t c.before.before.before in modules.passes (others-own t (module-read t c.before.before.before)) (module-kind t c.before.before.before))
     (mul-lent-units t)
     (lent-units t)
     (lent-units t)
@@ -250,14 +246,14 @@ pub +run_module_walk_spec : {M : Type 1} → statement M
     (copy-requires-4 t)
     (λ c.
     let ran = ran-before t (fetched_one t c.before.before) in
-    omega (arith, (module-read t (passed-from t (passed-one t (passed-both t ran)))).before.loop-left-test.taken))
+    omega (arith, (module-read t (passed-from t (passed-one t (passed-both t ran)))).before.loop-test.taken))
     (loop-again-2 t)
-    (λ c. omega (arith, (module-read t c.before.before).before.loop-left-test.taken))
+    (λ c. omega (arith, (module-read t c.before.before).before.loop-test.taken))
     (loop-again-3 t)
-    (λ c. let l = c.before in (come l.loop-left.invariant.0 (start t l).requires.1.0).size)
-    (λ c. let l = c.before in (come l.loop-left.invariant.1 (start t l).requires.1.1).size)
+    (λ c. let c.before = c.before in (come c.before.loop.invariant.0 (start t c.before).requires.1.0).size)
+    (λ c. let c.before = c.before in (come c.before.loop.invariant.1 (start t c.before).requires.1.1).size)
     (λ c.
-    let inv = c.before.loop-left.invariant in (
-      λ s. finish (come inv.0 s) c.loop-left-test.false,
-      λ s. finish (come inv.1 s) c.loop-left-test.false,
+    let inv = c.before.loop.invariant in (
+      λ s. finish (come inv.0 s) c.loop-test.false,
+      λ s. finish (come inv.1 s) c.loop-test.false,
     )))

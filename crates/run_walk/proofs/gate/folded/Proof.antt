@@ -30,21 +30,19 @@ began c = c.before.before
 returns : tie.Need-returns-then-to-from invariant-loop decreases-loop
 unfolding folded
 returns c =
-    let start = began c.before.before in
-    let given = start.args in
-    let none : given.from ≡ given.to = omega (arith, start.requires.ordered, c.before.if-to-from.true) in
+    let given = c.args in
+    let none : given.from ≡ given.to = omega (arith, c.requires.ordered, c.if-to-from.true) in
     c.start.ensures
     ∙ ap (λ (xs : List ℕ). code (folded given.fold (map value xs)))
     (sym (values-end 0 given.image.now given.from given.to 0 given.scratch.now none))
 
 entry-requires : tie.Need-entry-requires invariant-loop decreases-loop
-entry-requires c κs = omega (arith, (began c.before).requires.inside)
+entry-requires c κs = omega (arith, c.requires.inside)
 
 -- The first slot is one of the scratch.
-first-inside : (c : tie.After-entry invariant-loop decreases-loop) → c.entry.result < length (began c.before.before).args.scratch.now
+first-inside : (c : tie.After-entry invariant-loop decreases-loop) → c.entry.result < length c.args.scratch.now
 first-inside c =
-    let start = began c.before.before in
-    omega (arith, start.requires.slots start.args.from (omega arith) (omega (arith, c.before.if-to-from.false)), c.entry.ensures)
+    omega (arith, c.requires.slots c.args.from (omega arith) (omega (arith, c.if-to-from.false)), c.entry.ensures)
 
 mul-coded : tie.Need-offset_bounds-scratch-entry invariant-loop decreases-loop
 mul-coded c = let h = first-inside c in omega arith
@@ -59,18 +57,16 @@ behind c = c.before.before.before
 loop-holds : tie.Need-loop-i-init invariant-loop decreases-loop
 unfolding folded
 loop-holds c =
-    let some = behind c in
-    let start = began some.before in
-    let given = start.args in
+    let given = c.args in
     let fold = given.fold in
     let scratch = given.scratch.now in
-    let read = c.before.before.entry in
+    let read = c.entry in
     let at : ℕ → Val = λ slot. value (get_or scratch slot 0) in
     let first = at read.result in (
       is-small first c.coded-v.ensures,
       going_more
           (going_start 0 given.image.now given.from given.to scratch {rest = λ xs. fold_on fold (known (neutral fold)) (map value xs)}
-          start.requires.ordered (λ xs. refl)) (omega (arith, some.if-to-from.left)) start.requires.inside
+          c.requires.ordered (λ xs. refl)) (omega (arith, c.if-to-from.left)) c.requires.inside
           (λ xs.
           ap (λ (u : Val). fold_on fold u (map value xs))
           ((neutral-both fold _).0 ∙ sym (stands_for first c.coded-v.ensures ∙ ap at read.ensures))),
@@ -78,16 +74,15 @@ loop-holds c =
 
 -- Where the function began, from a turn of its loop.
 abbrev start : tie.At-loop-i invariant-loop decreases-loop → tie.Start invariant-loop decreases-loop
-start c = began (behind c.before).before
+start c = c.before.before.before.before.before.before.before
 
 entry-requires-2 : tie.Need-entry-requires-in-loop-i invariant-loop decreases-loop
-entry-requires-2 c κs = omega (arith, (start c.before).requires.inside)
+entry-requires-2 c κs = omega (arith, (start c.before).pre.inside)
 
 -- The slot that was read is one of the scratch.
 slot-inside : (c : tie.After-entry-in-loop-i invariant-loop decreases-loop) → c.entry-in-loop-i.result < length (start c.before.before).args.scratch.now
 slot-inside c =
-    let head = c.before.before in
-    going-slot head.loop-i.invariant.1 (start head).requires c.before.loop-i-test.true c.entry-in-loop-i.ensures
+    going-slot c.loop-i.invariant.1 (start c.before.before).requires c.loop-i-test.true c.entry-in-loop-i.ensures
 
 mul-step : tie.Need-offset_bounds-scratch-entry-in-loop-i invariant-loop decreases-loop
 mul-step c = let h = slot-inside c in omega arith
@@ -97,14 +92,13 @@ shared-slice-read-step c = slot-inside c.before
 
 loop-again : tie.Need-loop-i-preserved invariant-loop decreases-loop
 loop-again c =
-    let head = c.before.before.before.before in
-    let fold = (start head).args.fold in
-    let so_far = value head.loop-i.v in
-    let scratch = (start head).args.scratch.now in
-    let read = c.before.before.entry-in-loop-i in
+    let fold = (start c.before.before.before.before).args.fold in
+    let so_far = value c.loop-i.v in
+    let scratch = (start c.before.before.before.before).args.scratch.now in
+    let read = c.entry-in-loop-i in
     let found = step fold so_far (value (get_or scratch read.result 0)) in (
       is-small found c.step-v.ensures,
-      going_more head.loop-i.invariant.1 c.before.before.before.loop-i-test.true (start head).requires.inside
+      going_more c.loop-i.invariant.1 c.loop-i-test.true (start c.before.before.before.before).requires.inside
           (λ xs.
           ap (λ (u : Val). fold_on fold u (map value xs))
           (sym (stands_for found c.step-v.ensures ∙ ap (λ (slot : ℕ). step fold so_far (value (get_or scratch slot 0))) read.ensures))),
@@ -113,7 +107,7 @@ loop-again c =
 returns-2 : tie.Need-returns invariant-loop decreases-loop
 unfolding folded
 returns-2 c =
-    sym (code-of-value _ c.before.loop-i.invariant.0) ∙ ap code (going-all c.before.loop-i.invariant.1 c.loop-i-test.false)
+    sym (code-of-value _ c.loop-i.invariant.0) ∙ ap code (going-all c.loop-i.invariant.1 c.loop-i-test.false)
 
 pub folded_spec : {M : Type 1} → statement M
 folded_spec =

@@ -17,19 +17,17 @@ use Rattle.run_walk.proofs.gate.of_two.Tie as tie
 abbrev began : tie.After-entry → tie.Start
 began c = c.before.before.before
 
-first-inside : (c : tie.After-entry) → c.entry.result < length (began c).args.scratch.now
+first-inside : (c : tie.After-entry) → c.entry.result < length c.args.scratch.now
 first-inside c =
-    let start = began c in
-    omega (arith, start.requires.0.slots start.args.from (omega arith) (omega (arith, start.requires.1)), c.entry.ensures)
+    omega (arith, c.requires.0.slots c.args.from (omega arith) (omega (arith, c.requires.1)), c.entry.ensures)
 
 -- And from behind the second.
 abbrev first : tie.After-entry-2 → tie.After-entry
 first c = c.before.before
 
-second-inside : (c : tie.After-entry-2) → c.entry-2.result < length (began (first c)).args.scratch.now
+second-inside : (c : tie.After-entry-2) → c.entry-2.result < length c.args.scratch.now
 second-inside c =
-    let start = began (first c) in
-    omega (arith, start.requires.0.slots (start.args.from + 1) (omega arith) (omega (arith, start.requires.1)), c.entry-2.ensures)
+    omega (arith, c.requires.0.slots (c.args.from + 1) (omega arith) (omega (arith, c.requires.1)), c.entry-2.ensures)
 
 -- Two values stand at the slots.
 two-values :
@@ -45,23 +43,21 @@ two-values image from to scratch two inside {i} {j} e f =
 
 returns : tie.Need-returns
 returns c =
-    let read = c.before.before in
-    let start = began (first read) in
-    let given = start.args in
+    let given = c.args in
     c.result.ensures
     ∙ ap (λ (xs : List ℕ). code (result_of given.rule (map value xs)))
-    (two-values given.image.now given.from given.to given.scratch.now start.requires.1 (omega (arith, start.requires.0.inside))
-    (first read).entry.ensures read.entry-2.ensures)
+    (two-values given.image.now given.from given.to given.scratch.now c.requires.1 (omega (arith, c.requires.0.inside))
+    c.entry.ensures c.entry-2.ensures)
 
 pub of_two_spec : {M : Type 1} → statement M
 of_two_spec =
     tie.close
     (tie.spec
-    (λ c κs. let start = c.before.before in omega (arith, start.requires.0.inside, start.requires.1))
+    (λ c κs. omega (arith, c.requires.0.inside, c.requires.1))
     (λ c. let h = first-inside c in omega arith)
     (λ c. first-inside c.before)
     (λ c. omega arith)
-    (λ c κs. let start = began c.before in omega (arith, start.requires.0.inside, start.requires.1))
+    (λ c κs. omega (arith, c.requires.0.inside, c.requires.1))
     (λ c. let h = second-inside c in omega arith)
     (λ c. second-inside c.before)
     (λ c κs. search rules)

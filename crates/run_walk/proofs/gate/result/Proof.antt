@@ -8,8 +8,8 @@ pub result_spec : {M : Type 1} → statement M
 result_spec =
     tie.close
     (tie.spec
-    (λ c. omega (arith, c.before.before.requires.ordered))
-    (λ c κs. let start = c.before.before.before in (start.requires, omega (arith, start.requires.ordered, c.if-to-from-eq2.true)))
+    (λ c. omega (arith, c.requires.ordered))
+    (λ c κs. (c.requires, omega (arith, c.requires.ordered, c.if-to-from-eq2.true)))
     (λ c. c.of_two.ensures)
     (λ c κs. search rules)
     (λ c. c.of_many.ensures))

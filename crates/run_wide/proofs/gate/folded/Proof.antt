@@ -21,37 +21,33 @@ decreases-loop fold image from to scratch v₀ i₀ v i = to - i
 loop-holds : tie.Need-loop-i-init invariant-loop decreases-loop
 unfolding rows_fold
 loop-holds c =
-    let start = c.before.before in
-    let given = start.args in
-    going_start [] given.image.now given.from given.to given.scratch.now start.requires.ordered
+    let given = c.args in
+    going_start [] given.image.now given.from given.to given.scratch.now c.requires.ordered
     (λ xs. ap (λ (u : List ℕ). rows_on given.fold u xs) c.start-v.ensures)
 
 entry-requires : tie.Need-entry-requires invariant-loop decreases-loop
-entry-requires c κs = omega (arith, c.before.before.before.before.requires.inside)
+entry-requires c κs = omega (arith, c.requires.inside)
 
 -- The slot that was read is one of the scratch.
-slot-inside : (c : tie.After-entry invariant-loop decreases-loop) → c.entry.result < length c.before.before.before.before.before.args.scratch.now
+slot-inside : (c : tie.After-entry invariant-loop decreases-loop) → c.entry.result < length c.args.scratch.now
 slot-inside c =
-    let head = c.before.before in
-    going-slot head.loop-i.invariant head.before.before.before.requires c.before.loop-i-test.true c.entry.ensures
+    going-slot c.loop-i.invariant c.requires c.loop-i-test.true c.entry.ensures
 
 mul-step : tie.Need-offset_bounds-scratch-entry invariant-loop decreases-loop
 mul-step c = let h = slot-inside c in omega arith
 
 loop-again : tie.Need-loop-i-preserved invariant-loop decreases-loop
 loop-again c =
-    let head = c.before.before.before.before in
-    let start = head.before.before.before in
-    let fold = start.args.fold in
-    let scratch = start.args.scratch.now in
-    let read = c.before.before.entry in
-    going_more head.loop-i.invariant c.before.before.before.loop-i-test.true start.requires.inside
+    let fold = c.args.fold in
+    let scratch = c.args.scratch.now in
+    let read = c.entry in
+    going_more c.loop-i.invariant c.loop-i-test.true c.requires.inside
     (λ xs.
     ap (λ (u : List ℕ). rows_on fold u xs)
-    (sym (c.step-next.ensures ∙ ap (λ (slot : ℕ). step_of fold head.loop-i.v (get_or scratch slot [])) read.ensures)))
+    (sym (c.step-next.ensures ∙ ap (λ (slot : ℕ). step_of fold c.loop-i.v (get_or scratch slot [])) read.ensures)))
 
 returns : tie.Need-returns invariant-loop decreases-loop
-returns c = going-all c.before.loop-i.invariant c.loop-i-test.false
+returns c = going-all c.loop-i.invariant c.loop-i-test.false
 
 pub folded_spec : {M : Type 1} → statement M
 folded_spec =

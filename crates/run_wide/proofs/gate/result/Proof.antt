@@ -26,15 +26,15 @@ result_spec =
     (λ c. search rules)
     (λ c κs. search rules)
     (λ c κs. search rules)
-    (λ c. rw c.before.enum_told-1.given.1 c.folded.ensures)
+    (λ c. rw c.in-And.is c.folded.ensures)
     (λ c.
-    rw c.before.before.enum_told-in-Nand-1.given.1
-    (c.not.ensures ∙ ap not_of c.before.folded-in-Nand.ensures))
-    (λ c. rw c.before.enum_told-in-Or-1.given.1 c.folded-in-Or.ensures)
+    rw c.before.before.enum-told2.given.1
+    (c.not.ensures ∙ ap not_of c.before.folded2.ensures))
+    (λ c. rw c.in-Or.is c.folded-in-Or.ensures)
     (λ c.
-    rw c.before.before.enum_told-in-Nor-1.given.1
-    (c.not-in-Nor.ensures ∙ ap not_of c.before.folded-in-Nor.ensures))
-    (λ c. rw c.before.enum_told-in-Xor-1.given.1 c.folded-in-Xor.ensures)
+    rw c.before.before.enum-told4.given.1
+    (c.not2.ensures ∙ ap not_of c.before.folded4.ensures))
+    (λ c. rw c.in-Xor.is c.folded-in-Xor.ensures)
     (λ c.
-    rw c.before.before.enum_told-in-Eqv-1.given.1
-    (c.not-in-Eqv.ensures ∙ ap not_of c.before.folded-in-Eqv.ensures)))
+    rw c.before.before.enum-told6.given.1
+    (c.not3.ensures ∙ ap not_of c.before.folded6.ensures)))

@@ -13,12 +13,8 @@ invariant-loop image from to source target scratch₀ i₀ scratch i = Gathering
 abbrev decreases-loop : tie.decreases-loop-i
 decreases-loop image from to source target scratch₀ i₀ scratch i = to - i
 
--- A turn, once its slot is read.
-abbrev start : tie.After-entry invariant-loop decreases-loop → tie.Start invariant-loop decreases-loop
-start c = c.before.before.before.before
-
-turn : (c : tie.After-entry invariant-loop decreases-loop) → Within [] (start c).requires c.before.before.loop-i.invariant c.entry.result
-turn c = within [] (start c).requires c.before.before.loop-i.invariant c.before.loop-i-test.true c.entry.ensures
+turn : (c : tie.After-entry invariant-loop decreases-loop) → Within [] c.requires c.loop-i.invariant c.entry.result
+turn c = within [] c.requires c.loop-i.invariant c.loop-i-test.true c.entry.ensures
 
 pub copy_spec : {M : Type 1} → statement M
 copy_spec =
@@ -26,8 +22,8 @@ copy_spec =
     (tie.spec
     invariant-loop
     decreases-loop
-    (λ c. gathering-start [] c.before.requires)
-    (λ c κs. omega (arith, c.before.before.before.requires.readable.inside))
+    (λ c. gathering-start [] c.requires)
+    (λ c κs. omega (arith, c.requires.readable.inside))
     (λ c. let h = turn c in omega arith)
     (λ c. let h = turn c in omega arith)
     (λ c. let h = turn c in omega arith)
@@ -37,6 +33,6 @@ copy_spec =
     (λ c. let h = turn c.before in omega arith)
     (λ c. omega arith)
     (λ c. omega arith)
-    (λ c. let read = c.before in gathering-more [] (start read).requires read.before.before.loop-i.invariant read.before.loop-i-test.true read.entry.ensures)
-    (λ c. c.before.loop-i.invariant.size)
-    (λ c. gathering-all [] c.before.before.before.requires c.before.loop-i.invariant c.loop-i-test.false))
+    (λ c. gathering-more [] c.requires c.loop-i.invariant c.loop-i-test.true c.entry.ensures)
+    (λ c. c.loop-i.invariant.size)
+    (λ c. gathering-all [] c.requires c.loop-i.invariant c.loop-i-test.false))

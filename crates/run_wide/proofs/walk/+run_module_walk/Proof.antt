@@ -26,15 +26,15 @@ use Rattle.run_wide.proofs.walk.+run_module_walk.Proof.Setting.{gate-read, gate-
 -- `run_module`, whose measure is t. The header that was read is the module's, so its occurrences can be walked.
 module _ (t : ℕ) where
   abbrev began :
-      run-module-lts.After-module-at (run-module-claims t) (run-module-at t) run-module.Post
+      run-module-lts.After-module_at-header (run-module-claims t) (run-module-at t) run-module.Post
       → run-module-lts.Start (run-module-claims t) (run-module-at t) run-module.Post
   began c = let known = c.before.before.before in known.before.before
 
   abbrev walkable :
-      (c : run-module-lts.After-module-at (run-module-claims t) (run-module-at t) run-module.Post)
+      (c : run-module-lts.After-module_at-header (run-module-claims t) (run-module-at t) run-module.Post)
       → let a = (began c).args in
-      (s : Runnable a.image.now a.starts.now a.nets.now a.k a.scratch-1.now)
-      → Walkable a.image.now a.starts.now a.nets.now a.k c.module-at.result a.scratch-1.now
+      (s : Runnable a.image.now a.starts.now a.nets.now a.k a.scratch.now)
+      → Walkable a.image.now a.starts.now a.nets.now a.k c.module-at.result a.scratch.now
   walkable c s = record { runnable = s; header = c.module-at.ensures s.scene.m (module_stands s.scene) }
 
 -- `walk`, whose measure is t.
@@ -53,8 +53,8 @@ module _ (t : ℕ) where
   -- The slot that a gate fills is one of scratch.
   slot-there :
       (c : walk-lts.After-result (walk-claims t) (walk_at t) walk.Post Inv-loop μ-loop)
-      → let l = (gate-read t c.before.before.before).before.before.loop-left in
-      l.filled < length l.scratch-1
+      → let l = (gate-read t c.before.before.before).before.before.loop in
+      l.filled < length l.scratch
   slot-there c = let gate = c.before.before.before in turns.gate-room (own t (gate-read t gate)) (gate-kind t gate)
 
   mul-scratch : walk-lts.Need-offset_bounds-scratch-here (walk-claims t) (walk_at t) walk.Post Inv-loop μ-loop
@@ -78,14 +78,14 @@ module _ (t : ℕ) where
   mul-run-module c =
       let read = module-read t (passed-from t c.before) in
       let from = start t read.before.before in
-      omega (arith, frame_is from.requires.1.runnable.scene, turns.enough (own t read), (own t read).progress.size, from.good)
+      omega (arith, frame_is from.pre.1.runnable.scene, turns.enough (own t read), (own t read).progress.size, from.good)
 
   run-module-requires : walk-lts.Need-run_module-requires (walk-claims t) (walk_at t) walk.Post Inv-loop μ-loop
   run-module-requires c κs =
       let passed = c.before.before in
       let told = passed-from t passed in
       let read = module-read t told in (
-        omega (arith, modules.falls (own t read) (module-kind t told), (start t read.before.before).requires.0),
+        omega (arith, modules.falls (own t read) (module-kind t told), (start t read.before.before).pre.0),
         modules.calls (own t read) (module-kind t told) passed.copy.ensures,
       )
 
@@ -96,8 +96,8 @@ module _ (t : ℕ) where
       let told = passed-from t passed in
       let now = own t (module-read t told) in
       let kind = module-kind t told in
-      modules.fetches now kind passed.copy.ensures ran.run_module.new.1.1.1.1.0
-      ran.run_module.auto.1.1.1.1.0
+      modules.fetches now kind passed.copy.ensures ran.run-module.new.1.1.1.1.0
+      ran.run-module.auto.1.1.1.1.0
       (passed.before.before.module-at.ensures (modules.sub now kind).m (module_stands (modules.sub now kind)))
 
   loop-again-2 : walk-lts.Need-loop-left-preserved-then-o-gt0 (walk-claims t) (walk_at t) walk.Post Inv-loop μ-loop
@@ -108,11 +108,11 @@ module _ (t : ℕ) where
       let told = passed-from t passed in
       let now = here t (module-read t told) s ahead in
       let kind = module-kind t told in
-      modules.turn_module now kind passed.copy.ensures ran.run_module.new.1.1.1.1.0
-      ran.run_module.auto.1.1.1.1.0
+      modules.turn_module now kind passed.copy.ensures ran.run-module.new.1.1.1.1.0
+      ran.run-module.auto.1.1.1.1.0
       (passed.before.before.module-at.ensures (modules.sub now kind).m (module_stands (modules.sub now kind)))
-      (ran.run_module.ensures (modules.calls now kind passed.copy.ensures))
-      fetched.copy-then-o-gt0.ensures
+      (ran.run-module.ensures (modules.calls now kind passed.copy.ensures))
+      fetched.copy2.ensures
 
 pub +run_module_walk_spec : {M : Type 1} → statement M
 +run_module_walk_spec =
@@ -122,7 +122,7 @@ pub +run_module_walk_spec : {M : Type 1} → statement M
     (λ c. omega (arith, in_starts c.before.before.before.requires.1.scene))
     (λ c. in_starts c.before.before.before.before.requires.1.scene)
     (λ c κs. module_there c.before.before.before.before.requires.1.scene)
-    (λ c κs. let from = began t c.before in (omega (arith, from.requires.0), walkable t c.before from.requires.1))
+    (λ c κs. let from = began t c.before in (omega (arith, from.pre.0), walkable t c.before from.pre.1))
     (λ c. c.before.walk.auto.1.1.1.1.1.0)
     (λ c s. c.before.walk.ensures (walkable t c.before.before.before s)))
     (λ t.
@@ -131,10 +131,9 @@ pub +run_module_walk_spec : {M : Type 1} → statement M
     (λ c. in_nets c.before.before.before.before.requires.1.runnable.scene)
     (add_at t)
     (λ c.
-    let known = c.before.before.before in
-    let a = known.before.before.args in
-    walking_begins rows_work a.scratch-1.now)
-    (λ c κs. occurrence-there (omega (arith, c.loop-left-test.true)) (own-progress t c.before).ahead)
+    let a = c.before.before.before.before.before.args in
+    walking_begins rows_work a.scratch.now)
+    (λ c κs. occurrence-there (omega (arith, c.loop-test.true)) (own-progress t c.before).ahead)
     (λ c. omega arith)
     (add-filled t)
     (λ c κs. search rules)
@@ -142,18 +141,17 @@ pub +run_module_walk_spec : {M : Type 1} → statement M
     (λ c κs. turns.turn-readable (own t (gate-read t c.before.before)))
     (mul-scratch t)
     (slot-there t)
-    (λ c. omega (arith, (gate-read t c.before.before.before).before.loop-left-test.taken))
+    (λ c. omega (arith, (gate-read t c.before.before.before).before.loop-test.taken))
     (loop-again t)
     (λ c. search rules)
     (λ c. search rules)
     (λ c. module_of-kind _ (module-kind t c.before.before.before))
     (λ c.
-    let told = c.before.before.before in
-    let read = module-read t told in
-    omega (arith, modules.target-listed (own t read) (module-kind t told), (start t read.before.before).good))
-    (λ c. let told = c.before.before.before.before in modules.target-listed (own t (module-read t told)) (module-kind t told))
-    (λ c κs. let told = c.before.before.before.before in module_there (modules.sub (own t (module-read t told)) (module-kind t told)))
-    (λ c κs. let told = called-from t c.before in modules.passes (own t (module-read t told)) (module-kind t told))
+    let read = module-read t c.before.before.before in
+    omega (arith, modules.target-listed (own t read) (module-kind t c.before.before.before), (start t read.before.before).good))
+    (λ c. let c.before.before.before = c.before.before.before.before in modules.target-listed (own t (module-read t c.before.before.before)) (module-kind t c.before.before.before))
+    (λ c κs. let c.before.before.before = c.before.before.before.before in module_there (modules.sub (own t (module-read t c.before.before.before)) (module-kind t c.before.before.before)))
+    (λ c κs. let c.before.before.before = called-from t c.before in modules.passes (own t (module-read t c.before.before.before)) (module-kind t c.before.before.before))
     (mul-run-module t)
     (lent-inside t)
     (lent-inside t)
@@ -161,11 +159,9 @@ pub +run_module_walk_spec : {M : Type 1} → statement M
     (run-module-requires t)
     (copy-requires-2 t)
     (λ c.
-    let ran = c.before.before.before.before in
-    let passed = ran.before.before.before in
-    omega (arith, (module-read t (passed-from t passed)).before.loop-left-test.taken))
+    omega (arith, (module-read t (passed-from t c.before.before.before.before.before.before.before)).before.loop-test.taken))
     (loop-again-2 t)
-    (λ c. omega (arith, (module-read t c.before.before).before.loop-left-test.taken))
+    (λ c. omega (arith, (module-read t c.before.before).before.loop-test.taken))
     (λ c s ahead. turns.turn-idle (here t (module-read t c.before.before) s ahead) (omega arith))
     (λ c. (own-progress t c.before).size)
-    (λ c s. finish (c.before.loop-left.invariant s.runnable (enter s)) c.loop-left-test.false))
+    (λ c s. finish (c.before.loop.invariant s.runnable (enter s)) c.loop-test.false))

@@ -6,13 +6,13 @@ use Rattle.shelf.proofs.judged.check.Tie as tie
 
 returns : tie.Need-returns-in-Modules
 returns c =
-    let counted = c.before.before.modules in
-    judges _ counted.result _ counted.ensures c.enum_told-1.given.1
+    let counted = c.modules in
+    judges _ counted.result _ counted.ensures c.in-Modules.is
 
 returns-2 : tie.Need-returns-in-Refused
 returns-2 c =
-    let counted = c.before.before.before.modules in
-    judges _ counted.result _ counted.ensures c.before.number-1.given.1
+    let counted = c.modules in
+    judges _ counted.result _ counted.ensures c.in-Refused.is
 
 pub check_spec : {M : Type 1} → statement M
 check_spec =

@@ -19,37 +19,33 @@ given : (d : Decision Summary) (before : List ℕ) {of after : List ℕ} → num
 given d before none is = rw (eq-eqb (number_of d) 0 none) is
 
 abbrev start : tie.After-count-counted → tie.Start
-start c = let lists = c.before.before in lists.before.before.before
+start c = c.before.before.before.before.before
 
 returns : tie.Need-returns-then-refusal-ne0
 returns c =
-    let a = c.before.before.before in
-    let args = (start a).args in
-    let d = summary args.file.now args.number args.family.now (length args.scratch-1.now) in
-    let p = pieces d a.count-counted.ensures.is in
+    let args = (start c.before.before.before).args in
+    let d = summary args.file.now args.number args.family.now (length args.scratch.now) in
+    let p = pieces d c.count-counted.ensures.is in
     let some : number_of d ≡ 0 → ⊥ = λ e. c.if-refusal-ne0.true (p.number_is ∙ e) in (
       p.number_is,
       (
         p.place_is,
-        (kept d (figures_in d) args.figures.now some, (kept d (tally_in d) args.tally.now some, a.count-counted.ensures.scratch-1)),
+        (kept d (figures_in d) args.figures.now some, (kept d (tally_in d) args.tally.now some, c.count-counted.ensures.scratch)),
       ),
     )
 
 returns-2 : tie.Need-returns
 returns-2 c =
-    let ordered = c.before.before in
-    let answered = ordered.before.before in
-    let a = answered.before.before.before in
-    let args = (start a).args in
-    let d = summary args.file.now args.number args.family.now (length args.scratch-1.now) in
-    let p = pieces d a.count-counted.ensures.is in
-    let none : number_of d ≡ 0 = sym p.number_is ∙ answered.if-refusal-ne0.false in (
+    let args = (start c.before.before.before.before.before.before.before).args in
+    let d = summary args.file.now args.number args.family.now (length args.scratch.now) in
+    let p = pieces d c.count-counted.ensures.is in
+    let none : number_of d ≡ 0 = sym p.number_is ∙ c.if-refusal-ne0.false in (
       sym none,
       (
         p.place_is,
         (
-          given d args.figures.now none (ordered.in_order.ensures ∙ p.figures_are),
-          (given d args.tally.now none p.tally_is, a.count-counted.ensures.scratch-1),
+          given d args.figures.now none (c.in_order.ensures ∙ p.figures_are),
+          (given d args.tally.now none p.tally_is, c.count-counted.ensures.scratch),
         ),
       ),
     )

@@ -7,13 +7,13 @@ use Rattle.meaning.specs.Calls.{module_count}
 
 returns : tie.Need-returns-in-Modules
 returns c =
-    let start : tie.Start = c.before.before.before.before.before in
-    listed-answers (module_count start.args.file.now) start.args.modules.now c.before.count-1.given.1 c.before.before.before.modules.ensures
+    let start : tie.Start = c.before.before.before in
+    listed-answers (module_count start.args.file.now) start.args.modules.now c.in-Modules.is c.modules.ensures
 
 returns-2 : tie.Need-returns-in-Refused
 returns-2 c =
-    let start : tie.Start = c.before.before.before.before.before in
-    listed-refuses (module_count start.args.file.now) start.args.modules.now c.before.number-1.given.1 c.before.before.before.modules.ensures
+    let start : tie.Start = c.before.before.before in
+    listed-refuses (module_count start.args.file.now) start.args.modules.now c.in-Refused.is c.modules.ensures
 
 pub shelf_modules_spec : {M : Type 1} → statement M
 shelf_modules_spec =

@@ -7,15 +7,15 @@ use Rattle.meaning.specs.Calls.{number_at}
 
 returns : tie.Need-returns-in-Number
 returns c =
-    let start : tie.Start = c.before.before.before.before.before in
-    named-answers (number_at start.args.file.now start.args.position) start.args.number.now c.before.found-1.given.1
-    c.before.before.before.number_at.ensures
+    let start : tie.Start = c.before.before.before in
+    named-answers (number_at start.args.file.now start.args.position) start.args.number.now c.in-Number.is
+    c.number_at.ensures
 
 returns-2 : tie.Need-returns-in-Refused
 returns-2 c =
-    let start : tie.Start = c.before.before.before.before.before in
-    named-refuses (number_at start.args.file.now start.args.position) start.args.number.now c.before.refusal-1.given.1
-    c.before.before.before.number_at.ensures
+    let start : tie.Start = c.before.before.before in
+    named-refuses (number_at start.args.file.now start.args.position) start.args.number.now c.in-Refused.is
+    c.number_at.ensures
 
 pub shelf_number_at_spec : {M : Type 1} → statement M
 shelf_number_at_spec =

@@ -5,10 +5,10 @@ use Rattle.shelf_c.proofs.judged.shelf_check.Statement.{statement}
 use Rattle.shelf_c.proofs.judged.shelf_check.Tie as tie
 
 returns : tie.Need-returns-in-Good
-returns c = rw (← c.before.before.check.ensures, c.enum_told-1.given.1) (refl, refl)
+returns c = rw (← c.check.ensures, c.in-Good.is) (refl, refl)
 
 returns-2 : tie.Need-returns-in-Broken
-returns-2 c = rw (← c.before.before.before.check.ensures, c.before.number-1.given.1) (refl, refl)
+returns-2 c = rw (← c.check.ensures, c.in-Broken.is) (refl, refl)
 
 pub shelf_check_spec : {M : Type 1} → statement M
 shelf_check_spec =

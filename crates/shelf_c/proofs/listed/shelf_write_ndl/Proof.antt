@@ -6,8 +6,8 @@ use Rattle.shelf_c.proofs.listed.shelf_write_ndl.Tie as tie
 
 returns : tie.Need-returns
 returns c =
-    let a = c.before.before.before.before.before.write_ndl in
-    (reports a.ensures.is c.report.ensures, a.ensures.out-1)
+    let a = c.write_ndl in
+    (reports a.ensures.is c.report.ensures, a.ensures.out)
 
 pub shelf_write_ndl_spec : {M : Type 1} → statement M
 shelf_write_ndl_spec = tie.close (tie.spec (λ c κs. search rules) (λ c κs. search rules) (λ c. search rules) returns)

@@ -6,9 +6,8 @@ use Rattle.shelf_c.proofs.run.shelf_evaluate.Tie as tie
 
 returns : tie.Need-returns
 returns c =
-    let lent = c.before.before.before.before in
-    let a = lent.before.before.before.before.evaluate.ensures in
-    (run-reports a c.report_run.ensures, (a.settled.answered.out-1, a.settled.scratched))
+    let a = c.evaluate.ensures in
+    (run-reports a c.report_run.ensures, (a.settled.answered.out, a.settled.scratched))
 
 pub shelf_evaluate_spec : {M : Type 1} → statement M
 shelf_evaluate_spec =

@@ -6,8 +6,8 @@ use Rattle.shelf_c.proofs.run.shelf_flatten.Tie as tie
 
 returns : tie.Need-returns
 returns c =
-    let a = c.before.before.before.before.before.before.before.flatten in
-    (reports a.ensures.answered.is c.report.ensures, (a.ensures.answered.out-1, a.ensures.scratched))
+    let a = c.flatten in
+    (reports a.ensures.answered.is c.report.ensures, (a.ensures.answered.out, a.ensures.scratched))
 
 pub shelf_flatten_spec : {M : Type 1} → statement M
 shelf_flatten_spec =

@@ -6,8 +6,8 @@ use Rattle.shelf_c.proofs.texts.shelf_print_text.Tie as tie
 
 returns : tie.Need-returns
 returns c =
-    let a = c.before.before.before.before.before.print_text in
-    (reports a.ensures.is c.report.ensures, a.ensures.out-1)
+    let a = c.print_text in
+    (reports a.ensures.is c.report.ensures, a.ensures.out)
 
 pub shelf_print_text_spec : {M : Type 1} → statement M
 shelf_print_text_spec = tie.close (tie.spec (λ c κs. search rules) (λ c κs. search rules) (λ c. search rules) returns)

@@ -6,8 +6,8 @@ use Rattle.shelf_c.proofs.withdrawn.shelf_rewrite.Tie as tie
 
 returns : tie.Need-returns
 returns c =
-    let a = c.before.before.before.before.before.rewrite in
-    (reports a.ensures.is c.report.ensures, a.ensures.out-1)
+    let a = c.rewrite in
+    (reports a.ensures.is c.report.ensures, a.ensures.out)
 
 pub shelf_rewrite_spec : {M : Type 1} → statement M
 shelf_rewrite_spec = tie.close (tie.spec (λ c κs. search rules) (λ c κs. search rules) (λ c. search rules) returns)

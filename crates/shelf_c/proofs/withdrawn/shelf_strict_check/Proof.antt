@@ -6,10 +6,10 @@ use Rattle.shelf_c.proofs.withdrawn.shelf_strict_check.Statement.{statement}
 use Rattle.shelf_c.proofs.withdrawn.shelf_strict_check.Tie as tie
 
 returns : tie.Need-returns-in-Good
-returns c = rw (← c.before.before.strict_check.ensures, c.enum_told-1.given.1) (refl, refl)
+returns c = rw (← c.strict_check.ensures, c.in-Good.is) (refl, refl)
 
 returns-2 : tie.Need-returns-in-Broken
-returns-2 c = rw (← c.before.before.before.strict_check.ensures, c.before.number-1.given.1) (refl, refl)
+returns-2 c = rw (← c.strict_check.ensures, c.in-Broken.is) (refl, refl)
 
 pub shelf_strict_check_spec : {M : Type 1} → statement M
 shelf_strict_check_spec =

@@ -6,8 +6,8 @@ use Rattle.shelf_c.proofs.written.shelf_adder.Tie as tie
 
 returns : tie.Need-returns
 returns c =
-    let a = c.before.before.before.before.before.adder in
-    (reports a.ensures.is c.report.ensures, a.ensures.out-1)
+    let a = c.adder in
+    (reports a.ensures.is c.report.ensures, a.ensures.out)
 
 pub shelf_adder_spec : {M : Type 1} → statement M
 shelf_adder_spec = tie.close (tie.spec (λ c κs. search rules) (λ c κs. search rules) (λ c. search rules) returns)

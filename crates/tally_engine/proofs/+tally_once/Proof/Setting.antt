@@ -11,18 +11,18 @@ use Rattle.meaning.specs.Gates.{is_gate}
 use Rattle.gates.specs.Gates.{gate-told, module_told}
 use Rattle.tally_engine.specs.Rows.{Kept, Tallying}
 use Rattle.tally_engine.proofs.Counting.{Counting}
-use Rattle.tally_engine.proofs.tally_once-inner.Reads as reads
-use Rattle.tally_engine.proofs.tally_once-inner.Kinds as kinds
+use Rattle.tally_engine.proofs.tally_once.Reads as reads
+use Rattle.tally_engine.proofs.tally_once.Kinds as kinds
 use Rattle.tally_engine.proofs.+tally_once.Lts-tally_once as lts
 use Rattle.gates.proofs.kind_of.Reads as kind-of
-use Rattle.image.proofs.places.module_at-header.Reads as module_at
-use Rattle.image.proofs.places.occurrence_at-o.Reads as occurrence-at
-use Rattle.tally_engine.proofs.rows-1.is_filled.Reads as is-filled
-use Rattle.tally_engine.proofs.rows-1.row_at.Reads as row_at
-use Rattle.tally_engine.proofs.rows-1.fill_row.Reads as fill-row
-use Rattle.tally_engine.proofs.Tally.nothing-tally.Reads as nothing
-use Rattle.tally_engine.proofs.Tally.with_gate-tally.Reads as with-gate
-use Rattle.tally_engine.proofs.Tally.with_tally-tally.Reads as with-tally
+use Rattle.image.proofs.places.module_at.Reads as module_at
+use Rattle.image.proofs.places.occurrence_at.Reads as occurrence-at
+use Rattle.tally_engine.proofs.rows.is_filled.Reads as is-filled
+use Rattle.tally_engine.proofs.rows.row_at.Reads as row_at
+use Rattle.tally_engine.proofs.rows.fill_row.Reads as fill-row
+use Rattle.tally_engine.proofs.Tally.nothing.Reads as nothing
+use Rattle.tally_engine.proofs.Tally.with_gate.Reads as with-gate
+use Rattle.tally_engine.proofs.Tally.with_tally.Reads as with-tally
 
 abbrev pub μ : Measures 4 kinds.ps ℕ
 μ κs a = length a.1.0.now - a.1.1.0
@@ -78,10 +78,10 @@ module _ (t : ℕ) where
   -- What the number that was read is.
   pub is-gate :
       (c : lts.In-Gate (claims t) (Given t) reads.Post Inv-loop μ-loop)
-      → is_gate c.before.before.before.occurrence_at-o.result.refers ≡ true
-  is-gate c = gate-told _ (sym c.before.before.kind_of.ensures ∙ c.enum_told-1.given.1)
+      → is_gate c.before.before.before.occurrence-at.result.refers ≡ true
+  is-gate c = gate-told _ (sym c.before.before.kind-of.ensures ∙ c.enum_told.given.1)
 
   pub is_module :
       (c : lts.In-Module (claims t) (Given t) reads.Post Inv-loop μ-loop)
-      → is_gate c.before.before.before.occurrence_at-o.result.refers ≡ false
-  is_module c = module_told _ (sym c.before.before.kind_of.ensures ∙ c.enum_told-in-Module-1.given.1)
+      → is_gate c.before.before.before.occurrence-at.result.refers ≡ false
+  is_module c = module_told _ (sym c.before.before.kind-of.ensures ∙ c.enum-told2.given.1)

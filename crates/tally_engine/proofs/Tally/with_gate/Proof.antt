@@ -23,10 +23,10 @@ loop-holds c = partly_none _ _ (search rules)
 -- What the branch gives is what one gate adds at the kind that is reached.
 share :
     (c : tie.Joined-i-kind invariant-loop decreases-loop)
-    → c.if-i-kind.self-1 ≡ one_of c.before.before.before.args.kind c.before.before.loop-i.i
+    → c.if-i-kind.self ≡ one_of c.args.kind c.loop-i.i
 share c =
-    let kind = c.before.before.before.args.kind in
-    let i = c.before.before.loop-i.i in
+    let kind = c.args.kind in
+    let i = c.loop-i.i in
     ⊎_elim
     (λ here. rw (eq-eqb kind i (sym here.0.taken)) here.1)
     (λ other. rw (ne_eqb kind i (λ same. other.0.left (sym same))) other.1)
@@ -34,14 +34,13 @@ share c =
 
 add-self : tie.Need-overflow_add-self invariant-loop decreases-loop
 add-self c =
-    let loop = c.before.before.before.before in
-    omega (arith, share c.before.before, partly_fits (omega arith) loop.before.requires.1 loop.loop-i.invariant)
+    omega (arith, share c.before.before, partly_fits (omega arith) c.requires.1 c.loop-i.invariant)
 
 loop-again : tie.Need-loop-i-preserved invariant-loop decreases-loop
-loop-again c = rw (share c.before.before) (partly_more (omega arith) c.before.before.before.before.loop-i.invariant)
+loop-again c = rw (share c.before.before) (partly_more (omega arith) c.loop-i.invariant)
 
 returns : tie.Need-returns invariant-loop decreases-loop
-returns c = partly_all (omega arith) c.before.loop-i.invariant
+returns c = partly_all (omega arith) c.loop-i.invariant
 
 pub with_gate_spec : {M : Type 1} → statement M
 with_gate_spec =

@@ -19,14 +19,13 @@ loop-holds c = partly_none _ _ (search rules)
 
 add-self : tie.Need-overflow_add-self invariant-loop decreases-loop
 add-self c =
-    let loop = c.before.before.before in
-    omega (arith, partly_fits (omega arith) loop.before.requires loop.loop-kind.invariant)
+    omega (arith, partly_fits (omega arith) c.requires c.loop-kind.invariant)
 
 loop-again : tie.Need-loop-kind-preserved invariant-loop decreases-loop
-loop-again c = partly_more (omega arith) c.before.before.before.loop-kind.invariant
+loop-again c = partly_more (omega arith) c.loop-kind.invariant
 
 returns : tie.Need-returns invariant-loop decreases-loop
-returns c = partly_all (omega arith) c.before.loop-kind.invariant
+returns c = partly_all (omega arith) c.loop-kind.invariant
 
 pub with_tally_spec : {M : Type 1} → statement M
 with_tally_spec =

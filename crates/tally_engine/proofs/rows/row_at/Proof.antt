@@ -6,7 +6,7 @@ use Rattle.tally_engine.proofs.rows.row_at.Statement.{statement}
 use Rattle.tally_engine.proofs.rows.row_at.Tie as tie
 
 returns : tie.Need-returns
-returns c = c.before.copy.ensures ∙ append-nil _
+returns c = c.copy.ensures ∙ append-nil _
 
 pub row_at_spec : {M : Type 1} → statement M
 row_at_spec = tie.close (tie.spec (λ c. search rules) (λ c. search rules) (λ c κs. search rules) returns)

@@ -4,21 +4,18 @@ use native.Mathlib.Omega.{arith}
 use borrow.Author.Rules.{rules}
 use lib.ListN.{length}
 use Rattle.tally_engine.proofs.KeptRows.{row_written, none-written-behind}
-use Rattle.tally_engine.proofs.rows-1.write_row.Statement.{statement}
-use Rattle.tally_engine.proofs.rows-1.write_row.Tie as tie
+use Rattle.tally_engine.proofs.rows.write_row.Statement.{statement}
+use Rattle.tally_engine.proofs.rows.write_row.Tie as tie
 
-sixteen : (c : tie.Start) → length c.args.tally.counts-1 ≡ 16
+sixteen : (c : tie.Start) → length c.args.tally.counts ≡ 16
 sixteen c = search rules
 
 copy-requires : tie.Need-copy-requires
-copy-requires c κs = let inside = c.before.before in (omega (arith, sixteen inside.before.before.before), omega arith)
+copy-requires c κs = (omega (arith, sixteen c.before.before.before.before.before), omega arith)
 
 returns : tie.Need-returns-then-k-count
 returns c =
-    let copied = c.before.before in
-    let inside = copied.before.before.before.before in
-    let start = inside.before.before in
-    rw copied.copy.ensures (row_written _ _ _ _ inside.if-k-count.true start.requires (sixteen start))
+    rw c.copy.ensures (row_written _ _ _ _ c.if-k-count.true c.requires (sixteen c.before.before.before.before.before.before.before.before))
 
 returns-2 : tie.Need-returns-else-k-count
 returns-2 c = none-written-behind _ _ _ _ c.if-k-count.false

@@ -16,7 +16,7 @@ add-result-2 c = search rules
 
 returns-2 : tie.Need-returns-then-known-taken
 unfolding entry_at_fault
-returns-2 c = rw (le-ltb _ _ c.before.if-new-driven.false, lt-ltb _ _ c.if-known-taken.true)
+returns-2 c = rw (le-ltb _ _ c.if-new-driven.false, lt-ltb _ _ c.if-known-taken.true)
 
 add-result-3 : tie.Need-overflow_add-result-then-fit
 add-result-3 c = search rules
@@ -26,11 +26,11 @@ add-result-4 c = search rules
 
 returns-3 : tie.Need-returns-then-fit
 unfolding entry_at_fault
-returns-3 c = rw (le-ltb _ _ c.before.before.if-new-driven.false, le-ltb _ _ c.before.if-known-taken.false, c.if-fit.true)
+returns-3 c = rw (le-ltb _ _ c.if-new-driven.false, le-ltb _ _ c.if-known-taken.false, c.if-fit.true)
 
 returns-4 : tie.Need-returns
 unfolding entry_at_fault
-returns-4 c = rw (le-ltb _ _ c.before.before.if-new-driven.false, le-ltb _ _ c.before.if-known-taken.false, c.if-fit.false)
+returns-4 c = rw (le-ltb _ _ c.if-new-driven.false, le-ltb _ _ c.if-known-taken.false, c.if-fit.false)
 
 pub entry_at_fault_spec : {M : Type 1} → statement M
 entry_at_fault_spec =

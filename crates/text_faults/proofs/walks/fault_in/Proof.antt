@@ -10,21 +10,11 @@ use borrow.Author.Rules.{rules}
 use Rattle.text_faults.proofs.walks.fault_in.Statement.{statement}
 use Rattle.text_faults.proofs.walks.fault_in.Tie as tie
 
--- The start, the occurrence that was read, and where its parts stand.
-abbrev begun : tie.After-occurrence_at-o → tie.Start
-begun c = c.before.before.before.before
-
 abbrev read : tie.After-struct_known-1 → tie.After-occurrence_at-o
-read c = c.before.before.before.before
+read c = c.before.before.before
 
-abbrev learnt : tie.After-entry_at_fault → tie.After-learn-new
-learnt c = c.before.before.before.before
-
-abbrev seen : tie.After-learn-new → tie.After-struct_known-1
-seen c = c.before.before.before
-
-spot : (c : tie.After-occurrence_at-o) → PlaceOf (begun c).args.numbers.now (begun c).args.at (begun c).requires.1.1.0.o c.occurrence_at-o.result
-spot c = c.occurrence_at-o.ensures (begun c).requires.1.1.0.o (begun c).requires.1.1.0.stands
+spot : (c : tie.After-occurrence_at-o) → PlaceOf c.args.numbers.now c.args.at c.requires.1.1.0.o c.occurrence_at-o.result
+spot c = c.occurrence_at-o.ensures c.requires.1.1.0.o c.requires.1.1.0.stands
 
 occurrence-at-requires : tie.Need-occurrence_at-o-requires
 occurrence-at-requires c κs = search rules
@@ -48,7 +38,7 @@ add-driven : tie.Need-overflow_add-driven
 add-driven c = search rules
 
 add-behind : tie.Need-overflow_add-behind
-add-behind c = omega (arith, (spot (read c)).driven.within, (spot (read c)).drives)
+add-behind c = omega (arith, (spot c.before.before.before).driven.within, (spot c.before.before.before).drives)
 
 mul-learn : tie.Need-offset_bounds-numbers-driven
 mul-learn c = search rules
@@ -60,21 +50,21 @@ part-learn-start : tie.Need-slice_bounds-learn-start
 part-learn-start c = search rules
 
 part-learn-end : tie.Need-slice_bounds-learn-end
-part-learn-end c = omega (arith, (spot (read c)).driven.within, (spot (read c)).drives)
+part-learn-end c = omega (arith, (spot c.before.before.before).driven.within, (spot c.before.before.before).drives)
 
 learn-requires : tie.Need-learn-new-requires
 learn-requires c κs = search rules
 
 sub-taken : tie.Need-overflow_sub-taken
-sub-taken c = omega (arith, (spot (read (seen c.before.before))).to)
+sub-taken c = omega (arith, (spot c.before.before.before.before.before.before.before.before).to)
 
 fits-requires : tie.Need-fits-fit-requires
 fits-requires c κs = search rules
 
 entry-at-fault-requires : tie.Need-entry_at_fault-requires
 entry-at-fault-requires c κs =
-    let place = spot (read (seen c.before.before.before)) in
-    omega (arith, place.takes.within, place.from, place.to, place.drives, (begun (read (seen c.before.before.before))).well-formed)
+    let place = spot c.before.before.before.before.before.before.before.before.before in
+    omega (arith, place.takes.within, place.from, place.to, place.drives, c.well-formed)
 
 same_length : tie.Need-shape_of-marks
 same_length c = search rules
@@ -84,24 +74,23 @@ abbrev taken-count : tie.After-occurrence_at-o → ℕ
 taken-count c = c.occurrence_at-o.result.to - c.occurrence_at-o.result.from
 
 abbrev driven-count : tie.After-occurrence_at-o → ℕ
-driven-count c = (begun c).args.at + 1 + c.occurrence_at-o.result.drives - ((begun c).args.at + 1)
+driven-count c = c.args.at + 1 + c.occurrence_at-o.result.drives - (c.args.at + 1)
 
 returns : tie.Need-returns
 returns c p o known s m =
-    let front = seen (learnt c) in
-    let place = (read front).occurrence_at-o.ensures o s in
-    let later = drop (begun (read front)).args.from p.ms in
-    let taken : taken-count (read front) ≡ length o.takes = omega (arith, place.to) in
-    let driven : driven-count (read front) ≡ length o.drives = omega (arith, place.drives) in
+    let place = c.occurrence_at-o.ensures o s in
+    let later = drop c.args.from p.ms in
+    let taken : taken-count c.before.before.before.before.before.before.before.before.before.before ≡ length o.takes = omega (arith, place.to) in
+    let driven : driven-count c.before.before.before.before.before.before.before.before.before.before ≡ length o.drives = omega (arith, place.drives) in
     let drives = part-is _ place.driven driven in
-    let new = ((learnt c).learn-new.ensures known m).0 ∙ ap (λ l. new_front l known) drives in
+    let new = (c.learn-new.ensures known m).0 ∙ ap (λ l. new_front l known) drives in
     let is =
     fault_is o known later new place.drives
-    (front.before.count_known-known.ensures known m ∙ ap (λ l. known_front l known) (part-is _ place.takes taken))
+    (c.count_known-known.ensures known m ∙ ap (λ l. known_front l known) (part-is _ place.takes taken))
     taken
     (c.before.fits2.ensures p o.takes o.drives taken place.drives ∙ ap (λ n. arity_okp n o.takes o.drives later) place.refers) in
     let whole = c.entry_at_fault.ensures ∙ is in
-    (whole, λ l. marked_all known _ _ drives new (all_new o known later (omega (arith, whole))) ((learnt c).learn-new.ensures known m).1)
+    (whole, λ l. marked_all known _ _ drives new (all_new o known later (omega (arith, whole))) (c.learn-new.ensures known m).1)
 
 pub fault_in_spec : {M : Type 1} → statement M
 fault_in_spec =

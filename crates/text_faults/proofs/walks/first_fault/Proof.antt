@@ -11,10 +11,6 @@ use borrow.Author.Rules.{rules}
 use Rattle.text_faults.proofs.walks.first_fault.Statement.{statement}
 use Rattle.text_faults.proofs.walks.first_fault.Tie as tie
 
--- The start, the module that is read there, and its header.
-abbrev begun : tie.After-module_at-header → tie.Start
-begun c = c.before.before.before.before.before
-
 abbrev read : tie.After-mark_all → tie.After-module_at-header
 read c = c.before.before.before.before
 
@@ -24,24 +20,21 @@ Asked c = Placed c.args.numbers.now c.args.starts.now c.args.modules
 first : (c : tie.Start) (p : Asked c) → Beginning c.args.numbers.now (get_or c.args.starts.now c.args.position 0) c.args.position p.ms
 first c p = beginning p c.args.position c.requires.1.0
 
-header : (c : tie.After-module_at-header) (p : Asked (begun c)) → HeaderOf (begun c).args.numbers.now (get_or (begun c).args.starts.now (begun c).args.position 0) (first (begun c) p).m c.module_at-header.result
-header c p = c.module_at-header.ensures (first (begun c) p).m (first (begun c) p).stands
+header : (c : tie.After-module_at-header) (p : Asked c.before.before.before.before.before) → HeaderOf c.args.numbers.now (get_or c.args.starts.now c.args.position 0) (first c.before.before.before.before.before p).m c.module_at-header.result
+header c p = c.module_at-header.ensures (first c.before.before.before.before.before p).m (first c.before.before.before.before.before p).stands
 
 -- The body behind it, once the inputs are marked.
 abbrev input-count : tie.After-module_at-header → ℕ
 input-count c =
-    let start = get_or (begun c).args.starts.now (begun c).args.position 0 in
+    let start = get_or c.args.starts.now c.args.position 0 in
     start + 2 + c.module_at-header.result.inputs - (start + 2)
 
 abbrev bodied :
-    (c : tie.After-mark_all) (p : Asked (begun (read c)))
-    → Body (begun (read c)).args.numbers.now c.mark_all.new.1.0 ((read c).module_at-header.result.to + 1) (read c).module_at-header.result.count
+    (c : tie.After-mark_all) (p : Asked c.before.before.before.before.before.before.before.before.before)
+    → Body c.args.numbers.now c.mark_all.new.1.0 (c.module_at-header.result.to + 1) c.module_at-header.result.count
 bodied c p =
-    let all : input-count (read c) ≡ length (first (begun (read c)) p).m.inputs = omega (arith, (header (read c) p).inputs) in
-    begun-body (first (begun (read c)) p) (input-count (read c)) (header (read c) p) all (c.mark_all.ensures [] (begun (read c)).requires.1.1.1)
-
-abbrev marked : tie.After-walk-arg-1 → tie.After-mark_all
-marked c = c.before.before.before.before
+    let all : input-count c.before.before.before.before ≡ length (first c.before.before.before.before.before.before.before.before.before p).m.inputs = omega (arith, (header c.before.before.before.before p).inputs) in
+    begun-body (first c.before.before.before.before.before.before.before.before.before p) (input-count c.before.before.before.before) (header c.before.before.before.before p) all (c.mark_all.ensures [] c.requires.1.1.1)
 
 mul-start : tie.Need-offset_bounds-starts-position
 mul-start c = search rules
@@ -51,21 +44,18 @@ shared-slice-read-start c = search rules
 
 module-at-requires : tie.Need-module_at-header-requires
 module-at-requires c κs =
-    let start = c.before.before.before.before in
-    record { m = (first start start.requires.0).m; stands = (first start start.requires.0).stands }
+    record { m = (first c.before.before.before.before c.requires.0).m; stands = (first c.before.before.before.before c.requires.0).stands }
 
 add-inputs : tie.Need-overflow_add-inputs
-add-inputs c = omega (arith, (inputs (first (begun c) (begun c).requires.0)).within, (begun c).well-formed)
+add-inputs c = omega (arith, (inputs (first c.before.before.before.before.before c.requires.0)).within, c.well-formed)
 
 add-end : tie.Need-overflow_add-end
 add-end c =
-    let start = begun c.before in
-    omega (arith, (inputs (first start start.requires.0)).within, (header c.before start.requires.0).inputs, start.good)
+    omega (arith, (inputs (first c.before.before.before.before.before.before c.requires.0)).within, (header c.before c.requires.0).inputs, c.before.before.before.before.before.before.good)
 
 mul-mark-all : tie.Need-offset_bounds-numbers-inputs
 mul-mark-all c =
-    let start = begun c.before in
-    omega (arith, (inputs (first start start.requires.0)).within, (header c.before start.requires.0).inputs, start.good)
+    omega (arith, (inputs (first c.before.before.before.before.before.before c.requires.0)).within, (header c.before c.requires.0).inputs, c.before.before.before.before.before.before.good)
 
 sub-mark-all : tie.Need-slice_bounds-mark_all-count
 sub-mark-all c = search rules
@@ -75,8 +65,7 @@ part-mark-all-start c = search rules
 
 part-mark-all-end : tie.Need-slice_bounds-mark_all-end
 part-mark-all-end c =
-    let start = begun c.before in
-    omega (arith, (inputs (first start start.requires.0)).within, (header c.before start.requires.0).inputs)
+    omega (arith, (inputs (first c.before.before.before.before.before.before c.requires.0)).within, (header c.before c.requires.0).inputs)
 
 mark-all-requires : tie.Need-mark_all-requires
 mark-all-requires c κs = search rules
@@ -86,22 +75,18 @@ add-walk c = search rules
 
 add-walk-2 : tie.Need-overflow_add-header
 add-walk-2 c =
-    let r = read c.before.before.before in
-    omega (arith, (header r (begun r).requires.0).body.within, (begun r).good)
+    omega (arith, (header c.before.before.before.before.before.before.before c.requires.0).body.within, c.before.before.before.before.before.before.before.before.before.before.before.before.good)
 
 walk-requires : tie.Need-walk-requires
 walk-requires c κs =
-    let m = marked c in
-    let start = begun (read m) in
-    (start.requires.0, (omega (arith, start.requires.1.0), (bodied m start.requires.0, omega (arith, m.mark_all.kept.1.0, start.requires.1.1.0))))
+    (c.requires.0, (omega (arith, c.requires.1.0), (bodied c.before.before.before.before c.requires.0, omega (arith, c.mark_all.kept.1.0, c.requires.1.1.0))))
 
 same_length : tie.Need-shape_of-marks
 same_length c = search rules
 
 returns : tie.Need-returns
 returns c p =
-    let m = marked c.before.before.before in
-    whole_fault (first (begun (read m)) p) (c.before.before.walk.ensures p (bodied m p))
+    whole_fault (first c.before.before.before.before.before.before.before.before.before.before.before.before.before.before.before.before p) (c.walk.ensures p (bodied c.before.before.before.before.before.before.before p))
 
 pub first_fault_spec : {M : Type 1} → statement M
 first_fault_spec =

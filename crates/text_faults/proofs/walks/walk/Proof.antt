@@ -17,10 +17,6 @@ invariant-loop numbers starts modules from body count marks₀ at₀ i₀ marks 
 abbrev decreases-loop : tie.decreases-loop-i
 decreases-loop numbers starts modules from body count marks₀ at₀ i₀ marks at i = count - i
 
--- The start; the occurrence whose turn it is, by the modules and the body that were asked for; and what was read and found of it.
-abbrev begun : tie.In-loop-i invariant-loop decreases-loop → tie.Start invariant-loop decreases-loop
-begun c = c.before.before.before.before.before
-
 abbrev read : tie.After-struct_known-1 invariant-loop decreases-loop → tie.After-occurrence_at-o invariant-loop decreases-loop
 read c = c.before.before.before.before.before
 
@@ -29,12 +25,12 @@ found c = c.before.before.before
 
 turn :
     (c : tie.In-loop-i invariant-loop decreases-loop)
-    → Facing (begun c).args.numbers.now c.before.loop-i.at (c.before.loop-i.invariant.1 (begun c).requires.0 (begun c).requires.1.1.0).ahead
-turn c = facing (c.before.loop-i.invariant.1 (begun c).requires.0 (begun c).requires.1.1.0) c.loop-i-test.true
+    → Facing c.args.numbers.now c.loop-i.at (c.loop-i.invariant.1 c.requires.0 c.requires.1.1.0).ahead
+turn c = facing (c.loop-i.invariant.1 c.requires.0 c.requires.1.1.0) c.loop-i-test.true
 
 spot :
     (c : tie.After-occurrence_at-o invariant-loop decreases-loop)
-    → PlaceOf (begun c.before).args.numbers.now c.before.before.loop-i.at (turn c.before).o c.occurrence_at-o.result
+    → PlaceOf c.args.numbers.now c.loop-i.at (turn c.before).o c.occurrence_at-o.result
 spot c = c.occurrence_at-o.ensures (turn c.before).o (turn c.before).there
 
 loop-holds : tie.Need-loop-i-init invariant-loop decreases-loop
@@ -45,31 +41,28 @@ occurrence-at-requires c κs = record { o = (turn c).o; stands = (turn c).there 
 
 fault-in-requires : tie.Need-fault_in-atom-requires invariant-loop decreases-loop
 fault-in-requires c κs =
-    let here = c.before.before in
-    let start = begun here in
-    (start.requires.0, (start.requires.1.0, (record { o = (turn here).o; stands = (turn here).there }, omega (arith, here.before.loop-i.invariant.0, start.requires.1.1.1))))
+    (c.requires.0, (c.requires.1.0, (record { o = (turn c.before.before).o; stands = (turn c.before.before).there }, omega (arith, c.loop-i.invariant.0, c.requires.1.1.1))))
 
 add-if1 : tie.Need-overflow_add-o invariant-loop decreases-loop
-add-if1 c = omega (arith, (spot (read c)).drives, (spot (read c)).driven.within, (begun (read c).before).good)
+add-if1 c = omega (arith, (spot c.before.before.before.before.before).drives, (spot c.before.before.before.before.before).driven.within, c.before.before.before.before.before.before.before.before.before.before.before.good)
 
 sub-if1 : tie.Need-overflow_sub-o invariant-loop decreases-loop
-sub-if1 c = omega (arith, (spot (read c.before)).to)
+sub-if1 c = omega (arith, (spot c.before.before.before.before.before.before).to)
 
 add-if1-2 : tie.Need-overflow_add-o-in-loop-i invariant-loop decreases-loop
 add-if1-2 c =
-    let place = spot (read c.before) in
-    omega (arith, place.drives, place.from, place.to, place.takes.within, (begun (read c.before).before).good)
+    let place = spot c.before.before.before.before.before.before in
+    omega (arith, place.drives, place.from, place.to, place.takes.within, c.before.before.before.before.before.before.before.before.before.before.before.before.good)
 
 same_length : tie.Need-shape_of-marks-then-atom-o invariant-loop decreases-loop
-same_length c = let r = c.before.before in (found r).fault_in-atom.auto.1.1.1.1.1.0 ∙ (read r).before.before.loop-i.invariant.0
+same_length c = c.fault_in-atom.auto.1.1.1.1.1.0 ∙ c.loop-i.invariant.0
 
 returns : tie.Need-returns-then-atom-o invariant-loop decreases-loop
 returns c p b =
-    let r = read c.before.before in
-    let w = r.before.before.loop-i.inv.1 p b in
-    let f = facing w r.before.loop-i-test.taken in
-    let place = r.occurrence_at-o.ensures f.o f.there in
-    let a = ((found c.before.before).fault_in-atom.ensures p f.o w.signals f.there w.marked).0 in
+    let w = c.loop-i.inv.1 p b in
+    let f = facing w c.loop-i-test.taken in
+    let place = c.occurrence_at-o.ensures f.o f.there in
+    let a = (c.fault_in-atom.ensures p f.o w.signals f.there w.marked).0 in
     walking_stops w f _ a _ place.drives (omega (arith, c.if-atom-o.true, place.drives, place.to))
 
 add-i : tie.Need-overflow_add-i invariant-loop decreases-loop
@@ -79,22 +72,21 @@ loop-less : tie.Need-loop-i-smaller invariant-loop decreases-loop
 loop-less c = omega arith
 
 loop-again : tie.Need-loop-i-preserved invariant-loop decreases-loop
-loop-again c =
-    let r = read c.before.before in (
-      (found c.before.before).fault_in-atom.kept.1.1.1.1.1.0 ∙ r.before.before.loop-i.inv.0,
-      λ p b.
-          let w = r.before.before.loop-i.inv.1 p b in
-          let f = facing w r.before.loop-i-test.taken in
-          let place = r.occurrence_at-o.ensures f.o f.there in
-          let a = (found c.before.before).fault_in-atom.ensures p f.o w.signals f.there w.marked in
-          walking_on w f _ a.0 _ place.next (omega (arith, c.if-atom-o.false, place.drives, place.to)) a.1,
-    )
+loop-again c = (
+  c.fault_in-atom.kept.1.1.1.1.1.0 ∙ c.loop-i.inv.0,
+  λ p b.
+      let w = c.loop-i.inv.1 p b in
+      let f = facing w c.loop-i-test.taken in
+      let place = c.occurrence_at-o.ensures f.o f.there in
+      let a = c.fault_in-atom.ensures p f.o w.signals f.there w.marked in
+      walking_on w f _ a.0 _ place.next (omega (arith, c.if-atom-o.false, place.drives, place.to)) a.1,
+)
 
 same-length-2 : tie.Need-shape_of-marks invariant-loop decreases-loop
-same-length-2 c = c.before.loop-i.invariant.0
+same-length-2 c = c.loop-i.invariant.0
 
 returns-2 : tie.Need-returns invariant-loop decreases-loop
-returns-2 c p b = walking_last (c.before.loop-i.invariant.1 p b) c.loop-i-test.false
+returns-2 c p b = walking_last (c.loop-i.invariant.1 p b) c.loop-i-test.false
 
 pub walk_spec : {M : Type 1} → statement M
 walk_spec =

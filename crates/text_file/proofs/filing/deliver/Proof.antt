@@ -23,21 +23,14 @@ answer-requires c κs = search rules
 
 returns : tie.Need-returns-in-Refused
 returns c =
-    let at-number = c.before in
-    let at-modules = at-number.before.before in
-    let start = at-modules.before.before.before in
-    λ w. delivers-refused w (length start.args.out-1.now) start.args.out-1.now (sym at-number.number-1.given.1 ∙ at-modules.modules.ensures)
+    λ w. delivers-refused w (length c.args.out.now) c.args.out.now (sym c.in-Refused.is ∙ c.modules.ensures)
 
 same_length : tie.Need-shape_of-out
 same_length c = search rules
 
 returns-2 : tie.Need-returns-in-Modules
 returns-2 c =
-    let at-answer = c.before.before in
-    let at-enum-told = at-answer.before.before in
-    let at-modules = at-enum-told.before.before in
-    let start = at-modules.before.before.before in
-    λ w. delivers w (length start.args.out-1.now) start.args.out-1.now (sym at-enum-told.enum_told-1.given.1 ∙ at-modules.modules.ensures) at-answer.answer.ensures
+    λ w. delivers w (length c.args.out.now) c.args.out.now (sym c.in-Modules.is ∙ c.modules.ensures) c.answer.ensures
 
 pub deliver_spec : {M : Type 1} → statement M
 deliver_spec =

@@ -10,39 +10,29 @@ use Rattle.text_file.proofs.filing.file.Reads as reads
 use Rattle.text_file.proofs.filing.file.Lts as lts
 use Rattle.text_file.proofs.filing.deliver.Reads as deliver-reads
 use Rattle.text_file.proofs.filing.size.Reads as size-reads
-use Rattle.write_pieces.proofs.numbers.put_list-end.Reads as put-list-reads
+use Rattle.write_pieces.proofs.numbers.put_list.Reads as put-list-reads
 
 size-requires : tie.Need-size-requires
-size-requires c κs = c.before.before.before.requires.few
+size-requires c κs = c.requires.few
 
 returns : tie.Need-returns-then-size-gt65535
 returns c =
-    let at_size = c.before in
-    let start = at_size.before.before.before.before in
-    λ f. too_long f at_size.size.result at_size.size.ensures (omega arith) (length start.args.out-1.now) start.args.out-1.now
+    λ f. too_long f c.size.result c.size.ensures (omega arith) (length c.args.out.now) c.args.out.now
 
 put-list-requires : tie.Need-put_list-end-requires
 put-list-requires c κs =
-    let at_size = c.before.before in
-    let start = at_size.before.before.before.before in
-    puttable start.requires at_size.size.result at_size.size.ensures (omega arith)
+    puttable c.requires c.size.result c.size.ensures (omega arith)
 
 slice-reshare-prefix-deliver : tie.Need-slice_bounds-deliver-end
 slice-reshare-prefix-deliver c =
-    let at-put-list = c.before.before in
-    let at_size = at-put-list.before.before.before in
-    let start = at_size.before.before.before.before in
-    let p : _ = at-put-list.put_list-end.ensures.place in let k : _ = at-put-list.put_list-end.auto.1.0 in let f : _ = (puttable start.requires at_size.size.result at_size.size.ensures (omega arith)).1.fits in omega (arith, p, k, f)
+    let p : _ = c.put_list-end.ensures.place in let k : _ = c.put_list-end.auto.1.0 in let f : _ = (puttable c.requires c.size.result c.size.ensures (omega arith)).1.fits in omega (arith, p, k, f)
 
 slice-aggregate-deliver : tie.Need-slice_bounds-deliver-end-2
-slice-aggregate-deliver c = sym (length-take-le _ _ (slice-reshare-prefix-deliver c.before))
+slice-aggregate-deliver c = sym (length-take-le _ _ (slice-reshare-prefix-deliver c))
 
 deliver-requires : tie.Need-deliver-requires
 deliver-requires c κs =
-    let at-put-list = c.before.before.before.before in
-    let at_size = at-put-list.before.before.before in
-    let start = at_size.before.before.before.before in
-    whole start.requires at_size.size.result at_size.size.ensures (omega arith) _ _ at-put-list.put_list-end.ensures
+    whole c.requires c.size.result c.size.ensures (omega arith) _ _ c.put_list-end.ensures
 
 same_length : tie.Need-shape_of-bytes
 same_length c = search rules
@@ -52,12 +42,7 @@ same-length-2 c = search rules
 
 returns-2 : tie.Need-returns
 returns-2 c =
-    let at-deliver = c.before.before in
-    let half = at-deliver.before.before.before.before in
-    let at-put-list = half.before in
-    let at_size = at-put-list.before.before.before in
-    let start = at_size.before.before.before.before in
-    λ f. shelved-whole f at_size.size.result at_size.size.ensures (omega arith) _ _ at-put-list.put_list-end.ensures (length start.args.out-1.now) start.args.out-1.now _ _ at-deliver.deliver.ensures
+    λ f. shelved-whole f c.size.result c.size.ensures (omega arith) _ _ c.put_list-end.ensures (length c.args.out.now) c.args.out.now _ _ c.deliver.ensures
 
 pub file_spec : {M : Type 1} → statement M
 file_spec =

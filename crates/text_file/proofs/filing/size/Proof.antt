@@ -8,7 +8,7 @@ use Rattle.text_file.proofs.filing.size.Statement.{statement}
 use Rattle.text_file.proofs.filing.size.Tie as tie
 use Rattle.text_file.proofs.filing.size.Reads as reads
 use Rattle.text_file.proofs.filing.size.Lts as lts
-use Rattle.text_file.proofs.filing.width-all.Reads as width-reads
+use Rattle.text_file.proofs.filing.width.Reads as width-reads
 
 abbrev invariant-loop : tie.invariant-loop-i
 invariant-loop numbers all₀ i₀ all i = Sizing numbers all i
@@ -30,9 +30,7 @@ width-requires c κs = search rules
 
 add-all : tie.Need-overflow_add-all invariant-loop decreases-loop
 add-all c =
-    let turn = c.before.before.before in
-    let start = turn.before.before in
-    let w : _ = width_few (get_or start.args.numbers.now turn.loop-i.i 0) _ c.width-all.ensures in omega arith
+    let w : _ = width_few (get_or c.args.numbers.now c.loop-i.i 0) _ c.width-all.ensures in omega arith
 
 add-i : tie.Need-overflow_add-i invariant-loop decreases-loop
 add-i c = omega arith
@@ -41,10 +39,10 @@ loop-less : tie.Need-loop-i-smaller invariant-loop decreases-loop
 loop-less c = omega arith
 
 loop-again : tie.Need-loop-i-preserved invariant-loop decreases-loop
-loop-again c = sizing_next _ _ c.before.before.before.loop-i.i _ (omega arith) c.width-all.ensures c.before.before.before.loop-i.invariant
+loop-again c = sizing_next _ _ c.loop-i.i _ (omega arith) c.width-all.ensures c.loop-i.invariant
 
 returns : tie.Need-returns invariant-loop decreases-loop
-returns c = sizing_last _ _ c.before.loop-i.i (omega arith) c.before.loop-i.invariant
+returns c = sizing_last _ _ c.loop-i.i (omega arith) c.loop-i.invariant
 
 pub size_spec : {M : Type 1} → statement M
 size_spec =

@@ -8,7 +8,7 @@ use Rattle.text_reader.proofs.gates.enter.Reads as reads
 use Rattle.text_reader.proofs.gates.enter.Lts as lts
 use Rattle.text_reader.proofs.gates.enter_all.Reads as enter-all-reads
 
-slice-aggregate-enter-all : tie.Need-slice-aggregate-enter-all
+slice-aggregate-enter-all : tie.Need-??slice-aggregate-enter-all
 slice-aggregate-enter-all c = search rules
 
 enter-all-requires : tie.Need-enter_all-requires

@@ -7,7 +7,7 @@ use Rattle.text_reader.proofs.gates.enter_all.Statement.{statement}
 use Rattle.text_reader.proofs.gates.enter_all.Tie as tie
 use Rattle.text_reader.proofs.gates.enter_all.Reads as reads
 use Rattle.text_reader.proofs.gates.enter_all.Lts as lts
-use Rattle.text_names.proofs.number-given.Reads as number-reads
+use Rattle.text_names.proofs.number.Reads as number-reads
 
 abbrev invariant-loop : tie.invariant-loop-g
 invariant-loop names tree₀ starts count₀ g₀ tree count g = Gating tree₀ tree count g
@@ -16,7 +16,7 @@ abbrev decreases-loop : tie.decreases-loop-g
 decreases-loop names tree₀ starts count₀ g₀ tree count g = 16 - g
 
 loop-holds : tie.Need-loop-g-init invariant-loop decreases-loop
-loop-holds c = gating_first _ c.before.before.requires.1
+loop-holds c = gating_first _ c.requires.1
 
 mul-from : tie.Need-offset_bounds-starts-g invariant-loop decreases-loop
 mul-from c = omega arith
@@ -35,22 +35,20 @@ array-read-to c = omega arith
 
 sub_number : tie.Need-slice_bounds-number-count invariant-loop decreases-loop
 unfolding gate_starts
-sub_number c = starts_order c.before.loop-g.g (omega arith)
+sub_number c = starts_order c.loop-g.g (omega arith)
 
 part-number-start : tie.Need-slice_bounds-number-start invariant-loop decreases-loop
 unfolding gate_starts
-part-number-start c = starts_order c.before.loop-g.g (omega arith)
+part-number-start c = starts_order c.loop-g.g (omega arith)
 
 part-number-end : tie.Need-slice_bounds-number-end invariant-loop decreases-loop
 unfolding gate_starts
-part-number-end c = let w : _ = starts_within c.before.loop-g.g (omega arith) in let l : _ = bytes-long c.before.before.before.before.args.names.now c.before.before.before.before.requires.0 in omega (arith, w, l)
+part-number-end c = let w : _ = starts_within c.loop-g.g (omega arith) in let l : _ = bytes-long c.args.names.now c.requires.0 in omega (arith, w, l)
 
 number-requires : tie.Need-number-given-requires invariant-loop decreases-loop
 unfolding gate_starts
 number-requires c κs =
-    let turn = c.before.before.before in
-    let start = turn.before.before.before in
-    gating_need _ _ _ turn.loop-g.g _ start.requires.1 (omega arith) (cut-gate start.args.names.now turn.loop-g.g start.requires.0) turn.loop-g.invariant
+    gating_need _ _ _ c.loop-g.g _ c.requires.1 (omega arith) (cut-gate c.args.names.now c.loop-g.g c.requires.0) c.loop-g.invariant
 
 add-g : tie.Need-overflow_add-g invariant-loop decreases-loop
 add-g c = omega arith
@@ -61,16 +59,13 @@ loop-less c = omega arith
 loop-again : tie.Need-loop-g-preserved invariant-loop decreases-loop
 unfolding gate_starts
 loop-again c =
-    let at-number = c.before.before in
-    let turn = at-number.before.before.before.before in
-    let start = turn.before.before.before in
-    gating_next _ _ _ turn.loop-g.g _ _ _ _ (omega arith) (cut-gate start.args.names.now turn.loop-g.g start.requires.0) at-number.number-given.auto.1.0 at-number.number-given.ensures turn.loop-g.invariant
+    gating_next _ _ _ c.loop-g.g _ _ _ _ (omega arith) (cut-gate c.args.names.now c.loop-g.g c.requires.0) c.number-given.auto.1.0 c.number-given.ensures c.loop-g.invariant
 
 same_length : tie.Need-shape_of-tree invariant-loop decreases-loop
-same_length c = c.before.loop-g.invariant.same
+same_length c = c.loop-g.invariant.same
 
 returns : tie.Need-returns invariant-loop decreases-loop
-returns c = gating_last _ _ _ c.before.loop-g.g (omega arith) c.before.loop-g.invariant
+returns c = gating_last _ _ _ c.loop-g.g (omega arith) c.loop-g.invariant
 
 pub enter_all_spec : {M : Type 1} → statement M
 enter_all_spec =

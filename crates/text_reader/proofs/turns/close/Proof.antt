@@ -12,7 +12,7 @@ add-t5 c = search rules
 
 -- src/turns.rt:41:9
 returns : tie.Need-returns-then-state-eq16
-returns c = rw (eq-eqb _ 16 c.before.if-state-eq16.true)
+returns c = rw (eq-eqb _ 16 c.if-state-eq16.true)
 
 -- src/turns.rt:35:1
 returns-2 : tie.Need-returns

@@ -10,38 +10,29 @@ use Rattle.text_reader.proofs.turns.take.Statement.{statement}
 use Rattle.text_reader.proofs.turns.take.Tie as tie
 use Rattle.text_reader.proofs.turns.take.Reads as reads
 use Rattle.text_reader.proofs.turns.take.Lts as lts
-use Rattle.text_modes.proofs.after-mode.Reads as after-reads
-use Rattle.text_modes.proofs.kind-part.Reads as kind-reads
+use Rattle.text_modes.proofs.after.Reads as after-reads
+use Rattle.text_modes.proofs.kind.Reads as kind-reads
 use Rattle.text_reader.proofs.turns.close.Reads as close-reads
 use Rattle.text_reader.proofs.turns.turn_atom.Reads as turn-atom-reads
 use Rattle.text_reader.proofs.turns.turn_open.Reads as turn-open-reads
 
 shared-slice-read-kind : tie.Need-bounds-text-i
-shared-slice-read-kind c = c.before.before.before.before.requires.inside
+shared-slice-read-kind c = c.requires.inside
 
 kind-requires : tie.Need-kind-part-requires
 kind-requires c κs = search rules
 
 add-t11 : tie.Need-overflow_add-result
 add-t11 c =
-    let half = c.before.before.before.before in
-    let start = half.before.before in
-    let l : _ = start.requires.inside in omega arith
+    let l : _ = c.requires.inside in omega arith
 
 returns : tie.Need-returns-then-part-eq5
 returns c =
-    let at-kind = c.before in
-    let half = at-kind.before.before.before.before in
-    let start = half.before in
-    at-space _ _ _ _ _ start.requires _ at-kind.kind-part.ensures c.if-part-eq5.true
+    at-space _ _ _ _ _ c.requires _ c.kind-part.ensures c.if-part-eq5.true
 
 turn-atom-requires : tie.Need-turn_atom-requires
 turn-atom-requires c κs =
-    let decided2 = c.before.before in
-    let at-kind = decided2.before.before in
-    let half = at-kind.before.before.before.before in
-    let start = half.before in
-    record { here = start.requires; is = code-letter _ (sym at-kind.kind-part.ensures ∙ decided2.if-part-eq4.true) }
+    record { here = c.requires; is = code-letter _ (sym c.kind-part.ensures ∙ c.if-part-eq4.true) }
 
 same_length : tie.Need-shape_of-numbers-then-part-eq4
 same_length c = search rules
@@ -50,36 +41,19 @@ same-length-2 : tie.Need-shape_of-tree-then-part-eq4
 same-length-2 c = search rules
 
 returns-2 : tie.Need-returns-then-part-eq4
-returns-2 c = c.before.before.before.before.turn_atom.ensures
+returns-2 c = c.turn_atom.ensures
 
 after-requires : tie.Need-after-mode-requires
 after-requires c κs =
-    let decided = c.before in
-    let at-kind = decided.before in
-    let half = at-kind.before.before.before.before in
-    let start = half.before in
-    (state_mode _ _ _ _ _ start.requires.reading, part-few (kind_of (get_or start.args.text.now start.args.i 0)) _ at-kind.kind-part.ensures decided.if-part-eq5.false)
+    (state_mode _ _ _ _ _ c.requires.reading, part-few (kind_of (get_or c.args.text.now c.args.i 0)) _ c.kind-part.ensures c.if-part-eq5.false)
 
 returns-3 : tie.Need-returns-then-mode-ge18
 returns-3 c =
-    let at_after = c.before in
-    let decided2 = at_after.before in
-    let decided = decided2.before in
-    let at-kind = decided.before in
-    let half = at-kind.before.before.before.before in
-    let start = half.before in
-    sign-lost _ _ _ _ _ start.requires _ _ at-kind.kind-part.ensures decided2.if-part-eq4.false decided.if-part-eq5.false at_after.after-mode.ensures (omega arith)
+    sign-lost _ _ _ _ _ c.requires _ _ c.kind-part.ensures c.if-part-eq4.false c.if-part-eq5.false c.after-mode.ensures (omega arith)
 
 turn-open-requires : tie.Need-turn_open-requires
 turn-open-requires c κs =
-    let decided4 = c.before.before in
-    let at_after = decided4.before.before in
-    let decided2 = at_after.before in
-    let decided = decided2.before in
-    let at-kind = decided.before in
-    let half = at-kind.before.before.before.before in
-    let start = half.before in
-    sign_open _ _ _ _ _ start.requires _ _ at-kind.kind-part.ensures decided2.if-part-eq4.false decided.if-part-eq5.false at_after.after-mode.ensures (omega arith) decided4.if-part-eq1.true
+    sign_open _ _ _ _ _ c.requires _ _ c.kind-part.ensures c.if-part-eq4.false c.if-part-eq5.false c.after-mode.ensures (omega arith) c.if-part-eq1.true
 
 same-length-3 : tie.Need-shape_of-numbers-then-part-eq1
 same-length-3 c = search rules
@@ -88,32 +62,19 @@ same-length-4 : tie.Need-shape_of-tree-then-part-eq1
 same-length-4 c = search rules
 
 returns-4 : tie.Need-returns-then-part-eq1
-returns-4 c = c.before.before.turn_open.ensures
+returns-4 c = c.turn_open.ensures
 
 add-t20 : tie.Need-overflow_add-result-2
 add-t20 c =
-    let half = c.before.before.before.before in
-    let half-2 = half.before.before.before.before in
-    let start = half-2.before.before in
-    let l : _ = start.requires.inside in omega arith
+    let l : _ = c.requires.inside in omega arith
 
 close-requires : tie.Need-close-requires
 close-requires c κs =
-    let half = c.before.before.before.before in
-    let half-2 = half.before.before.before.before in
-    let start = half-2.before.before in
-    state_small _ _ _ _ _ start.requires
+    state_small _ _ _ _ _ c.requires
 
 returns-5 : tie.Need-returns
 returns-5 c =
-    let decided4 = c.before in
-    let at_after = decided4.before.before in
-    let decided2 = at_after.before in
-    let decided = decided2.before in
-    let at-kind = decided.before in
-    let half = at-kind.before.before.before.before in
-    let start = half.before in
-    sign-closed _ _ _ _ _ start.requires _ _ at-kind.kind-part.ensures decided2.if-part-eq4.false decided.if-part-eq5.false at_after.after-mode.ensures (omega arith) decided4.if-part-eq1.false _ c.close.ensures
+    sign-closed _ _ _ _ _ c.requires _ _ c.kind-part.ensures c.if-part-eq4.false c.if-part-eq5.false c.after-mode.ensures (omega arith) c.if-part-eq1.false _ c.close.ensures
 
 pub take_spec : {M : Type 1} → statement M
 take_spec =

@@ -6,78 +6,54 @@ use Rattle.text_reader.proofs.turns.turn_net.Statement.{statement}
 use Rattle.text_reader.proofs.turns.turn_net.Tie as tie
 use Rattle.text_reader.proofs.turns.turn_net.Reads as reads
 use Rattle.text_reader.proofs.turns.turn_net.Lts as lts
-use Rattle.text_desk.proofs.put_net-put.Reads as put-net-reads
+use Rattle.text_desk.proofs.put_net.Reads as put-net-reads
 use Rattle.text_names.proofs.grown.Reads as grown-reads
-use Rattle.text_names.proofs.number-given.Reads as number-reads
+use Rattle.text_names.proofs.number.Reads as number-reads
 
 mul-if1 : tie.Need-offset_bounds-numbers-list
-mul-if1 c = let l : _ = net-there _ _ _ _ _ _ _ c.before.before.before.before.requires.short _ refl c.before.before.before.before.requires.netted in omega arith
+mul-if1 c = let l : _ = net-there _ _ _ _ _ _ _ c.requires.short _ refl c.requires.netted in omega arith
 
 slice-read-if1 : tie.Need-bounds-numbers-list
 slice-read-if1 c =
-    let half = c.before.before.before.before in
-    let start = half.before in
-    net-there _ _ _ _ _ _ _ start.requires.short _ refl start.requires.netted
+    net-there _ _ _ _ _ _ _ c.requires.short _ refl c.requires.netted
 
 returns : tie.Need-returns-then-numbers-list-ge192
 returns c =
-    let half = c.before.before.before.before in
-    let start = half.before.before in
-    net-full _ _ _ _ _ _ _ start.requires.short _ refl start.requires.netted c.if-numbers-list-ge192.true
+    net-full _ _ _ _ _ _ _ c.requires.short _ refl c.requires.netted c.if-numbers-list-ge192.true
 
 sub_number : tie.Need-slice_bounds-number-count
 sub_number c =
-    let half = c.before.before.before.before in
-    let start = half.before.before in
-    let l : _ = atom-some _ _ _ _ _ _ _ start.requires.short in omega arith
+    let l : _ = atom-some _ _ _ _ _ _ _ c.requires.short in omega arith
 
 part-number-start : tie.Need-slice_bounds-number-start
 part-number-start c =
-    let half = c.before.before.before.before in
-    let start = half.before.before in
-    let l : _ = atom-some _ _ _ _ _ _ _ start.requires.short in omega arith
+    let l : _ = atom-some _ _ _ _ _ _ _ c.requires.short in omega arith
 
 part-number-end : tie.Need-slice_bounds-number-end
 part-number-end c =
-    let half = c.before.before.before.before in
-    let start = half.before.before in
-    atom-within _ _ _ _ _ _ _ start.requires.short
+    atom-within _ _ _ _ _ _ _ c.requires.short
 
 number-requires : tie.Need-number-given-requires
 number-requires c κs =
-    let half = c.before.before.before.before in
-    let start = half.before.before.before.before in
-    net_numberable _ _ _ _ _ _ _ start.requires.short _ refl
+    net_numberable _ _ _ _ _ _ _ c.requires.short _ refl
 
 same_length : tie.Need-shape_of-tree-then-x-ge16384
 same_length c = search rules
 
 returns-2 : tie.Need-returns-then-x-ge16384
 returns-2 c =
-    let at-number = c.before.before.before in
-    let half = at-number.before.before.before.before in
-    let half-2 = half.before.before.before.before in
-    let start = half-2.before in
-    net-refused _ _ _ _ _ _ _ start.requires.short _ refl start.requires.netted _ _ _ at-number.number-given.ensures (omega arith)
+    net-refused _ _ _ _ _ _ _ c.requires.short _ refl c.requires.netted _ _ _ c.number-given.ensures (omega arith)
 
 cast-put-net : tie.Need-overflow_cast-x
 cast-put-net c = search rules
 
 put-net-requires : tie.Need-put_net-put-requires
 put-net-requires c κs =
-    let half = c.before.before.before.before in
-    let half-2 = half.before.before.before.before in
-    let half-3 = half-2.before.before.before.before in
-    let start = half-3.before in
-    net_netting _ _ _ _ _ _ _ start.requires.short _ refl start.requires.netted (omega arith)
+    net_netting _ _ _ _ _ _ _ c.requires.short _ refl c.requires.netted (omega arith)
 
 grown-requires : tie.Need-grown-requires
 grown-requires c κs =
-    let half = c.before.before.before.before in
-    let half-2 = half.before.before.before.before in
-    let half-3 = half-2.before.before.before.before in
-    let start = half-3.before.before.before.before in
-    let l : _ = start.requires.short.atom.here.reading.dict.nets-most in omega arith
+    let l : _ = c.requires.short.atom.here.reading.dict.nets-most in omega arith
 
 same-length-2 : tie.Need-shape_of-numbers
 same-length-2 c = search rules
@@ -87,13 +63,7 @@ same-length-3 c = search rules
 
 returns-3 : tie.Need-returns
 returns-3 c =
-    let at-put-net = c.before.before.before in
-    let half = at-put-net.before.before.before.before in
-    let at-number = half.before in
-    let half-2 = at-number.before.before.before.before in
-    let half-3 = half-2.before.before.before.before in
-    let start = half-3.before in
-    net-turned _ _ _ _ _ _ _ start.requires.short _ refl start.requires.netted _ _ _ at-number.number-given.ensures (omega arith) (omega arith) _ _ _ at-put-net.put_net-put.auto.1.0 at-put-net.put_net-put.ensures c.grown.ensures
+    net-turned _ _ _ _ _ _ _ c.requires.short _ refl c.requires.netted _ _ _ c.number-given.ensures (omega arith) (omega arith) _ _ _ c.put_net-put.auto.1.0 c.put_net-put.ensures c.grown.ensures
 
 pub turn_net_spec : {M : Type 1} → statement M
 turn_net_spec =

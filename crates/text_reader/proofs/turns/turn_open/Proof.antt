@@ -7,31 +7,22 @@ use Rattle.text_reader.proofs.turns.turn_open.Tie as tie
 use Rattle.text_reader.proofs.turns.turn_open.Reads as reads
 use Rattle.text_reader.proofs.turns.turn_open.Lts as lts
 use Rattle.text_desk.proofs.is_full.Reads as is-full-reads
-use Rattle.text_desk.proofs.open-opened.Reads as open-reads
+use Rattle.text_desk.proofs.open.Reads as open-reads
 
 is-full-requires : tie.Need-is_full-requires
 is-full-requires c κs =
-    let half = c.before.before.before.before in
-    let start = half.before in
-    open_testable _ _ _ _ _ _ start.requires
+    open_testable _ _ _ _ _ _ c.requires
 
 same_length : tie.Need-shape_of-numbers-then-is_full
 same_length c = search rules
 
 returns : tie.Need-returns-then-is_full
 returns c =
-    let at-is-full = c.before in
-    let half = at-is-full.before.before.before.before in
-    let start = half.before.before in
-    open_refused _ _ _ _ _ _ start.requires (sym at-is-full.is_full.ensures ∙ c.if-is_full.true)
+    open_refused _ _ _ _ _ _ c.requires (sym c.is_full.ensures ∙ c.if-is_full.true)
 
 open-requires : tie.Need-open-opened-requires
 open-requires c κs =
-    let decided = c.before in
-    let at-is-full = decided.before in
-    let half = at-is-full.before.before.before.before in
-    let start = half.before.before in
-    open_opening _ _ _ _ _ _ start.requires (sym at-is-full.is_full.ensures ∙ decided.if-is_full.false)
+    open_opening _ _ _ _ _ _ c.requires (sym c.is_full.ensures ∙ c.if-is_full.false)
 
 add-t14 : tie.Need-overflow_add-result
 add-t14 c = search rules
@@ -41,12 +32,7 @@ same-length-2 c = search rules
 
 returns-2 : tie.Need-returns
 returns-2 c =
-    let here = c.before.before in
-    let decided = here.before.before in
-    let at-is-full = decided.before in
-    let half = at-is-full.before.before.before.before in
-    let start = half.before.before in
-    open_turned _ _ _ _ _ _ start.requires (sym at-is-full.is_full.ensures ∙ decided.if-is_full.false) _ _ here.«open».auto.1.0 here.«open».ensures
+    open_turned _ _ _ _ _ _ c.requires (sym c.is_full.ensures ∙ c.if-is_full.false) _ _ c.before.before.«open».auto.1.0 c.before.before.«open».ensures
 
 pub turn_open_spec : {M : Type 1} → statement M
 turn_open_spec =

@@ -11,36 +11,30 @@ use Rattle.write_ahead.proofs.carries.join.Tie as tie
 
 room : (c : tie.Start)
     → (let a = c.args in
-    Room (pass_bytes a.p a.x a.y a.z ++ make_bytes a.width a.p a.x a.y a.z) a.bytes-1.now a.at)
+    Room (pass_bytes a.p a.x a.y a.z ++ make_bytes a.width a.p a.x a.y a.z) a.bytes.now a.at)
 room c = let a = c.args in rw (bytes-of-join a.width a.p a.x a.y a.z) at c.requires.5
 
 put-list-requires : tie.Need-put_list-makes-requires
-put-list-requires c κs =
-    let start = c.before.before.before in (
-      all_small _ (omega arith, (omega arith, (omega arith, (omega arith, (omega arith, (omega arith, (omega arith, tt))))))),
-      room-first _ (room start),
-    )
+put-list-requires c κs = (
+  all_small _ (omega arith, (omega arith, (omega arith, (omega arith, (omega arith, (omega arith, (omega arith, tt))))))),
+  room-first _ (room c.before.before.before),
+)
 
 over-two-requires : tie.Need-over_two-requires
-over-two-requires c κs =
-    let first = c.before.before.before in
-    let start = first.before.before.before.before in (
-      start.requires.0,
-      omega arith,
-      omega arith,
-      omega arith,
-      omega arith,
-      laying-left (laying-put first.put_list-makes.ensures (laying-start (room start))),
-    )
+over-two-requires c κs = (
+  c.requires.0,
+  omega arith,
+  omega arith,
+  omega arith,
+  omega arith,
+  laying-left (laying-put c.put_list-makes.ensures (laying-start (room c.before.before.before.before.before.before.before))),
+)
 
 returns : tie.Need-returns
 returns c =
-    let second = c.before.before in
-    let first = second.before.before.before.before in
-    let start = first.before.before.before.before in
-    let a = start.args in
+    let a = c.args in
     rw (bytes-of-join a.width a.p a.x a.y a.z)
-    (laying-last second.over_two.ensures (laying-put first.put_list-makes.ensures (laying-start (room start))))
+    (laying-last c.over_two.ensures (laying-put c.put_list-makes.ensures (laying-start (room c.before.before.before.before.before.before.before.before.before.before))))
 
 pub join_spec : {M : Type 1} → statement M
 join_spec =

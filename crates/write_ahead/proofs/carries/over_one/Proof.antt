@@ -9,12 +9,12 @@ use Rattle.write_ahead.proofs.carries.over_one.Tie as tie
 put-list-requires : tie.Need-put_list-requires
 unfolding occurrence_numbers
 put-list-requires c κs =
-    let p = c.before.before.before.requires in
+    let p = c.requires in
     (all_small _ (omega arith, (omega arith, (omega arith, (omega arith, (omega arith, (omega arith, (omega arith, tt))))))), p.4)
 
 returns : tie.Need-returns
 unfolding occurrence_numbers
-returns c = c.before.before.put_list.ensures
+returns c = c.put_list.ensures
 
 pub over_one_spec : {M : Type 1} → statement M
 over_one_spec =

@@ -18,8 +18,8 @@ module _ (t : ℕ) where
   chain-requires c κs =
       let node = c.before.before.before in
       let start = entry t node in (
-        omega (arith, counted _ _ _ (joined t node).is, start.requires.0),
-        low_chainable (joined t node) start.requires.1 (omega (arith, c.before.if-left-low.true, c.before.before.leaves-low.ensures)),
+        omega (arith, counted _ _ _ (joined t node).is, start.pre.0),
+        low_chainable (joined t node) start.pre.1 (omega (arith, c.before.if1.true, c.before.before.leaves.ensures)),
       )
 
   returns : lts.Need-returns-then-left-low (claims t) (Given t) reads.Post
@@ -27,14 +27,14 @@ module _ (t : ℕ) where
       let called = c.before.before in
       let test = called.before.before in
       let node = test.before.before in
-      low-chained (joined t node) (entry t node).requires.1 (omega (arith, test.if-left-low.true, test.before.leaves-low.ensures))
+      low-chained (joined t node) (entry t node).requires.1 (omega (arith, test.if1.true, test.before.leaves.ensures))
       called.chain.ensures
 
   over-one-requires : lts.Need-over_one-behind-requires (claims t) (Given t) reads.Post
   over-one-requires c κs =
       let x = c.before.before.before in
       let sizes = counts t x in
-      one_able (joined t (told t sizes)) (entry t (told t sizes)).requires.1 (past t sizes) x.ahead-x.ensures
+      one_able (joined t (told t sizes)) (entry t (told t sizes)).pre.1 (past t sizes) x.ahead.ensures
 
   chain-requires-2 : lts.Need-chain-rest-requires (claims t) (Given t) reads.Post
   chain-requires-2 c κs =
@@ -43,10 +43,10 @@ module _ (t : ℕ) where
       let x = low t carry in
       let sizes = counts t x in
       let node = told t sizes in (
-        omega (arith, counted _ _ _ (joined t node).is, (entry t node).requires.0),
-        middle_chainable (joined t node) (entry t node).requires.1 (past t sizes) x.ahead-x.ensures carry.over_one-behind.ensures (inside t test)
-            sizes.before.before.leaves-low.result
-            sizes.before.before.leaves-low.ensures,
+        omega (arith, counted _ _ _ (joined t node).is, (entry t node).pre.0),
+        middle_chainable (joined t node) (entry t node).pre.1 (past t sizes) x.ahead.ensures carry.over-one.ensures (inside t test)
+            sizes.before.before.leaves.result
+            sizes.before.before.leaves.ensures,
       )
 
   returns-2 : lts.Need-returns-then-left-both (claims t) (Given t) reads.Post
@@ -57,10 +57,10 @@ module _ (t : ℕ) where
       let x = low t carry in
       let sizes = counts t x in
       let node = told t sizes in
-      middle-chained (joined t node) (entry t node).requires.1 (past t sizes) x.ahead-x.ensures carry.over_one-behind.ensures (inside t test)
-      sizes.before.before.leaves-low.result
-      sizes.before.before.leaves-low.ensures
-      called.chain-rest.ensures
+      middle-chained (joined t node) (entry t node).pre.1 (past t sizes) x.ahead.ensures carry.over-one.ensures (inside t test)
+      sizes.before.before.leaves.result
+      sizes.before.before.leaves.ensures
+      called.chain2.ensures
 
   add-t28 : lts.Need-overflow_add-result (claims t) (Given t) reads.Post
   add-t28 c =
@@ -71,10 +71,10 @@ module _ (t : ℕ) where
       let sizes = counts t x in
       let node = told t sizes in
       let able =
-      middle_chainable (joined t node) (entry t node).requires.1 (past t sizes) x.ahead-x.ensures carry.over_one-behind.ensures (inside t test)
-      sizes.before.before.leaves-low.result
-      sizes.before.before.leaves-low.ensures in
-      omega (arith, laid-few able called.chain-rest.ensures)
+      middle_chainable (joined t node) (entry t node).pre.1 (past t sizes) x.ahead.ensures carry.over-one.ensures (inside t test)
+      sizes.before.before.leaves.result
+      sizes.before.before.leaves.ensures in
+      omega (arith, laid-few able called.chain2.ensures)
 
   ahead-requires-2 : lts.Need-ahead-y-requires (claims t) (Given t) reads.Post
   ahead-requires-2 c κs =
@@ -83,7 +83,7 @@ module _ (t : ℕ) where
       let x = low t carry in
       let sizes = counts t x in
       let node = told t sizes in
-      middle_able (joined t node) (entry t node).requires.1 (past t sizes) x.ahead-x.ensures carry.over_one-behind.ensures (outside t test)
+      middle_able (joined t node) (entry t node).pre.1 (past t sizes) x.ahead.ensures carry.over-one.ensures (outside t test)
 
   over-two-requires : lts.Need-over_two-behind-requires (claims t) (Given t) reads.Post
   over-two-requires c κs =
@@ -93,7 +93,7 @@ module _ (t : ℕ) where
       let x = low t carry in
       let sizes = counts t x in
       let node = told t sizes in
-      two_able (joined t node) (entry t node).requires.1 (past t sizes) x.ahead-x.ensures carry.over_one-behind.ensures (outside t test) y.ahead-y.ensures
+      two_able (joined t node) (entry t node).pre.1 (past t sizes) x.ahead.ensures carry.over-one.ensures (outside t test) y.ahead2.ensures
 
   chain-requires-3 : lts.Need-chain-rest-requires-in-Node (claims t) (Given t) reads.Post
   chain-requires-3 c κs =
@@ -104,11 +104,11 @@ module _ (t : ℕ) where
       let x = low t carry in
       let sizes = counts t x in
       let node = told t sizes in (
-        omega (arith, counted _ _ _ (joined t node).is, (entry t node).requires.0),
-        high_chainable (joined t node) (entry t node).requires.1 (past t sizes) x.ahead-x.ensures carry.over_one-behind.ensures (outside t test)
-            y.ahead-y.ensures
-            behind.over_two-behind.ensures
-            (sizes.before.before.leaves-low.result + sizes.leaves.result)
+        omega (arith, counted _ _ _ (joined t node).is, (entry t node).pre.0),
+        high_chainable (joined t node) (entry t node).pre.1 (past t sizes) x.ahead.ensures carry.over-one.ensures (outside t test)
+            y.ahead2.ensures
+            behind.over-two.ensures
+            (sizes.before.before.leaves.result + sizes.leaves2.result)
             (both t sizes),
       )
 
@@ -122,12 +122,12 @@ module _ (t : ℕ) where
       let x = low t carry in
       let sizes = counts t x in
       let node = told t sizes in
-      high-chained (joined t node) (entry t node).requires.1 (past t sizes) x.ahead-x.ensures carry.over_one-behind.ensures (outside t test)
-      y.ahead-y.ensures
-      behind.over_two-behind.ensures
-      (sizes.before.before.leaves-low.result + sizes.leaves.result)
+      high-chained (joined t node) (entry t node).pre.1 (past t sizes) x.ahead.ensures carry.over-one.ensures (outside t test)
+      y.ahead2.ensures
+      behind.over-two.ensures
+      (sizes.before.before.leaves.result + sizes.leaves2.result)
       (both t sizes)
-      called.chain-rest-in-Node.ensures
+      called.chain3.ensures
 
   add-t23 : lts.Need-overflow_add-result-in-Node (claims t) (Given t) reads.Post
   add-t23 c =
@@ -140,18 +140,18 @@ module _ (t : ℕ) where
       let sizes = counts t x in
       let node = told t sizes in
       let able =
-      high_chainable (joined t node) (entry t node).requires.1 (past t sizes) x.ahead-x.ensures carry.over_one-behind.ensures (outside t test)
-      y.ahead-y.ensures
-      behind.over_two-behind.ensures
-      (sizes.before.before.leaves-low.result + sizes.leaves.result)
+      high_chainable (joined t node) (entry t node).pre.1 (past t sizes) x.ahead.ensures carry.over-one.ensures (outside t test)
+      y.ahead2.ensures
+      behind.over-two.ensures
+      (sizes.before.before.leaves.result + sizes.leaves2.result)
       (both t sizes) in
-      omega (arith, laid-few able called.chain-rest-in-Node.ensures)
+      omega (arith, laid-few able called.chain3.ensures)
 
   returns-3 : lts.Need-returns-in-Leaf (claims t) (Given t) reads.Post
   returns-3 c =
       let parted = c.before.before in
       let start = parted.before.before in
-      no_steps _ _ _ _ _ _ (subst (Parted start.args.tree) c.enum_told-1.given.1 parted.split.ensures)
+      no_steps _ _ _ _ _ _ (subst (Parted start.args.tree) c.enum_told.given.1 parted.split.ensures)
 
 pub +chain_spec : {M : Type 1} → statement M
 +chain_spec =
@@ -162,17 +162,17 @@ pub +chain_spec : {M : Type 1} → statement M
     (λ c. search rules)
     (λ c κs. ((joined t c).low, (parts-few (joined t c) (entry t c).requires.1).0))
     (chain-requires t)
-    (λ c. let node = c.before.before.before.before.before.before in chained-length (entry t node).requires.1 (returns t c))
+    (λ c. chained-length (entry t c.before.before.before.before.before.before).requires.1 (returns t c))
     (returns t)
-    (λ c κs. let node = c.before.before in ((joined t node).middle, (parts-few (joined t node) (entry t node).requires.1).1))
-    (λ c. omega (arith, both t c, parts-few (joined t (told t c)) (entry t (told t c)).requires.1))
-    (λ c κs. let sizes = c.before in low_able (joined t (told t sizes)) (entry t (told t sizes)).requires.1 (past t sizes))
+    (λ c κs. let c.before.before.before.before.before.before = c.before.before in ((joined t c.before.before.before.before.before.before).middle, (parts-few (joined t c.before.before.before.before.before.before) (entry t c.before.before.before.before.before.before).requires.1).1))
+    (λ c. omega (arith, both t c, parts-few (joined t (told t c)) (entry t (told t c)).pre.1))
+    (λ c κs. low_able (joined t (told t c.before)) (entry t (told t c.before)).pre.1 (past t c.before))
     (over-one-requires t)
     (chain-requires-2 t)
     (add-t28 t)
     (λ c.
     let carry = within t c.before.before.before.before.before in
-    chained-length (entry t (told t (counts t (low t carry)))).requires.1 (returns-2 t c))
+    chained-length (entry t (told t (counts t (low t carry)))).pre.1 (returns-2 t c))
     (returns-2 t)
     (ahead-requires-2 t)
     (over-two-requires t)
@@ -181,5 +181,5 @@ pub +chain_spec : {M : Type 1} → statement M
     (returns-3 t)
     (λ c.
     let y = middle t c.before.before.before.before.before.before.before in
-    chained-length (entry t (told t (counts t (low t (one t (beyond t y)))))).requires.1 (returns-4 t c))
+    chained-length (entry t (told t (counts t (low t (one t (beyond t y)))))).pre.1 (returns-4 t c))
     (returns-4 t)

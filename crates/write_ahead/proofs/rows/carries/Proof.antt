@@ -13,22 +13,17 @@ use Rattle.write_ahead.proofs.rows.carries.Tie as tie
 
 room : (c : tie.Start)
     → (let a = c.args in
-    Room (each number_bytes (a.width ∷ []) ++ each number_bytes (up_from 1 a.width)) a.bytes-1.now a.at)
+    Room (each number_bytes (a.width ∷ []) ++ each number_bytes (up_from 1 a.width)) a.bytes.now a.at)
 room c = rw (bytes-of-carries c.args.width) at c.requires.1
 
 put-run-requires : tie.Need-put_run-requires
 put-run-requires c κs =
-    let first = c.before.before.before in
-    let start = first.before.before.before.before in
-    (omega arith, laying-left (laying-put first.put_list-first.ensures (laying-start (room start))))
+    (omega arith, laying-left (laying-put c.put_list-first.ensures (laying-start (room c.before.before.before.before.before.before.before))))
 
 returns : tie.Need-returns
 returns c =
-    let second = c.before.before in
-    let first = second.before.before.before.before in
-    let start = first.before.before.before.before in
-    rw (bytes-of-carries start.args.width)
-    (laying-last second.put_run.ensures (laying-put first.put_list-first.ensures (laying-start (room start))))
+    rw (bytes-of-carries c.args.width)
+    (laying-last c.put_run.ensures (laying-put c.put_list-first.ensures (laying-start (room c.before.before.before.before.before.before.before.before.before.before))))
 
 pub carries_spec : {M : Type 1} → statement M
 carries_spec =

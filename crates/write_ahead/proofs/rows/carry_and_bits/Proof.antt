@@ -15,24 +15,19 @@ use Rattle.write_ahead.proofs.rows.carry_and_bits.Tie as tie
 room : (c : tie.Start)
     → (let a = c.args in
     Room (each number_bytes (a.number ∷ (2 * a.width + 1) ∷ 0 ∷ []) ++ each number_bytes (up_from a.first (2 * a.width)))
-    a.bytes-1.now
+    a.bytes.now
     a.at)
 room c = let a = c.args in rw (bytes-of-carry-and-bits a.number a.width a.first) at c.requires.3
 
 put-run-requires : tie.Need-put_run-requires
 put-run-requires c κs =
-    let first = c.before.before.before in
-    let start = first.before.before.before.before in
-    (omega arith, laying-left (laying-put first.put_list-bits.ensures (laying-start (room start))))
+    (omega arith, laying-left (laying-put c.put_list-bits.ensures (laying-start (room c.before.before.before.before.before.before.before))))
 
 returns : tie.Need-returns
 returns c =
-    let second = c.before.before in
-    let first = second.before.before.before.before in
-    let start = first.before.before.before.before in
-    let a = start.args in
+    let a = c.args in
     rw (bytes-of-carry-and-bits a.number a.width a.first)
-    (laying-last second.put_run.ensures (laying-put first.put_list-bits.ensures (laying-start (room start))))
+    (laying-last c.put_run.ensures (laying-put c.put_list-bits.ensures (laying-start (room c.before.before.before.before.before.before.before.before.before.before))))
 
 pub carry_and_bits_spec : {M : Type 1} → statement M
 carry_and_bits_spec =

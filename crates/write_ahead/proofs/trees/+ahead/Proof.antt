@@ -10,11 +10,11 @@ use Rattle.write_trees.proofs.Shapes.{counted}
 use Rattle.write_ahead.proofs.Nodes.{laid-length, leaf-laid, low_able, one_able, middle_able, two_able, high_able, join_able, node-laid}
 use borrow.Fn.Kinds.{In}
 use borrow.Fn.PlainCycle.{Measures, is, falls, and}
-use Rattle.write_ahead.proofs.trees.ahead-x.Reads as reads
-use Rattle.write_ahead.proofs.trees.ahead-x.Kinds as kinds
+use Rattle.write_ahead.proofs.trees.ahead.Reads as reads
+use Rattle.write_ahead.proofs.trees.ahead.Kinds as kinds
 use Rattle.write_ahead.proofs.trees.+ahead.Lts-ahead as lts
-use Rattle.write_ahead.proofs.carries.over_one-y_at.Reads as over-one
-use Rattle.write_ahead.proofs.carries.over_two-z_at.Reads as over-two
+use Rattle.write_ahead.proofs.carries.over_one.Reads as over-one
+use Rattle.write_ahead.proofs.carries.over_two.Reads as over-two
 use Rattle.write_ahead.proofs.carries.join.Reads as join
 use Rattle.write_trees.proofs.split.Reads as split
 use Rattle.write_ahead.proofs.trees.+ahead.{statement}
@@ -65,19 +65,19 @@ module _ (t : ℕ) where
   two c = c.before.before.before.before
 
   joined : (c : lts.In-Node claims (Given t) reads.Post)
-      → (let parts = c.before.x-1.given.0 in Joined (entry c).args.tree parts.0 parts.1.0 parts.1.1.0)
-  joined c = subst (Parted (entry c).args.tree) c.before.x-1.given.1 c.before.before.before.split.ensures
+      → (let parts = c.before.x.given.0 in Joined (entry c).args.tree parts.0 parts.1.0 parts.1.1.0)
+  joined c = subst (Parted (entry c).args.tree) c.before.x.given.1 c.before.before.before.split.ensures
 
   ahead-requires : lts.Need-ahead-x-requires claims (Given t) reads.Post
   ahead-requires c κs =
       let node = joined c.before in
       let start = entry c.before in
-      (omega (arith, counted _ _ _ node.is, start.requires.0), low_able node start.requires.1)
+      (omega (arith, counted _ _ _ node.is, start.pre.0), low_able node start.pre.1)
 
   over-one-requires : lts.Need-over_one-y_at-requires claims (Given t) reads.Post
   over-one-requires c κs =
       let x = c.before.before.before in
-      one_able (joined (told x)) (entry (told x)).requires.1 x.ahead-x.ensures
+      one_able (joined (told x)) (entry (told x)).pre.1 x.ahead.ensures
 
   ahead-requires-2 : lts.Need-ahead-y-requires claims (Given t) reads.Post
   ahead-requires-2 c κs =
@@ -85,8 +85,8 @@ module _ (t : ℕ) where
       let x = low carry in
       let node = joined (told x) in
       let start = entry (told x) in (
-        omega (arith, counted _ _ _ node.is, start.requires.0),
-        middle_able node start.requires.1 x.ahead-x.ensures carry.over_one-y_at.ensures,
+        omega (arith, counted _ _ _ node.is, start.pre.0),
+        middle_able node start.pre.1 x.ahead.ensures carry.over-one.ensures,
       )
 
   over-two-requires : lts.Need-over_two-z_at-requires claims (Given t) reads.Post
@@ -94,7 +94,7 @@ module _ (t : ℕ) where
       let y = c.before.before.before in
       let carry = one y in
       let x = low carry in
-      two_able (joined (told x)) (entry (told x)).requires.1 x.ahead-x.ensures carry.over_one-y_at.ensures y.ahead-y.ensures
+      two_able (joined (told x)) (entry (told x)).pre.1 x.ahead.ensures carry.over-one.ensures y.ahead2.ensures
 
   ahead-requires-3 : lts.Need-ahead-z-requires claims (Given t) reads.Post
   ahead-requires-3 c κs =
@@ -104,8 +104,8 @@ module _ (t : ℕ) where
       let x = low carry in
       let node = joined (told x) in
       let start = entry (told x) in (
-        omega (arith, counted _ _ _ node.is, start.requires.0),
-        high_able node start.requires.1 x.ahead-x.ensures carry.over_one-y_at.ensures y.ahead-y.ensures both.over_two-z_at.ensures,
+        omega (arith, counted _ _ _ node.is, start.pre.0),
+        high_able node start.pre.1 x.ahead.ensures carry.over-one.ensures y.ahead2.ensures both.over-two.ensures,
       )
 
   join-requires : lts.Need-join-requires claims (Given t) reads.Post
@@ -115,8 +115,8 @@ module _ (t : ℕ) where
       let y = middle both in
       let carry = one y in
       let x = low carry in
-      join_able (joined (told x)) (entry (told x)).requires.1 x.ahead-x.ensures carry.over_one-y_at.ensures y.ahead-y.ensures
-      both.over_two-z_at.ensures z.ahead-z.ensures
+      join_able (joined (told x)) (entry (told x)).pre.1 x.ahead.ensures carry.over-one.ensures y.ahead2.ensures
+      both.over-two.ensures z.ahead3.ensures
 
   returns-2 : lts.Need-returns-in-Node claims (Given t) reads.Post
   returns-2 c =
@@ -126,29 +126,29 @@ module _ (t : ℕ) where
       let y = middle both in
       let carry = one y in
       let x = low carry in
-      node-laid (joined (told x)) (entry (told x)).requires.1 x.ahead-x.ensures carry.over_one-y_at.ensures y.ahead-y.ensures
-      both.over_two-z_at.ensures z.ahead-z.ensures end.join.ensures
+      node-laid (joined (told x)) (entry (told x)).pre.1 x.ahead.ensures carry.over-one.ensures y.ahead2.ensures
+      both.over-two.ensures z.ahead3.ensures end.join.ensures
 
   same_length : lts.Need-shape_of-bytes claims (Given t) reads.Post
   same_length c =
       let z = c.before.before.before.before.before.before.before in
-      laid-length (entry (told (low (one (middle (two z)))))).requires.1 (returns-2 c)
+      laid-length (entry (told (low (one (middle (two z)))))).pre.1 (returns-2 c)
 
   returns : lts.Need-returns-in-Leaf claims (Given t) reads.Post
   returns c =
       let parted = c.before.before in
       let start = parted.before.before in
-      leaf-laid _ _ _ _ _ (subst (Parted start.args.tree) c.enum_told-1.given.1 parted.split.ensures)
+      leaf-laid _ _ _ _ _ (subst (Parted start.args.tree) c.enum_told.given.1 parted.split.ensures)
 
   -- The net of a node's P is small.
   small-net : (c : lts.After-ahead-z claims (Given t) reads.Post)
       → (let y = middle (two c) in
-      ((entry (told (low (one y)))).args.width ≤ 64) × (y.ahead-y.result.end ≤ 2000))
+      ((entry (told (low (one y)))).args.width ≤ 64) × (y.ahead2.result.end ≤ 2000))
   small-net z =
       let y = middle (two z) in
       let carry = one y in
       let x = low carry in
-      let able = two_able (joined (told x)) (entry (told x)).requires.1 x.ahead-x.ensures carry.over_one-y_at.ensures y.ahead-y.ensures in
+      let able = two_able (joined (told x)) (entry (told x)).pre.1 x.ahead.ensures carry.over-one.ensures y.ahead2.ensures in
       (able.0, able.1)
 
 pub +ahead_spec : {M : Type 1} → statement M

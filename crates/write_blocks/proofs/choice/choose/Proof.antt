@@ -21,20 +21,20 @@ decreases-loop empty high low ands ors count bytes₀ at at₀ i₀ bytes at' i 
 
 loop-holds : tie.Need-loop-i-init invariant-loop decreases-loop
 loop-holds c =
-    let a = c.before.args in
-    laying-none a.bytes-1.now a.at
+    let a = c.args in
+    laying-none a.bytes.now a.at
     (whole_choice a.empty a.high a.low a.ands a.ors a.count)
-    c.before.requires.4.fits
+    c.requires.4.fits
 
 -- In a turn the two gates of a bit are left, and there is room for them.
 room : (c : tie.In-loop-i invariant-loop decreases-loop)
-    → (length c.before.loop-i.bytes-1 ≡ length c.before.before.before.args.bytes-1.now)
-    × (c.before.loop-i.at + 12 ≤ length c.before.before.before.args.bytes-1.now)
+    → (length c.loop-i.bytes ≡ length c.args.bytes.now)
+    × (c.loop-i.at + 12 ≤ length c.args.bytes.now)
 unfolding occurrence_numbers
 room c =
-    let a = c.before.before.before.args in
-    let i = c.before.loop-i.i in
-    laying-room c.before.loop-i.invariant (bit_at a.empty a.high a.low a.ands a.ors i) _
+    let a = c.args in
+    let i = c.loop-i.i in
+    laying-room c.loop-i.invariant (bit_at a.empty a.high a.low a.ands a.ors i) _
     (rest-of_choice a.empty a.high a.low a.ands a.ors a.count i c.loop-i-test.true)
 
 gate-requires : tie.Need-gate-or-requires invariant-loop decreases-loop
@@ -47,20 +47,17 @@ gate-requires-2 c κs = omega (arith, room c.before.before.before.before.before)
 
 loop-again : tie.Need-loop-i-preserved invariant-loop decreases-loop
 loop-again c =
-    let or = c.before.before in
-    let and = or.before.before.before.before in
-    let turn = and.before.before in
-    let a = turn.before.before.before.args in
-    let i = turn.before.loop-i.i in
-    laying-more turn.before.loop-i.invariant (bit_at a.empty a.high a.low a.ands a.ors i) _
-    (rest-of_choice a.empty a.high a.low a.ands a.ors a.count i turn.loop-i-test.true)
-    (put-more and.gate-or.ensures (omega (arith, room turn)) or.gate-at.ensures)
+    let a = c.args in
+    let i = c.loop-i.i in
+    laying-more c.loop-i.invariant (bit_at a.empty a.high a.low a.ands a.ors i) _
+    (rest-of_choice a.empty a.high a.low a.ands a.ors a.count i c.loop-i-test.true)
+    (put-more c.gate-or.ensures (omega (arith, room c.before.before.before.before.before.before.before.before)) c.gate-at.ensures)
 
 returns : tie.Need-returns invariant-loop decreases-loop
 returns c =
-    let a = c.before.before.before.args in
-    laying-all c.before.loop-i.invariant
-    (no_choice a.empty a.high a.low a.ands a.ors a.count c.before.loop-i.i c.loop-i-test.false)
+    let a = c.args in
+    laying-all c.loop-i.invariant
+    (no_choice a.empty a.high a.low a.ands a.ors a.count c.loop-i.i c.loop-i-test.false)
 
 pub choose_spec : {M : Type 1} → statement M
 choose_spec =
@@ -79,5 +76,5 @@ choose_spec =
     (λ c. omega arith)
     (λ c. omega arith)
     loop-again
-    (λ c. laying-length c.before.loop-i.invariant)
+    (λ c. laying-length c.loop-i.invariant)
     returns)

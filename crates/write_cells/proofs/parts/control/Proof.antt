@@ -27,14 +27,9 @@ copy-requires-4 c κs = omega arith
 returns : tie.Need-returns
 unfolding module_numbers occurrence_numbers each
 returns c =
-    let fourth = c.before.before in
-    let third = fourth.before.before.before.before.before in
-    let second = third.before.before.before.before.before in
-    let first = second.before.before.before.before.before in
-    let start = first.before.before.before.before in
-    let fits : start.args.at ≤ length start.args.bytes-1.now = omega (arith, start.requires) in
-    let two = put-more first.copy-generate.ensures fits second.copy-pass_and.ensures in
-    put-more (put-more two fits third.copy-shifted_in.ensures) fits fourth.copy.ensures
+    let fits : c.args.at ≤ length c.args.bytes.now = omega (arith, c.requires) in
+    let two = put-more c.copy-generate.ensures fits c.copy-pass_and.ensures in
+    put-more (put-more two fits c.copy-shifted_in.ensures) fits c.copy.ensures
 
 pub control_spec : {M : Type 1} → statement M
 control_spec =

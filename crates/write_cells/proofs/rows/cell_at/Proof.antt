@@ -25,19 +25,15 @@ module _ (n copied i lines : ℕ) (found : lines ≡ lines_of n copied i) where
 
 put-list-requires : tie.Need-put_list-requires
 put-list-requires c κs =
-    let found = c.before.before in
-    let start = found.before.before in
-    let a = start.args in (
-      all_small _ (omega (arith, found.lines_of-l.ensures)),
-      room-with a.width a.copied a.i _ found.lines_of-l.ensures start.requires.3,
+    let a = c.args in (
+      all_small _ (omega (arith, c.lines_of-l.ensures)),
+      room-with a.width a.copied a.i _ c.lines_of-l.ensures c.requires.3,
     )
 
 returns : tie.Need-returns
 returns c =
-    let put = c.before.before in
-    let found = put.before.before.before in
-    let a = found.before.before.args in
-    put-with a.width a.copied a.i _ found.lines_of-l.ensures put.put_list.ensures
+    let a = c.args in
+    put-with a.width a.copied a.i _ c.lines_of-l.ensures c.put_list.ensures
 
 pub cell_at_spec : {M : Type 1} → statement M
 cell_at_spec =

@@ -24,42 +24,37 @@ decreases-loop width copied bytes₀ at at₀ i₀ bytes at' i = width - i
 
 loop-holds : tie.Need-loop-i-init invariant-loop decreases-loop
 loop-holds c =
-    let start = c.before in
-    let a = start.args in
-    laying-none a.bytes-1.now a.at (ap (each number_bytes) (whole_cells a.width a.copied)) start.requires.2.fits
+    let a = c.args in
+    laying-none a.bytes.now a.at (ap (each number_bytes) (whole_cells a.width a.copied)) c.requires.2.fits
 
 -- In a turn the bytes of a cell come first of those left.
 next : (c : tie.In-loop-i invariant-loop decreases-loop)
-    → (let a = c.before.before.before.args in
-    let i = c.before.loop-i.i in
+    → (let a = c.args in
+    let i = c.loop-i.i in
     each number_bytes (cells_from a.width a.copied i)
     ≡ each number_bytes (cell_list a.width a.copied i) ++ each number_bytes (cells_from a.width a.copied (i + 1)))
 next c =
-    let a = c.before.before.before.args in
-    bytes-of-piece _ _ (rest-of-cells a.width a.copied c.before.loop-i.i c.loop-i-test.true)
+    let a = c.args in
+    bytes-of-piece _ _ (rest-of-cells a.width a.copied c.loop-i.i c.loop-i-test.true)
 
 cell-at-requires : tie.Need-cell_at-at-requires invariant-loop decreases-loop
 cell-at-requires c κs =
-    let turn = c.before in
-    let loop = turn.before.loop-i in
-    let start = turn.before.before.before in
-    let a = start.args in (
-      start.requires.0,
-      start.requires.1,
-      omega (arith, start.requires.0, turn.loop-i-test.true),
-      omega (arith, laying-room loop.invariant (each number_bytes (cell_list a.width a.copied loop.i)) _ (next turn)),
+    let loop = c.loop-i in
+    let a = c.args in (
+      c.requires.0,
+      c.requires.1,
+      omega (arith, c.requires.0, c.loop-i-test.true),
+      omega (arith, laying-room loop.invariant (each number_bytes (cell_list a.width a.copied loop.i)) _ (next c.before)),
     )
 
 loop-again : tie.Need-loop-i-preserved invariant-loop decreases-loop
 loop-again c =
-    let put = c.before.before in
-    let turn = put.before.before in
-    laying-more turn.before.loop-i.invariant _ _ (next turn) put.Cell-at.ensures
+    laying-more c.loop-i.invariant _ _ (next c.before.before.before.before) c.cell_at-at.ensures
 
 returns : tie.Need-returns invariant-loop decreases-loop
 returns c =
-    let a = c.before.before.before.args in
-    laying-all c.before.loop-i.invariant (no_bytes (no_cells a.width a.copied c.before.loop-i.i c.loop-i-test.false))
+    let a = c.args in
+    laying-all c.loop-i.invariant (no_bytes (no_cells a.width a.copied c.loop-i.i c.loop-i-test.false))
 
 pub cells_spec : {M : Type 1} → statement M
 cells_spec =
@@ -72,5 +67,5 @@ cells_spec =
     (λ c. omega arith)
     (λ c. omega arith)
     loop-again
-    (λ c. laying-length c.before.loop-i.invariant)
+    (λ c. laying-length c.loop-i.invariant)
     returns)

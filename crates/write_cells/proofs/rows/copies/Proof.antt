@@ -24,41 +24,37 @@ decreases-loop lines net count bytes₀ at at₀ i₀ bytes at' i = count - i
 
 loop-holds : tie.Need-loop-i-init invariant-loop decreases-loop
 loop-holds c =
-    let start = c.before in
-    let a = start.args in
-    laying-none a.bytes-1.now a.at (ap (each number_bytes) (whole-copies a.lines a.net a.count)) start.requires.3.fits
+    let a = c.args in
+    laying-none a.bytes.now a.at (ap (each number_bytes) (whole-copies a.lines a.net a.count)) c.requires.3.fits
 
 -- In a turn the bytes of a copy come first of those left.
 next : (c : tie.In-loop-i invariant-loop decreases-loop)
-    → (let a = c.before.before.before.args in
-    let i = c.before.loop-i.i in
+    → (let a = c.args in
+    let i = c.loop-i.i in
     each number_bytes (copies_from a.lines a.net a.count i)
     ≡ each number_bytes (copy_list a.lines (a.net + 6 * i))
     ++ each number_bytes (copies_from a.lines a.net a.count (i + 1)))
 next c =
-    let a = c.before.before.before.args in
-    bytes-of-piece _ _ (rest-of-copies a.lines a.net a.count c.before.loop-i.i c.loop-i-test.true)
+    let a = c.args in
+    bytes-of-piece _ _ (rest-of-copies a.lines a.net a.count c.loop-i.i c.loop-i-test.true)
 
 put-list-requires : tie.Need-put_list-at-requires invariant-loop decreases-loop
 put-list-requires c κs =
-    let turn = c.before.before in
-    let loop = turn.before.loop-i in
-    let a = turn.before.before.before.args in (
+    let loop = c.loop-i in
+    let a = c.args in (
       all_small _ (omega arith),
-      omega (arith, laying-room loop.invariant (each number_bytes (copy_list a.lines (a.net + 6 * loop.i))) _ (next turn)),
+      omega (arith, laying-room loop.invariant (each number_bytes (copy_list a.lines (a.net + 6 * loop.i))) _ (next c.before.before)),
     )
 
 loop-again : tie.Need-loop-i-preserved invariant-loop decreases-loop
 loop-again c =
-    let put = c.before.before in
-    let turn = put.before.before.before in
-    laying-more turn.before.loop-i.invariant _ _ (next turn) put.put_list-at.ensures
+    laying-more c.loop-i.invariant _ _ (next c.before.before.before.before.before) c.put_list-at.ensures
 
 returns : tie.Need-returns invariant-loop decreases-loop
 returns c =
-    let a = c.before.before.before.args in
-    laying-all c.before.loop-i.invariant
-    (no_bytes (no_copies a.lines a.net a.count c.before.loop-i.i c.loop-i-test.false))
+    let a = c.args in
+    laying-all c.loop-i.invariant
+    (no_bytes (no_copies a.lines a.net a.count c.loop-i.i c.loop-i-test.false))
 
 pub copies_spec : {M : Type 1} → statement M
 copies_spec =
@@ -84,5 +80,5 @@ copies_spec =
     (λ c. omega arith)
     (λ c. omega arith)
     loop-again
-    (λ c. laying-length c.before.loop-i.invariant)
+    (λ c. laying-length c.loop-i.invariant)
     returns)

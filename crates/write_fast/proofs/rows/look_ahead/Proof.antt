@@ -7,28 +7,23 @@ use Rattle.write_fast.proofs.FastBytes.{ahead_pieces, bytes-of-ahead}
 use Rattle.write_fast.proofs.rows.look_ahead.Statement.{statement}
 use Rattle.write_fast.proofs.rows.look_ahead.Tie as tie
 
-room : (c : tie.Start) → Room (ahead_pieces c.args.width) c.args.bytes-1.now c.args.at
+room : (c : tie.Start) → Room (ahead_pieces c.args.width) c.args.bytes.now c.args.at
 room c = rw (bytes-of-ahead c.args.width) at c.requires.1
 
 carry-and-bits-requires : tie.Need-carry_and_bits-requires
 carry-and-bits-requires c κs =
-    let first = c.before.before.before in
-    let start = first.before.before.before in
-    (omega arith, start.requires.0, omega arith, laying-left (laying-put first.carries-number.ensures (laying-start (room start))))
+    (omega arith, c.requires.0, omega arith, laying-left (laying-put c.carries-number.ensures (laying-start (room c.before.before.before.before.before.before))))
 
 returns : tie.Need-returns
 returns c =
-    let second = c.before.before in
-    let first = second.before.before.before.before in
-    let start = first.before.before.before in
-    rw (bytes-of-ahead start.args.width)
-    (laying-last second.carry_and_bits.ensures (laying-put first.carries-number.ensures (laying-start (room start))))
+    rw (bytes-of-ahead c.args.width)
+    (laying-last c.carry_and_bits.ensures (laying-put c.carries-number.ensures (laying-start (room c.before.before.before.before.before.before.before.before.before))))
 
 pub look_ahead_spec : {M : Type 1} → statement M
 look_ahead_spec =
     tie.close
     (tie.spec
-    (λ c κs. let start = c.before.before in (start.requires.0, room-first _ (room start)))
+    (λ c κs. (c.requires.0, room-first _ (room c.before.before)))
     (λ c. search rules)
     (λ c. search rules)
     carry-and-bits-requires

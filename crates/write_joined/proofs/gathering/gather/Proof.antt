@@ -18,33 +18,29 @@ invariant-loop house names places modules marks bytes₀ done k₀ bytes all k =
 abbrev decreases-loop : tie.decreases-loop-k
 decreases-loop house names places modules marks bytes₀ done k₀ bytes all k = modules - k
 
--- The function's entry from a turn.
-abbrev entered : tie.In-loop-k invariant-loop decreases-loop → tie.Start invariant-loop decreases-loop
-entered c = c.before.before.before.before.before.before.before
-
 -- What a turn asks of any file that is gathered from: its module at the position.
 here :
     (c : tie.In-loop-k invariant-loop decreases-loop)
-    → (let a = (entered c).args in
-    (g : Gathering a.house.now a.names.now a.places.now a.modules a.marks.now a.bytes-1.now a.done)
-    → Here g.shelved.ms c.before.loop-k.k)
-here c g = here-at g.shelved.ms c.before.loop-k.k (omega (arith, c.loop-k-test.true, g.shelved.all))
+    → (let a = c.args in
+    (g : Gathering a.house.now a.names.now a.places.now a.modules a.marks.now a.bytes.now a.done)
+    → Here g.shelved.ms c.loop-k.k)
+here c g = here-at g.shelved.ms c.loop-k.k (omega (arith, c.loop-k-test.true, g.shelved.all))
 
 at :
     (c : tie.In-loop-k invariant-loop decreases-loop)
-    → (let a = (entered c).args in
-    let l = c.before.loop-k in
-    (g : Gathering a.house.now a.names.now a.places.now a.modules a.marks.now a.bytes-1.now a.done)
-    → At a.house.now a.names.now a.places.now l.k a.marks.now l.bytes-1 l.all)
+    → (let a = c.args in
+    let l = c.loop-k in
+    (g : Gathering a.house.now a.names.now a.places.now a.modules a.marks.now a.bytes.now a.done)
+    → At a.house.now a.names.now a.places.now l.k a.marks.now l.bytes l.all)
 unfolding here
 at c g =
-    let l = c.before.loop-k in
+    let l = c.loop-k in
     let h = here c g in
     let going = l.invariant.2 g in
     record {
       own = g.own;
       marked = g.marked;
-      modules = (entered c).args.modules;
+      modules = c.args.modules;
       shelved = g.shelved;
       m = h.m;
       later = h.later;
@@ -57,12 +53,11 @@ at c g =
 loop-again : tie.Need-loop-k-preserved invariant-loop decreases-loop
 unfolding at
 loop-again c =
-    let t = c.before.before.before.before in
-    let l = t.before.loop-k in
-    let one = c.before.before.gather_one-all in (
+    let l = c.loop-k in
+    let one = c.gather_one-all in (
       one.auto.1.1.1.1.1.0 ∙ l.invariant.0,
-      omega (arith, t.loop-k-test.true),
-      λ g. going_more (l.invariant.2 g) (here t g) (one.ensures (at t g)),
+      omega (arith, c.loop-k-test.true),
+      λ g. going_more (l.invariant.2 g) (here c.before.before.before.before g) (one.ensures (at c.before.before.before.before g)),
     )
 
 pub gather_spec : {M : Type 1} → statement M
@@ -75,11 +70,11 @@ gather_spec =
     let s = c.before.before.before.before.before in (
       refl,
       omega arith,
-      λ g. going-none g.own g.shelved.ms s.args.bytes-1.now s.args.done g.room,
+      λ g. going-none g.own g.shelved.ms s.args.bytes.now s.args.done g.room,
     ))
-    (λ c κs. at c.before (entered c.before).requires)
-    (λ c. omega (arith, c.before.before.before.before.loop-k-test.true))
-    (λ c. omega (arith, c.before.before.before.before.loop-k-test.true))
+    (λ c κs. at c.before c.requires)
+    (λ c. omega (arith, c.loop-k-test.true))
+    (λ c. omega (arith, c.loop-k-test.true))
     loop-again
-    (λ c. c.before.loop-k.invariant.0)
-    (λ c g. going-all (c.before.loop-k.invariant.2 g) (omega (arith, c.loop-k-test.false, g.shelved.all))))
+    (λ c. c.loop-k.invariant.0)
+    (λ c g. going-all (c.loop-k.invariant.2 g) (omega (arith, c.loop-k-test.false, g.shelved.all))))

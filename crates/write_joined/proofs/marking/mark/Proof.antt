@@ -17,31 +17,26 @@ invariant-loop names modules marks₀ k₀ marks k =
 abbrev decreases-loop : tie.decreases-loop-k
 decreases-loop names modules marks₀ k₀ marks k = k
 
--- In a turn the module's number is listed, and is an index of the table.
-abbrev entered : tie.In-loop-k invariant-loop decreases-loop → tie.Start invariant-loop decreases-loop
-entered c = c.before.before.before.before
+listed : (c : tie.In-loop-k invariant-loop decreases-loop) → c.loop-k.k - 1 < length c.args.names.now
+listed c = let p = c.requires.search in omega (arith, c.loop-k-test.true, c.loop-k.invariant.1, p.all, p.listed)
 
-listed : (c : tie.In-loop-k invariant-loop decreases-loop) → c.before.loop-k.k - 1 < length (entered c).args.names.now
-listed c = let p = (entered c).requires.search in omega (arith, c.loop-k-test.true, c.before.loop-k.invariant.1, p.all, p.listed)
-
-index : (c : tie.In-loop-k invariant-loop decreases-loop) → get_or (entered c).args.names.now (c.before.loop-k.k - 1) 0 < length c.before.loop-k.marks
+index : (c : tie.In-loop-k invariant-loop decreases-loop) → get_or c.args.names.now (c.loop-k.k - 1) 0 < length c.loop-k.marks
 index c =
-    let l = c.before.loop-k in
-    omega (arith, (entered c).requires.indexed (l.k - 1) (omega (arith, c.loop-k-test.true, l.invariant.1)), l.invariant.0)
+    let l = c.loop-k in
+    omega (arith, c.requires.indexed (l.k - 1) (omega (arith, c.loop-k-test.true, l.invariant.1)), l.invariant.0)
 
 loop-again : tie.Need-loop-k-preserved invariant-loop decreases-loop
 loop-again c =
-    let t = c.before in
-    let l = t.before.loop-k in
-    let back : l.k ≡ l.k - 1 + 1 = omega (arith, t.loop-k-test.true) in (
+    let l = c.loop-k in
+    let back : l.k ≡ l.k - 1 + 1 = omega (arith, c.loop-k-test.true) in (
       length-set l.marks _ 1 ∙ l.invariant.0,
       omega (arith, l.invariant.1),
       λ s.
-          let h = here-at s.ms (l.k - 1) (omega (arith, t.loop-k-test.true, l.invariant.1, s.all)) in
+          let h = here-at s.ms (l.k - 1) (omega (arith, c.loop-k-test.true, l.invariant.1, s.all)) in
           let later : Marks l.marks h.later
           = subst (Marks l.marks) h.after (subst (λ (n : ℕ). Marks l.marks (drop n s.ms)) back (l.invariant.2 s)) in
           subst (Marks _) (sym h.here)
-          (marks-more h.m later (c.entry-x.ensures ∙ s.name (l.k - 1) h.here) (omega (arith, index t, c.entry-x.ensures))),
+          (marks-more h.m later (c.entry-x.ensures ∙ s.name (l.k - 1) h.here) (omega (arith, index c.before, c.entry-x.ensures))),
     )
 
 pub mark_spec : {M : Type 1} → statement M
@@ -59,7 +54,7 @@ mark_spec =
     (λ c. omega (arith, c.loop-k-test.true))
     (λ c κs. listed c)
     (λ c. omega (arith, index c.before, c.entry-x.ensures))
-    (λ c. omega (arith, c.before.loop-k-test.true))
+    (λ c. omega (arith, c.loop-k-test.true))
     loop-again
-    (λ c. c.before.loop-k.invariant.0)
-    (λ c s. let done : c.before.loop-k.k ≡ 0 = omega (arith, c.loop-k-test.false) in subst (λ (n : ℕ). Marks c.before.loop-k.marks (drop n s.ms)) done (c.before.loop-k.invariant.2 s)))
+    (λ c. c.loop-k.invariant.0)
+    (λ c s. let done : c.loop-k.k ≡ 0 = omega (arith, c.loop-k-test.false) in subst (λ (n : ℕ). Marks c.loop-k.marks (drop n s.ms)) done (c.loop-k.invariant.2 s)))

@@ -8,14 +8,13 @@ use Rattle.write_order.proofs.answer.answer.Tie as tie
 
 returns : tie.Need-returns-then-bytes-out
 returns c =
-    let branch = c.before.before.before.before in
-    let args = branch.before.before.before.args in
-    answers-file args.bytes.now args.out-1.now branch.if-bytes-out.true (put_front c.before.before.copy.ensures)
+    let args = c.args in
+    answers-file args.bytes.now args.out.now c.if-bytes-out.true (put_front c.copy.ensures)
 
 returns-2 : tie.Need-returns-else-bytes-out
 returns-2 c =
-    let args = c.before.before.before.args in
-    answers-short args.bytes.now args.out-1.now (omega arith)
+    let args = c.args in
+    answers-short args.bytes.now args.out.now (omega arith)
 
 pub answer_spec : {M : Type 1} → statement M
 answer_spec = tie.close (tie.spec (λ c κs. search rules) (λ c. search rules) returns returns-2)

@@ -11,18 +11,16 @@ use Rattle.write_order.proofs.order.by_list.Tie as tie
 
 returns : tie.Need-returns
 returns c =
-    let answered = c.before.before in
-    let filled = answered.before.before.before.before.before in
-    let args = filled.before.before.before.before.args in
-    answers-laid (encode (modules_of args.order args.width)) args.out-1.now filled.file-count.ensures answered.answer.ensures
+    let args = c.args in
+    answers-laid (encode (modules_of args.order args.width)) args.out.now c.file-count.ensures c.answer.ensures
 
 pub by_list_spec : {M : Type 1} → statement M
 by_list_spec =
     tie.close
     (tie.spec
     (λ c κs. search rules)
-    (λ c. front-within c.before.before.file-count.ensures)
-    (λ c. sym (length-take-le _ _ (front-within c.before.before.before.file-count.ensures)))
+    (λ c. front-within c.file-count.ensures)
+    (λ c. sym (length-take-le _ _ (front-within c.file-count.ensures)))
     (λ c κs. search rules)
     (λ c. search rules)
     (λ c. search rules)

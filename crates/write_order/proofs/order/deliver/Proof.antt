@@ -19,20 +19,15 @@ long-enough FastAdder width most = omega arith
 long-enough Counter width most = omega arith
 long-enough Alu width most = omega arith
 
-abbrev start : tie.After-enough-bytes → tie.Start
-start c = c.before.before
-
 returns : tie.Need-returns-then-bytes-out
 returns c =
-    let after = c.before.before in
-    let args = (start after.before.before.before).args in
-    answers-file (encode (modules_of args.order args.width)) args.out-1.now (omega (arith, front-within after.file.ensures))
-    after.file.ensures
+    let args = c.args in
+    answers-file (encode (modules_of args.order args.width)) args.out.now (omega (arith, front-within c.file.ensures))
+    c.file.ensures
 
 by-list-requires-2 : tie.Need-by_list-requires-2
 by-list-requires-2 c κs =
-    let begin = start c.before.before.before.before in
-    (begin.requires.0, begin.requires.1, long-enough begin.args.order begin.args.width begin.requires.1)
+    (c.requires.0, c.requires.1, long-enough c.args.order c.args.width c.requires.1)
 
 pub deliver_spec : {M : Type 1} → statement M
 deliver_spec =

@@ -8,19 +8,19 @@ use Rattle.write_order.proofs.order.write.Tie as tie
 
 returns : tie.Need-returns-in-1-to-64
 returns c =
-    let args = c.before.before.before.before.before.before.before.args in
-    rw (writing-fitting (modules_of args.order) args.width args.out-1.now (omega arith) (omega arith))
-    c.before.before.deliver.ensures
+    let args = c.args in
+    rw (writing-fitting (modules_of args.order) args.width args.out.now (omega arith) (omega arith))
+    c.deliver.ensures
 
 returns-2 : tie.Need-returns-in_default
 returns-2 c =
-    let args = c.before.before.args in
-    answers-narrow (modules_of args.order) args.width args.out-1.now c.if-width-lt1.true
+    let args = c.args in
+    answers-narrow (modules_of args.order) args.width args.out.now c.in_default.if-width-lt1-own.true
 
 returns-3 : tie.Need-returns-in_default-2
 returns-3 c =
-    let args = c.before.before.before.args in
-    answers-wide (modules_of args.order) args.width args.out-1.now c.if-width-lt65.false
+    let args = c.args in
+    answers-wide (modules_of args.order) args.width args.out.now c.in_default.if-width-lt65-own.false
 
 pub write_spec : {M : Type 1} → statement M
 write_spec =

@@ -21,20 +21,19 @@ loop-holds c = laying-none c.args.bytes.now c.args.at refl c.requires
 
 -- In a turn an entry is left, and there is room for it.
 room : (c : tie.In-loop-i invariant-loop decreases-loop)
-    → (length c.before.loop-i.bytes ≡ length c.before.before.args.bytes.now)
-    × (c.before.loop-i.at + 1 ≤ length c.before.before.args.bytes.now)
+    → (length c.loop-i.bytes ≡ length c.args.bytes.now)
+    × (c.loop-i.at + 1 ≤ length c.args.bytes.now)
 room c =
-    laying-room c.before.loop-i.invariant (_ ∷ []) _
-    (rest-of-list c.before.before.args.piece.now c.before.loop-i.i c.loop-i-test.true)
+    laying-room c.loop-i.invariant (_ ∷ []) _
+    (rest-of-list c.args.piece.now c.loop-i.i c.loop-i-test.true)
 
 loop-again : tie.Need-loop-i-preserved invariant-loop decreases-loop
 loop-again c =
-    let turn = c.before in
-    laying_store turn.before.loop-i.invariant
-    (rest-of-list turn.before.before.args.piece.now turn.before.loop-i.i turn.loop-i-test.true)
+    laying_store c.loop-i.invariant
+    (rest-of-list c.args.piece.now c.loop-i.i c.loop-i-test.true)
 
 returns : tie.Need-returns invariant-loop decreases-loop
-returns c = laying-all c.before.loop-i.invariant (drop_of_length-le c.before.before.args.piece.now c.loop-i-test.false)
+returns c = laying-all c.loop-i.invariant (drop_of_length-le c.args.piece.now c.loop-i-test.false)
 
 pub copy_spec : {M : Type 1} → statement M
 copy_spec =
@@ -49,5 +48,5 @@ copy_spec =
     (λ c. omega arith)
     (λ c. omega arith)
     loop-again
-    (λ c. laying-length c.before.loop-i.invariant)
+    (λ c. laying-length c.loop-i.invariant)
     returns)

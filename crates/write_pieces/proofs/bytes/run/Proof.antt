@@ -27,22 +27,22 @@ loop-holds c =
 
 -- In a turn a number is left, and there is room for it.
 room : (c : tie.In-loop-i invariant-loop decreases-loop)
-    → (length c.before.loop-i.bytes ≡ length c.before.before.args.bytes.now)
-    × (c.before.loop-i.at + 1 ≤ length c.before.before.args.bytes.now)
+    → (length c.loop-i.bytes ≡ length c.args.bytes.now)
+    × (c.loop-i.at + 1 ≤ length c.args.bytes.now)
 room c =
-    let args = c.before.before.args in
-    laying-room c.before.loop-i.invariant (_ ∷ []) _
-    (rest-of-run args.first args.count c.before.loop-i.i c.loop-i-test.true)
+    let args = c.args in
+    laying-room c.loop-i.invariant (_ ∷ []) _
+    (rest-of-run args.first args.count c.loop-i.i c.loop-i-test.true)
 
 loop-again : tie.Need-loop-i-preserved invariant-loop decreases-loop
 loop-again c =
-    let args = c.before.before.args in
-    laying_store c.before.loop-i.invariant (rest-of-run args.first args.count c.before.loop-i.i c.loop-i-test.true)
+    let args = c.args in
+    laying_store c.loop-i.invariant (rest-of-run args.first args.count c.loop-i.i c.loop-i-test.true)
 
 returns : tie.Need-returns invariant-loop decreases-loop
 returns c =
-    let args = c.before.before.args in
-    laying-all c.before.loop-i.invariant (no_run args.first args.count c.before.loop-i.i c.loop-i-test.false)
+    let args = c.args in
+    laying-all c.loop-i.invariant (no_run args.first args.count c.loop-i.i c.loop-i-test.false)
 
 pub run_spec : {M : Type 1} → statement M
 run_spec =
@@ -57,5 +57,5 @@ run_spec =
     (λ c. omega arith)
     (λ c. omega arith)
     loop-again
-    (λ c. laying-length c.before.loop-i.invariant)
+    (λ c. laying-length c.loop-i.invariant)
     returns)

@@ -21,33 +21,28 @@ invariant-loop numbers bytes₀ at at₀ i₀ i-end bytes at' i =
 abbrev decreases-loop : tie.decreases-loop-i
 decreases-loop numbers bytes₀ at at₀ i₀ i-end bytes at' i = i-end - i
 
-abbrev start : tie.In-loop-i invariant-loop decreases-loop → tie.Start invariant-loop decreases-loop
-start c = c.before.before.before.before
-
 -- In a turn the bytes of a number come first of those left.
 next : (c : tie.In-loop-i invariant-loop decreases-loop)
-    → each number_bytes (drop c.before.loop-i.i (start c).args.numbers.now)
-    ≡ number_bytes (get_or (start c).args.numbers.now c.before.loop-i.i 0)
-    ++ each number_bytes (drop (c.before.loop-i.i + 1) (start c).args.numbers.now)
-next c = bytes-of-next (rest-of-list (start c).args.numbers.now c.before.loop-i.i c.loop-i-test.true)
+    → each number_bytes (drop c.loop-i.i c.args.numbers.now)
+    ≡ number_bytes (get_or c.args.numbers.now c.loop-i.i 0)
+    ++ each number_bytes (drop (c.loop-i.i + 1) c.args.numbers.now)
+next c = bytes-of-next (rest-of-list c.args.numbers.now c.loop-i.i c.loop-i-test.true)
 
 put-requires : tie.Need-put-at-requires invariant-loop decreases-loop
 put-requires c κs =
-    let turn = c.before.before in
-    let loop = turn.before.loop-i in (
-      all-at (start turn).requires.0 loop.i 0 turn.loop-i-test.true,
-      omega (arith, laying-room loop.invariant (number_bytes _) _ (next turn)),
+    let loop = c.loop-i in (
+      all-at c.requires.0 loop.i 0 c.loop-i-test.true,
+      omega (arith, laying-room loop.invariant (number_bytes _) _ (next c.before.before)),
     )
 
 loop-again : tie.Need-loop-i-preserved invariant-loop decreases-loop
 loop-again c =
-    let turn = c.before.before.before.before.before in
-    laying-more turn.before.loop-i.invariant (number_bytes _) _ (next turn) c.before.before.put-at.ensures
+    laying-more c.loop-i.invariant (number_bytes _) _ (next c.before.before.before.before.before) c.put-at.ensures
 
 returns : tie.Need-returns invariant-loop decreases-loop
 returns c =
-    let args = c.before.before.before.before.args in
-    laying-all c.before.loop-i.invariant (no_bytes (drop_of_length-le args.numbers.now c.loop-i-test.false))
+    let args = c.args in
+    laying-all c.loop-i.invariant (no_bytes (drop_of_length-le args.numbers.now c.loop-i-test.false))
 
 pub put_list_spec : {M : Type 1} → statement M
 put_list_spec =
@@ -55,12 +50,12 @@ put_list_spec =
     (tie.spec
     invariant-loop
     decreases-loop
-    (λ c. laying-start c.before.before.requires.1)
+    (λ c. laying-start c.requires.1)
     (λ c. omega arith)
     (λ c. omega arith)
     put-requires
     (λ c. omega arith)
     (λ c. omega arith)
     loop-again
-    (λ c. laying-length c.before.loop-i.invariant)
+    (λ c. laying-length c.loop-i.invariant)
     returns)

@@ -22,37 +22,31 @@ decreases-loop first count bytes₀ at at₀ i₀ bytes at' i = count - i
 
 loop-holds : tie.Need-loop-i-init invariant-loop decreases-loop
 loop-holds c =
-    let start = c.before in
-    laying-none start.args.bytes-1.now start.args.at
-    (ap (each number_bytes) (whole_run start.args.first start.args.count))
-    start.requires.1.fits
-
-abbrev start : tie.In-loop-i invariant-loop decreases-loop → tie.Start invariant-loop decreases-loop
-start c = c.before.before.before
+    laying-none c.args.bytes.now c.args.at
+    (ap (each number_bytes) (whole_run c.args.first c.args.count))
+    c.requires.1.fits
 
 -- In a turn the bytes of a number come first of those left.
 next : (c : tie.In-loop-i invariant-loop decreases-loop)
-    → (let first = (start c).args.first in
-    let count = (start c).args.count in
-    let i = c.before.loop-i.i in
+    → (let first = c.args.first in
+    let count = c.args.count in
+    let i = c.loop-i.i in
     each number_bytes (up_from (first + i) (count - i))
     ≡ number_bytes (first + i) ++ each number_bytes (up_from (first + (i + 1)) (count - (i + 1))))
-next c = bytes-of-next (rest-of-run (start c).args.first (start c).args.count c.before.loop-i.i c.loop-i-test.true)
+next c = bytes-of-next (rest-of-run c.args.first c.args.count c.loop-i.i c.loop-i-test.true)
 
 put-requires : tie.Need-put-at-requires invariant-loop decreases-loop
 put-requires c κs =
-    let turn = c.before in
-    omega (arith, (start turn).requires, laying-room turn.before.loop-i.invariant (number_bytes _) _ (next turn))
+    omega (arith, c.requires, laying-room c.loop-i.invariant (number_bytes _) _ (next c.before))
 
 loop-again : tie.Need-loop-i-preserved invariant-loop decreases-loop
 loop-again c =
-    let turn = c.before.before.before.before in
-    laying-more turn.before.loop-i.invariant (number_bytes _) _ (next turn) c.before.before.put-at.ensures
+    laying-more c.loop-i.invariant (number_bytes _) _ (next c.before.before.before.before) c.put-at.ensures
 
 returns : tie.Need-returns invariant-loop decreases-loop
 returns c =
-    let args = c.before.before.before.args in
-    laying-all c.before.loop-i.invariant (no_bytes (no_run args.first args.count c.before.loop-i.i c.loop-i-test.false))
+    let args = c.args in
+    laying-all c.loop-i.invariant (no_bytes (no_run args.first args.count c.loop-i.i c.loop-i-test.false))
 
 pub put_run_spec : {M : Type 1} → statement M
 put_run_spec =
@@ -66,5 +60,5 @@ put_run_spec =
     (λ c. omega arith)
     (λ c. omega arith)
     loop-again
-    (λ c. laying-length c.before.loop-i.invariant)
+    (λ c. laying-length c.loop-i.invariant)
     returns)

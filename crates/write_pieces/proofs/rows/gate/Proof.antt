@@ -11,7 +11,7 @@ copy-requires c κs = omega arith
 
 returns : tie.Need-returns
 unfolding occurrence_numbers
-returns c = c.before.before.copy.ensures
+returns c = c.copy.ensures
 
 pub gate_spec : {M : Type 1} → statement M
 gate_spec = tie.close (tie.spec (λ c. search rules) copy-requires (λ c. search rules) returns)

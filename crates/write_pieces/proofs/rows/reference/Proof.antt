@@ -9,34 +9,24 @@ use Rattle.write_pieces.proofs.rows.reference.Tie as tie
 row-requires : tie.Need-row-number-requires
 unfolding occurrence_numbers
 row-requires c κs =
-    let start = c.before.before in
-    (start.requires.0, room-first _ start.requires.2)
+    (c.requires.0, room-first _ c.requires.2)
 
 copy-requires : tie.Need-copy-arguments-requires
 unfolding occurrence_numbers
 copy-requires c κs =
-    let first = c.before.before.before.before in
-    let start = first.before.before.before in
-    omega (arith, laying-left (laying-put first.row-number.ensures (laying-start start.requires.2)))
+    omega (arith, laying-left (laying-put c.row-number.ensures (laying-start c.requires.2)))
 
 row-requires-2 : tie.Need-row-requires
 unfolding occurrence_numbers
 row-requires-2 c κs =
-    let second = c.before.before.before in
-    let first = second.before.before.before.before.before in
-    let start = first.before.before.before in
-    let one = laying-put first.row-number.ensures (laying-start start.requires.2) in
-    (start.requires.1, laying-left (laying-put second.copy-arguments.ensures one))
+    let one = laying-put c.row-number.ensures (laying-start c.requires.2) in
+    (c.requires.1, laying-left (laying-put c.copy-arguments.ensures one))
 
 returns : tie.Need-returns
 unfolding occurrence_numbers
 returns c =
-    let third = c.before.before in
-    let second = third.before.before.before.before in
-    let first = second.before.before.before.before.before in
-    let start = first.before.before.before in
-    let one = laying-put first.row-number.ensures (laying-start start.requires.2) in
-    laying-last third.row.ensures (laying-put second.copy-arguments.ensures one)
+    let one = laying-put c.row-number.ensures (laying-start c.requires.2) in
+    laying-last c.row.ensures (laying-put c.copy-arguments.ensures one)
 
 pub reference_spec : {M : Type 1} → statement M
 reference_spec =

@@ -8,15 +8,13 @@ use Rattle.write_pieces.proofs.rows.row.Tie as tie
 
 run-requires : tie.Need-run-requires
 run-requires c κs =
-    let args = c.before.before.before.before.before.before.before.args in
+    let args = c.args in
     omega (arith, length-up_from args.first args.count)
 
 returns : tie.Need-returns
 returns c =
-    let second = c.before.before in
-    let first = second.before.before.before.before in
-    let args = first.before.before.before.before.args in
-    rw (length-up_from args.first args.count) (put-more first.copy-list.ensures (omega arith) second.run.ensures)
+    let args = c.args in
+    rw (length-up_from args.first args.count) (put-more c.copy-list.ensures (omega arith) c.run.ensures)
 
 pub row_spec : {M : Type 1} → statement M
 row_spec =

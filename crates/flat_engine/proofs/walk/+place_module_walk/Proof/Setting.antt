@@ -15,16 +15,16 @@ use Rattle.image.specs.Walking.{Ahead, all-ahead, turn}
 use Rattle.flat_engine.specs.Plan.{Plan, Ready, scene}
 use Rattle.flat_engine.proofs.Progress.{Progress}
 use Rattle.flat_engine.proofs.Turns.{Here}
-use Rattle.flat_engine.proofs.walk.place_module-pen.Reads as place-module
-use Rattle.flat_engine.proofs.walk.place_module-pen.Kinds as place-module-kinds
+use Rattle.flat_engine.proofs.walk.place_module.Reads as place-module
+use Rattle.flat_engine.proofs.walk.place_module.Kinds as place-module-kinds
 use Rattle.flat_engine.proofs.walk.+place_module_walk.Lts-place_module as place-module-lts
 use Rattle.flat_engine.proofs.walk.walk.Reads as walk
 use Rattle.flat_engine.proofs.walk.walk.Kinds as walk-kinds
 use Rattle.flat_engine.proofs.walk.+place_module_walk.Lts-walk as walk-lts
 use Rattle.gates.proofs.kind_of.Reads as kind-of-reads
 use Rattle.image.proofs.places.module_at.Reads as module-at-reads
-use Rattle.image.proofs.places.occurrence_at-o.Reads as occurrence-at-reads
-use Rattle.flat_bytes.proofs.pen.set_gate-end.Reads as set-gate-reads
+use Rattle.image.proofs.places.occurrence_at.Reads as occurrence-at-reads
+use Rattle.flat_bytes.proofs.pen.set_gate.Reads as set-gate-reads
 use Rattle.flat_engine.proofs.slots.copy.Reads as copy-reads
 
 abbrev pub μ-place-module : Measures 5 place-module-kinds.ps ℕ
@@ -98,45 +98,45 @@ module _ (t : ℕ) where
 
   pub own-progress :
       (c : Looping)
-      → let l = c.loop-left in
-      Progress (start c).requires.1.ready l.at l.left l.filled l.scratch-1 l.bytes-1 (record { next = l.next; at = l.end })
-  own-progress c = let able = (start c).requires.1 in c.loop-left.invariant able.plan able.ready (all-ahead (scene able.ready) able.header)
+      → let l = c.loop in
+      Progress (start c).requires.1.ready l.at l.left l.filled l.scratch l.bytes (record { next = l.next; at = l.end })
+  own-progress c = let able = (start c).requires.1 in c.loop.invariant able.plan able.ready (all-ahead (scene able.ready) able.header)
 
   -- Once the occurrence's place is read, what is known of any plan that could be carried out from the start,
   pub here :
       (c : Reading)
       → let a = (start c.before.before).args in
-      let l = c.before.before.loop-left in
+      let l = c.before.before.loop in
       (p : Plan)
-      → (ready : Ready p a.image.now a.starts.now a.nets.now a.k a.pen a.scratch-1.now a.bytes-1.now)
+      → (ready : Ready p a.image.now a.starts.now a.nets.now a.k a.pen a.scratch.now a.bytes.now)
       → Ahead a.image.now p.m p.later (a.header.to + 1) a.header.count a.header.inputs p.m.occurrences
-      → Here ready l.at l.left l.filled l.scratch-1 l.bytes-1 (record { next = l.next; at = l.end }) c.occurrence_at-o.result
+      → Here ready l.at l.left l.filled l.scratch l.bytes (record { next = l.next; at = l.end }) c.occurrence-at.result
   here c p ready ahead =
-      let g = c.before.before.loop-left.invariant p ready ahead in
-      record { progress = g; turn = turn (omega (arith, c.before.loop-left-test.true)) g.ahead c.occurrence_at-o.ensures }
+      let g = c.before.before.loop.invariant p ready ahead in
+      record { progress = g; turn = turn (omega (arith, c.before.loop-test.true)) g.ahead c.occurrence-at.ensures }
 
   -- and of the one that the caller has.
   pub own :
       (c : Reading)
-      → let l = c.before.before.loop-left in
-      Here (start c.before.before).requires.1.ready l.at l.left l.filled l.scratch-1 l.bytes-1 (record { next = l.next; at = l.end })
-      c.occurrence_at-o.result
+      → let l = c.before.before.loop in
+      Here (start c.before.before).pre.1.ready l.at l.left l.filled l.scratch l.bytes (record { next = l.next; at = l.end })
+      c.occurrence-at.result
   own c =
-      let able = (start c.before.before).requires.1 in
+      let able = (start c.before.before).pre.1 in
       here c able.plan able.ready (all-ahead (scene able.ready) able.header)
 
   -- What the number that was read is.
   abbrev pub gate-read : AtGate → Reading
   gate-read c = c.before.before.before.before
 
-  pub is-gate : (c : AtGate) → is_gate (gate-read c).occurrence_at-o.result.refers ≡ true
-  is-gate c = gate-told _ (sym c.before.before.kind_of.ensures ∙ c.enum_told-1.given.1)
+  pub is-gate : (c : AtGate) → is_gate (gate-read c).occurrence-at.result.refers ≡ true
+  is-gate c = gate-told _ (sym c.before.before.kind-of.ensures ∙ c.enum_told.given.1)
 
   abbrev pub module-read : AtModule → Reading
   module-read c = c.before.before.before.before
 
-  pub is_module : (c : AtModule) → is_gate (module-read c).occurrence_at-o.result.refers ≡ false
-  is_module c = module_told _ (sym c.before.before.kind_of.ensures ∙ c.enum_told-in-Module-1.given.1)
+  pub is_module : (c : AtModule) → is_gate (module-read c).occurrence-at.result.refers ≡ false
+  is_module c = module_told _ (sym c.before.before.kind-of.ensures ∙ c.enum-told2.given.1)
 
   -- From where a module's arguments are passed, and from where it is placed.
   abbrev pub passed-from : walk-lts.After-copy (walk-claims t) (walk_at t) walk.Post Inv-loop μ-loop → AtModule

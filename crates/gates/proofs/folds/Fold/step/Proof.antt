@@ -21,10 +21,10 @@ small c = is-small (value c.before.before.args.b) c.coded.ensures
 
 returns : tie.Need-returns
 returns c =
-    let given = c.before.before.args in
+    let given = c.args in
     stands_at given.self (value given.a) (value given.b)
-    c.before.table.ensures
-    (sym (code-of-value given.a c.before.before.requires))
+    c.table.ensures
+    (sym (code-of-value given.a c.requires))
     c.coded.ensures
 
 pub step_spec : {M : Type 1} → statement M
@@ -35,6 +35,6 @@ step_spec =
     (λ c. search rules)
     (λ c κs. search rules)
     (λ c. omega (arith, small c))
-    (λ c. omega (arith, small c, c.before.before.requires))
-    (λ c. omega (arith, small c, c.before.before.requires))
+    (λ c. omega (arith, small c, c.requires))
+    (λ c. omega (arith, small c, c.requires))
     returns)

@@ -26,9 +26,9 @@ use Rattle.run_times.proofs.walk.walk.Reads as walk
 use Rattle.run_times.proofs.walk.walk.Kinds as walk-kinds
 use Rattle.run_times.proofs.walk.+run_module_walk.Lts-walk as walk-lts
 use Rattle.gates.proofs.kind_of.Reads as kind-of-reads
-use Rattle.run_times.proofs.gate.at_gate-times.Reads as at-gate-reads
+use Rattle.run_times.proofs.gate.at_gate.Reads as at-gate-reads
 use Rattle.image.proofs.places.module_at.Reads as module-at-reads
-use Rattle.image.proofs.places.occurrence_at-o.Reads as occurrence-at-reads
+use Rattle.image.proofs.places.occurrence_at.Reads as occurrence-at-reads
 use Rattle.run_walk.proofs.slots.copy.Reads as copy-reads
 
 abbrev pub μ-run-module : Measures 5 run-module-kinds.ps ℕ
@@ -113,48 +113,48 @@ module _ (t : ℕ) where
   pub here :
       (c : Reading) {work : Work ℕ} {scratch₀ scratch : List ℕ}
       → let a = (start c.before.before).args in
-      let l = c.before.before.loop-left in
+      let l = c.before.before.loop in
       Walking work a.image.now a.starts.now a.nets.now a.k scratch₀ (a.header.to + 1) a.header.count a.header.inputs l.at l.left l.filled scratch
       → (s : Runnable a.image.now a.starts.now a.nets.now a.k scratch₀)
       → Ahead a.image.now s.scene.m s.scene.later (a.header.to + 1) a.header.count a.header.inputs s.scene.m.occurrences
-      → Here work s l.at l.left l.filled scratch c.occurrence_at-o.result
+      → Here work s l.at l.left l.filled scratch c.occurrence-at.result
   here c walking s ahead =
       let p = walking s ahead in
-      record { progress = p; turn = turn (omega (arith, c.before.loop-left-test.true)) p.ahead c.occurrence_at-o.ensures }
+      record { progress = p; turn = turn (omega (arith, c.before.loop-test.true)) p.ahead c.occurrence-at.ensures }
 
   -- Of the module that the caller spoke of: its unit arrivals,
   pub units-own :
       (c : Reading)
       → let from = start c.before.before in
-      let l = c.before.before.loop-left in
-      Here (times_work one_each) from.requires.1.0.runnable l.at l.left l.filled l.units-1 c.occurrence_at-o.result
-  units-own c = let w = (start c.before.before).requires.1.0 in here c c.before.before.loop-left.invariant.0 w.runnable (enter w)
+      let l = c.before.before.loop in
+      Here (times_work one_each) from.pre.1.0.runnable l.at l.left l.filled l.units c.occurrence-at.result
+  units-own c = let w = (start c.before.before).pre.1.0 in here c c.before.before.loop.invariant.0 w.runnable (enter w)
 
   -- and those by the family.
   pub others-own :
       (c : Reading)
       → let from = start c.before.before in
-      let l = c.before.before.loop-left in
-      Here (times_work (delay_in from.args.family.delays)) from.requires.1.1.runnable l.at l.left l.filled l.others-1 c.occurrence_at-o.result
-  others-own c = let w = (start c.before.before).requires.1.1 in here c c.before.before.loop-left.invariant.1 w.runnable (enter w)
+      let l = c.before.before.loop in
+      Here (times_work (delay_in from.args.family.delays)) from.pre.1.1.runnable l.at l.left l.filled l.others c.occurrence-at.result
+  others-own c = let w = (start c.before.before).pre.1.1 in here c c.before.before.loop.invariant.1 w.runnable (enter w)
 
   -- In the arm of a gate the number is that of a gate,
   abbrev pub gate-read : AtGate → Reading
   gate-read c = c.before.before.before.before
 
-  pub gate-kind : (c : AtGate) → kind_of (gate-read c).occurrence_at-o.result.refers ≡ Gate c.enum_told-1.given.0.0 c.enum_told-1.given.0.1.0
-  gate-kind c = sym c.before.before.kind_of.ensures ∙ c.enum_told-1.given.1
+  pub gate-kind : (c : AtGate) → kind_of (gate-read c).occurrence-at.result.refers ≡ Gate c.enum_told.given.0.0 c.enum_told.given.0.1.0
+  gate-kind c = sym c.before.before.kind-of.ensures ∙ c.enum_told.given.1
 
   -- in the other that of a module.
   abbrev pub module-read : AtModule → Reading
   module-read c = c.before.before.before.before
 
-  pub module-kind : (c : AtModule) → kind_of (module-read c).occurrence_at-o.result.refers ≡ Module
-  module-kind c = sym c.before.before.kind_of.ensures ∙ c.enum_told-in-Module-1.given.1
+  pub module-kind : (c : AtModule) → kind_of (module-read c).occurrence-at.result.refers ≡ Module
+  module-kind c = sym c.before.before.kind-of.ensures ∙ c.enum-told2.given.1
 
   -- Back from where each is done: the header read of the module that is called, its arguments passed in one list and in both, itself run, and
   -- its outputs fetched in one list.
-  abbrev pub called-from : walk-lts.After-module-at (walk-claims t) (walk_at t) walk.Post Inv-loop μ-loop → AtModule
+  abbrev pub called-from : walk-lts.After-module_at-sub (walk-claims t) (walk_at t) walk.Post Inv-loop μ-loop → AtModule
   called-from c = let chosen = c.before.before.before in chosen.before.before
 
   abbrev pub passed-from : walk-lts.After-copy (walk-claims t) (walk_at t) walk.Post Inv-loop μ-loop → AtModule

@@ -26,7 +26,7 @@ use Rattle.run_wide.proofs.walk.+run_module_walk.Lts-walk as walk-lts
 use Rattle.gates.proofs.kind_of.Reads as kind-of-reads
 use Rattle.run_wide.proofs.gate.result.Reads as result-reads
 use Rattle.image.proofs.places.module_at.Reads as module-at-reads
-use Rattle.image.proofs.places.occurrence_at-o.Reads as occurrence-at-reads
+use Rattle.image.proofs.places.occurrence_at.Reads as occurrence-at-reads
 use Rattle.run_wide.proofs.slots.copy.Reads as copy-reads
 
 abbrev pub μ-run-module : Measures 4 run-module-kinds.ps ℕ
@@ -101,45 +101,45 @@ module _ (t : ℕ) where
   pub own-progress :
       (c : Looping)
       → let a = (start c).args in
-      Progress rows_work (start c).requires.1.runnable c.loop-left.at c.loop-left.left c.loop-left.filled c.loop-left.scratch-1
-  own-progress c = let w = (start c).requires.1 in c.loop-left.invariant w.runnable (enter w)
+      Progress rows_work (start c).requires.1.runnable c.loop.at c.loop.left c.loop.filled c.loop.scratch
+  own-progress c = let w = (start c).requires.1 in c.loop.invariant w.runnable (enter w)
 
   -- Once the occurrence's place is read, what is known of any module that can be run from the start,
   pub here :
       (c : Reading)
       → let a = (start c.before.before).args in
-      let l = c.before.before.loop-left in
-      (s : Runnable a.image.now a.starts.now a.nets.now a.k a.scratch-1.now)
+      let l = c.before.before.loop in
+      (s : Runnable a.image.now a.starts.now a.nets.now a.k a.scratch.now)
       → Ahead a.image.now s.scene.m s.scene.later (a.header.to + 1) a.header.count a.header.inputs s.scene.m.occurrences
-      → Here rows_work s l.at l.left l.filled l.scratch-1 c.occurrence_at-o.result
+      → Here rows_work s l.at l.left l.filled l.scratch c.occurrence-at.result
   here c s ahead =
-      let p = c.before.before.loop-left.invariant s ahead in
-      record { progress = p; turn = turn (omega (arith, c.before.loop-left-test.true)) p.ahead c.occurrence_at-o.ensures }
+      let p = c.before.before.loop.invariant s ahead in
+      record { progress = p; turn = turn (omega (arith, c.before.loop-test.true)) p.ahead c.occurrence-at.ensures }
 
   -- and of the one that the caller spoke of.
   pub own :
       (c : Reading)
       → let from = start c.before.before in
-      let l = c.before.before.loop-left in
-      Here rows_work from.requires.1.runnable l.at l.left l.filled l.scratch-1 c.occurrence_at-o.result
-  own c = let w = (start c.before.before).requires.1 in here c w.runnable (enter w)
+      let l = c.before.before.loop in
+      Here rows_work from.pre.1.runnable l.at l.left l.filled l.scratch c.occurrence-at.result
+  own c = let w = (start c.before.before).pre.1 in here c w.runnable (enter w)
 
   -- In the arm of a gate the number is that of a gate of the rule,
   abbrev pub gate-read : AtGate → Reading
   gate-read c = c.before.before.before.before
 
-  pub gate-kind : (c : AtGate) → kind_of (gate-read c).occurrence_at-o.result.refers ≡ Gate c.rule-1.given.0.0 c.rule-1.given.0.1.0
-  gate-kind c = sym c.before.before.kind_of.ensures ∙ c.rule-1.given.1
+  pub gate-kind : (c : AtGate) → kind_of (gate-read c).occurrence-at.result.refers ≡ Gate c.rule.given.0.0 c.rule.given.0.1.0
+  gate-kind c = sym c.before.before.kind-of.ensures ∙ c.rule.given.1
 
   -- in the other that of a module.
   abbrev pub module-read : AtModule → Reading
   module-read c = c.before.before.before.before
 
-  pub module-kind : (c : AtModule) → kind_of (module-read c).occurrence_at-o.result.refers ≡ Module
-  module-kind c = sym c.before.before.kind_of.ensures ∙ c.enum_told-1.given.1
+  pub module-kind : (c : AtModule) → kind_of (module-read c).occurrence-at.result.refers ≡ Module
+  module-kind c = sym c.before.before.kind-of.ensures ∙ c.enum_told.given.1
 
   -- From where the header of the module that is called is read, and from where its arguments are passed.
-  abbrev pub called-from : walk-lts.After-module-at (walk-claims t) (walk_at t) walk.Post Inv-loop μ-loop → AtModule
+  abbrev pub called-from : walk-lts.After-module_at-sub (walk-claims t) (walk_at t) walk.Post Inv-loop μ-loop → AtModule
   called-from c = let chosen = c.before.before.before in chosen.before.before
 
   abbrev pub passed-from : walk-lts.After-copy (walk-claims t) (walk_at t) walk.Post Inv-loop μ-loop → AtModule

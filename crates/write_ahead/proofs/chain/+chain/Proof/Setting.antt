@@ -7,11 +7,11 @@ use borrow.Fn.Kinds.{In}
 use borrow.Fn.PlainCycle.{Measures, is, falls, and}
 use Rattle.meaning.specs.FastAdder.{leaves}
 use Rattle.write_trees.specs.Trees.{tree_of, Joined, Parted}
-use Rattle.write_trees.proofs.leaves-low.Reads as counting
+use Rattle.write_trees.proofs.leaves.Reads as counting
 use Rattle.write_trees.proofs.split.Reads as split
-use Rattle.write_ahead.proofs.carries.over_one-behind.Reads as over-one
-use Rattle.write_ahead.proofs.carries.over_two-behind.Reads as over-two
-use Rattle.write_ahead.proofs.trees.ahead-x.Reads as ahead
+use Rattle.write_ahead.proofs.carries.over_one.Reads as over-one
+use Rattle.write_ahead.proofs.carries.over_two.Reads as over-two
+use Rattle.write_ahead.proofs.trees.ahead.Reads as ahead
 use Rattle.write_ahead.proofs.chain.chain.Reads as reads
 use Rattle.write_ahead.proofs.chain.chain.Kinds as kinds
 use Rattle.write_ahead.proofs.chain.+chain.Lts-chain as lts
@@ -69,28 +69,28 @@ module _ (t : ℕ) where
   middle c = c.before.before.before.before
 
   pub joined : (c : lts.In-Node claims (Given t) reads.Post)
-      → (let parts = c.before.x-1.given.0 in Joined (entry c).args.tree parts.0 parts.1.0 parts.1.1.0)
-  joined c = subst (Parted (entry c).args.tree) c.before.x-1.given.1 c.before.before.before.split.ensures
+      → (let parts = c.before.x.given.0 in Joined (entry c).args.tree parts.0 parts.1.0 parts.1.1.0)
+  joined c = subst (Parted (entry c).args.tree) c.before.x.given.1 c.before.before.before.split.ensures
 
   -- The steps are past the lowest tree.
   pub past : (c : lts.After-leaves claims (Given t) reads.Post)
-      → leaves (tree_of (told c).before.x-1.given.0.0) ≤ (entry (told c)).args.left
-  past c = omega (arith, c.before.if-left-low.false, c.before.before.leaves-low.ensures)
+      → leaves (tree_of (told c).before.x.given.0.0) ≤ (entry (told c)).args.left
+  past c = omega (arith, c.before.if1.false, c.before.before.leaves.ensures)
 
   pub both : (c : lts.After-leaves claims (Given t) reads.Post)
-      → (let parts = (told c).before.x-1.given.0 in
-      c.before.before.leaves-low.result + c.leaves.result ≡ leaves (tree_of parts.0) + leaves (tree_of parts.1.0))
-  both c = omega (arith, c.leaves.ensures, c.before.before.leaves-low.ensures)
+      → (let parts = (told c).before.x.given.0 in
+      c.before.before.leaves.result + c.leaves2.result ≡ leaves (tree_of parts.0) + leaves (tree_of parts.1.0))
+  both c = omega (arith, c.leaves2.ensures, c.before.before.leaves.ensures)
 
   -- The rest lies inside the middle tree, or past it.
   pub inside : (c : lts.Then-left-both claims (Given t) reads.Post)
       → (let node = told (counts (low (within c))) in
-      let parts = node.before.x-1.given.0 in
+      let parts = node.before.x.given.0 in
       (entry node).args.left < leaves (tree_of parts.0) + leaves (tree_of parts.1.0))
-  inside c = omega (arith, c.if-left-both.true, both (counts (low (within c))))
+  inside c = omega (arith, c.if2.true, both (counts (low (within c))))
 
   pub outside : (c : lts.Else-left-both claims (Given t) reads.Post)
       → (let node = told (counts (low (one c))) in
-      let parts = node.before.x-1.given.0 in
+      let parts = node.before.x.given.0 in
       leaves (tree_of parts.0) + leaves (tree_of parts.1.0) ≤ (entry node).args.left)
-  outside c = omega (arith, c.if-left-both.false, both (counts (low (one c))))
+  outside c = omega (arith, c.if2.false, both (counts (low (one c))))
