@@ -7,13 +7,14 @@ use Rattle.meaning.specs.Gates.{is_gate}
 use Rattle.meaning.specs.Boxlist.{box, assoc}
 use Rattle.laws.specs.Standing.{Stands, here, there, stands, number_of}
 use Rattle.image.specs.Resolved.{position_of, refer_to}
-use Rattle.image.specs.Fitting.{ModuleFits, Fits, some}
+use Rattle.image.specs.Fitting.{ModuleFits, Fits, none, some}
 
 pub record Refers (refer : ℕ → ℕ) (position : ℕ) (ms : List Module) : Type 0 where
   pub gates : (number : ℕ) → is_gate number ≡ true → refer number ≡ number
   pub modules : (number : ℕ) (m : Module) → assoc number ms ≡ box m → refer number ≡ 16 + (position + position_of number ms)
 
 above-gates : {ms : List Module} {number : ℕ} {m : Module} → Fits ms → Stands number m ms → 16 ≤ m.number
+above-gates none s = elim s [ ]
 above-gates (some ok rest) (here h) = ok.above
 above-gates (some ok rest) (there h s) = above-gates rest s
 

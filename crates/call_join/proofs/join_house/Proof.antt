@@ -8,16 +8,16 @@ use Rattle.call_join.proofs.join_house.Tie as tie
 
 -- Back from where the file's modules are noted to the noting, and to the function's entry.
 abbrev noted : tie.In-Modules → tie.After-note
-noted k = k.before.before.before.before.before
+noted k = k.before.before.before.before.before.before.before
 
 abbrev entered : tie.After-note → tie.Start
 entered n = n.before.before.before.before.before.before.before.before.before
 
 shelf :
     (k : tie.In-Modules)
-    → (Shelved (entered k.before.before.before.before.before).args.house.now k.in-Modules.modules k.note.last.1.1.0 k.note.last.1.1.1.0)
+    → (Shelved k.args.house.now k.in-Modules.modules k.note.last.1.1.0 k.note.last.1.1.1.0)
 shelf k =
-    noted-shelved (entered k.before.before.before.before.before).args.house.now k.note.last.1.1.0 k.note.last.1.1.1.0 k.note.result k.note.ensures
+    noted-shelved k.args.house.now k.note.last.1.1.0 k.note.last.1.1.1.0 k.note.result k.note.ensures
     k.in-Modules.modules k.in-Modules.is
 
 -- From the gathering, and from the assembling, to where the modules are noted.
@@ -29,15 +29,14 @@ gathered c = c.before.before.before.before
 
 returns : tie.Need-returns-in-Refused
 returns c b =
-    let s = entered c.before.before.before.before.before in
-    refused_house b (length s.args.out.now) s.args.out.now
-    (noted-fails s.args.house.now c.note.new.1.1.0 c.note.new.1.1.1.0 c.note.result c.note.ensures
+    refused_house b (length c.args.out.now) c.args.out.now
+    (noted-fails c.args.house.now c.note.new.1.1.0 c.note.new.1.1.1.0 c.note.result c.note.ensures
     c.in-Refused.number c.in-Refused.place c.in-Refused.is)
 
 returns-2 : tie.Need-returns-in-Modules
 returns-2 c b =
     let s = shelf c.before.before.before.before.before.before.before.before.before.before.before.before.before in
-    joins_house b s (c.gather-all.ensures (gathering b s)) (length (entered c.before.before.before.before.before.before.before.before.before.before.before.before.before.before.before.before.before.before).args.out.now)
+    joins_house b s (c.gather-all.ensures (gathering b s)) (length c.args.out.now)
     (c.assemble.ensures (assembled b s (c.gather-all.ensures (gathering b s))))
 
 pub join_house_spec : {M : Type 1} → statement M
@@ -51,7 +50,7 @@ join_house_spec =
     (λ c. search rules)
     (λ c. search rules)
     (λ c. search rules)
-    (λ c κs. gathering (entered c.before.before.before.before.before.before.before.before).requires (shelf c.before.before.before))
+    (λ c κs. gathering c.requires (shelf c.before.before.before))
     (λ c κs.
     let g = gathered c in
     let s = shelf (known g) in

@@ -10,16 +10,13 @@ use Rattle.call_join.proofs.join_with.Tie as tie
 
 -- Back from where the file's modules are noted to the noting, and to the function's entry.
 abbrev noted : tie.In-Modules → tie.After-note
-noted k = k.before.before.before.before.before
-
-abbrev entered : tie.After-note → tie.Start
-entered n = n.before.before.before.before.before.before.before.before.before
+noted k = k.before.before.before.before.before.before.before
 
 shelf :
     (k : tie.In-Modules)
-    → (Shelved (entered k.before.before.before.before.before).args.group.now k.in-Modules.modules k.note.last.1.1.0 k.note.last.1.1.1.0)
+    → (Shelved k.args.group.now k.in-Modules.modules k.note.last.1.1.0 k.note.last.1.1.1.0)
 shelf k =
-    noted-shelved (entered k.before.before.before.before.before).args.group.now k.note.last.1.1.0 k.note.last.1.1.1.0 k.note.result k.note.ensures
+    noted-shelved k.args.group.now k.note.last.1.1.0 k.note.last.1.1.1.0 k.note.result k.note.ensures
     k.in-Modules.modules k.in-Modules.is
 
 -- From behind the marks, and from behind the copy, to where the modules are noted.
@@ -31,14 +28,13 @@ copied c = c.before.before.before.before
 
 returns : tie.Need-returns-in-Refused
 returns c =
-    let s = entered c.before.before.before.before.before in
-    refused-group s.pre (length s.args.out.now) s.args.out.now
-    (noted-fails s.args.group.now c.note.new.1.1.0 c.note.new.1.1.1.0 c.note.result c.note.ensures
+    refused-group c.requires (length c.args.out.now) c.args.out.now
+    (noted-fails c.args.group.now c.note.new.1.1.0 c.note.new.1.1.1.0 c.note.result c.note.ensures
     c.in-Refused.number c.in-Refused.place c.in-Refused.is)
 
 join-house-requires : tie.Need-join_house-requires
 join-house-requires c κs =
-    begun (entered c.before.before.before.before.before.before.before.before.before.before.before.before.before.before.before.before.before.before).pre (shelf c.before.before.before.before.before.before.before.before.before.before.before.before.before) c.note.kept.1.0 c.copy-at.kept.1.0
+    begun c.requires (shelf c.before.before.before.before.before.before.before.before.before.before.before.before.before) c.note.kept.1.0 c.copy-at.kept.1.0
     (omega (arith, c.mark.kept.1.1.0, length-replicate {A = ℕ} 16384 0))
     (c.mark.ensures (searchable (shelf c.before.before.before.before.before.before.before.before.before.before.before.before.before)))
     c.copy-at.ensures
@@ -46,7 +42,7 @@ join-house-requires c κs =
 returns-2 : tie.Need-returns-in-Modules
 unfolding join-house-requires
 returns-2 c =
-    joins_both (entered c.before.before.before.before.before.before.before.before.before.before.before.before.before.before.before.before.before.before.before.before.before.before.before.before.before).requires (shelf c.before.before.before.before.before.before.before.before.before.before.before.before.before.before.before.before.before.before.before.before) (length (entered c.before.before.before.before.before.before.before.before.before.before.before.before.before.before.before.before.before.before.before.before.before.before.before.before.before).args.out.now) (c.join_house.ensures (join-house-requires c.before.before.before.before.before.before.before c.join_house.lifetimes))
+    joins_both c.requires (shelf c.before.before.before.before.before.before.before.before.before.before.before.before.before.before.before.before.before.before.before.before) (length c.args.out.now) (c.join_house.ensures (join-house-requires c.before.before.before.before.before.before.before c.join_house.lifetimes))
 
 pub join_with_spec : {M : Type 1} → statement M
 join_with_spec =
@@ -64,7 +60,7 @@ join_with_spec =
     (λ c. first-within (shelf c.before.before.before.before))
     (λ c. first-within (shelf c.before.before.before.before))
     (λ c. search rules)
-    (λ c κs. rest-fits (entered c.before.before.before.before.before.before.before.before.before.before.before).requires (shelf c.before.before.before.before.before.before))
+    (λ c κs. rest-fits c.requires (shelf c.before.before.before.before.before.before))
     (λ c. search rules)
     join-house-requires
     (λ c. search rules)

@@ -24,7 +24,7 @@ in_group :
     (handed (look_up a.group.now a.house.now a.number).decision))
 in_group c =
     let a = c.args in
-    out-of-group a.group.now a.house.now a.number (group-bytes c.before) (house-bytes c.before)
+    out-of-group a.group.now a.house.now a.number (group-bytes c.before.before.before) (house-bytes c.before.before.before)
     c.in-Group.start c.in-Group.length
     (sym c.in-Group.is ∙ c.which_shelf.ensures)
 
@@ -35,7 +35,7 @@ in_house :
     (handed (look_up a.group.now a.house.now a.number).decision))
 in_house c =
     let a = c.args in
-    out-of_house a.group.now a.house.now a.number (group-bytes c.before) (house-bytes c.before)
+    out-of_house a.group.now a.house.now a.number (group-bytes c.before.before.before) (house-bytes c.before.before.before)
     c.in-House.start c.in-House.length
     (sym c.in-House.is ∙ c.which_shelf.ensures)
 

@@ -26,7 +26,7 @@ bytes p = bytes-all (entered p).args.file.now (λ i. ((known p).shared-slice-kno
 
 -- From where the file is known to be ready.
 abbrev preparing : tie.In-Ready → tie.After-prepare
-preparing k = prepared k.before
+preparing k = prepared k.before.before.before
 
 abbrev modules : tie.In-Ready → ℕ
 modules k = k.in-Ready.modules

@@ -35,16 +35,12 @@ slice-aggregate-shelf-at c = search rules
 shelf-at-requires : tie.Need-shelf_at-requires
 shelf-at-requires c κs = search rules
 
-abbrev start : tie.After-shelf_at → tie.Start
-start c = c.before.before.before.before.before.before.before.before.before.before.before.before
-
-read : (c : tie.After-shelf_at) → six_bits c.run_words.new.1.1.1.1.1.0 0 ≡ shelf_of (start c).args.word.now
-read c = shelf-of-one (start c).args.word.now _ (start c).requires c.run_words.ensures
+read : (c : tie.After-shelf_at) → six_bits c.run_words.new.1.1.1.1.1.0 0 ≡ shelf_of c.args.word.now
+read c = shelf-of-one c.args.word.now _ c.requires c.run_words.ensures
 
 cast-result : tie.Need-overflow_cast-result
 cast-result c =
-    let s = start c in
-    omega (arith, c.shelf_at.ensures, read c, shelf-most s.args.word.now s.pre.few)
+    omega (arith, c.shelf_at.ensures, read c, shelf-most c.args.word.now c.requires.few)
 
 returns : tie.Need-returns
 returns c = c.shelf_at.ensures ∙ read c

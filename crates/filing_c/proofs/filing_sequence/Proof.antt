@@ -6,13 +6,11 @@ use Rattle.filing_c.proofs.filing_sequence.Tie as tie
 
 returns : tie.Need-returns-in-Words
 returns c =
-    let start : tie.Start = c.before.before.before.before.before.before.before in
-    sorted_answers start.args.words.now c.in-Words.is c.file_sequence.ensures
+    sorted_answers c.args.words.now c.in-Words.is c.file_sequence.ensures
 
 returns-2 : tie.Need-returns-in-Refused
 returns-2 c =
-    let start : tie.Start = c.before.before.before.before.before.before.before in
-    sorted_refuses start.args.words.now c.in-Refused.is c.file_sequence.ensures
+    sorted_refuses c.args.words.now c.in-Refused.is c.file_sequence.ensures
 
 pub filing_sequence_spec : {M : Type 1} → statement M
 filing_sequence_spec =

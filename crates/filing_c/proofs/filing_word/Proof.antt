@@ -7,13 +7,11 @@ use Rattle.filing_c.proofs.filing_word.Tie as tie
 
 returns : tie.Need-returns-in-Shelf
 returns c =
-    let start : tie.Start = c.before.before.before in
-    placed-answers (filing_word start.args.word.now) start.args.shelf.now c.in-Shelf.is c.file_word.ensures
+    placed-answers (filing_word c.args.word.now) c.args.shelf.now c.in-Shelf.is c.file_word.ensures
 
 returns-2 : tie.Need-returns-in-Refused
 returns-2 c =
-    let start : tie.Start = c.before.before.before in
-    placed-refuses (filing_word start.args.word.now) start.args.shelf.now c.in-Refused.is c.file_word.ensures
+    placed-refuses (filing_word c.args.word.now) c.args.shelf.now c.in-Refused.is c.file_word.ensures
 
 pub filing_word_spec : {M : Type 1} → statement M
 filing_word_spec =

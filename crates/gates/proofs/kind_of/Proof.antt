@@ -2,7 +2,7 @@
 use Prim.Native.Nat.{ℕ, zero, suc, ◌+◌, ◌-◌, ◌≤◌, ◌<◌}
 use mathlib.Core.Path.{◌≡◌, refl, subst}
 use native.Mathlib.Omega.{arith}
-use borrow.Author.Rules.{rules}
+use borrow.Author.Rules.{rules as needs}
 use borrow.Author.Tests.{le-ltb}
 use Rattle.meaning.specs.Gates.{gate, gates}
 use Rattle.gates.specs.Kind.{kind_of, rules}
@@ -31,8 +31,8 @@ unfolding kind_of rules gate gates
 kind_of_spec =
     tie.close
     (tie.spec
-    (λ c. search rules)
-    (λ c. search rules)
+    (λ c. search needs)
+    (λ c. search needs)
     (λ c. rw c.in-0.is)
     (λ c. rw c.in-8.is)
     (λ c. rw c.in-9.is)

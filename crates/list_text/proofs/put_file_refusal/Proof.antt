@@ -9,24 +9,20 @@ use Rattle.list_text.proofs.Lines.{row-reaches, line-of-refused-file}
 use Rattle.list_text.proofs.put_file_refusal.Statement.{statement}
 use Rattle.list_text.proofs.put_file_refusal.Tie as tie
 
-abbrev start : tie.After-put_numbers-at → tie.Start
-start c = c.before.before.before.before.before.before.before.before.before
-
 -- The word and the numbers stand there.
 numbered : (c : tie.After-put_numbers-at)
-    → let s = start c in
-    PutDown ((refused_word ++ (space ∷ [])) ++ spaced s.args.number (s.args.place ∷ [])) s.args.out.now 0
+    → PutDown ((refused_word ++ (space ∷ [])) ++ spaced c.args.number (c.args.place ∷ [])) c.args.out.now 0
     c.put_numbers-at.new.1.1.0 c.put_numbers-at.result
 numbered c = put-after c.put_bytes-at.ensures c.put_numbers-at.ensures
 
 end-line-requires : tie.Need-end_line-requires
 end-line-requires c κs =
     let kept = put-length (numbered c.before.before.before) in
-    omega (arith, row-reaches _ _ c.put_numbers-at.ensures, c.put_bytes-at.ensures.next, (start c.before.before.before).requires)
+    omega (arith, row-reaches _ _ c.put_numbers-at.ensures, c.put_bytes-at.ensures.next, c.requires)
 
 returns : tie.Need-returns
 returns c =
-    let a = (start c.before.before.before.before.before.before).args in
+    let a = c.args in
     rw (line-of-refused-file a.number a.place) at (put-after (numbered c.before.before.before.before.before.before) c.end_line.ensures)
 
 pub put_file_refusal_spec : {M : Type 1} → statement M

@@ -151,8 +151,7 @@ pub +weigh_once_spec : {M : Type 1} → statement M
     (listed t)
     (module-places t)
     (λ c.
-    let c.before.before.before = c.before.before.before.before in
-    omega (arith, (module-read t (told t (weighed t c.before.before.before.before.before.before.before))).before.loop-test.taken))
+    omega (arith, (module-read t (told t (weighed t c.before.before.before.before.before.before.before.before))).before.loop-test.taken))
     (again-at-module t)
     (λ c κs. frame-inside t c.before.before)
     (λ c κs. tt)

@@ -15,7 +15,7 @@ use Rattle.open_beside.proofs.prepare.Tie as tie
 
 -- Back from where a file has been read to the reading, and from there to where the lists are known and to the function's entry.
 abbrev reading : tie.In-Read → tie.After-read
-reading k = k.before.before.before.before.before.before.before
+reading k = k.before.before.before.before.before.before.before.before.before
 
 abbrev listed : tie.After-read → tie.After-shared_slice_known-1
 listed r = r.before.before.before.before.before.before.before.before.before.before.before.before.before.before

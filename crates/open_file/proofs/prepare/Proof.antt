@@ -13,13 +13,13 @@ use Rattle.open_file.proofs.prepare.Tie as tie
 
 -- Back from where a file has been read to the reading, and from there to where the lists are known and to the function's entry.
 abbrev reading : tie.In-Read → tie.After-read
-reading k = k.before.before.before.before.before.before
+reading k = k.before.before.before.before.before.before.before.before
 
 abbrev lists : tie.After-read → tie.After-slice_known-1
 lists r = r.before.before.before.before.before.before.before.before.before.before.before
 
 abbrev entered : tie.In-Read → tie.Start
-entered k = (lists k.before.before.before.before.before.before).before.before
+entered k = (lists k.before.before.before.before.before.before.before.before).before.before
 
 -- From the check of the modules to where its file has been read.
 abbrev known : tie.After-check-modules-arg8 → tie.In-Read
@@ -33,7 +33,7 @@ abbrev count : tie.In-Read → ℕ
 count k = k.in-Read.count
 
 bytes : (k : tie.In-Read) → Bytes (entered k).args.file.now
-bytes k = bytes-all (entered k).args.file.now (λ i. ((lists k.before.before.before.before.before.before).before.shared-slice-known.given i).fits)
+bytes k = bytes-all (entered k).args.file.now (λ i. ((lists k.before.before.before.before.before.before.before.before).before.shared-slice-known.given i).fits)
 
 room : (k : tie.In-Read) → count k ≤ length k.read.new.1.0
 room k =

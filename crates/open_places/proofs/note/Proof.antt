@@ -13,10 +13,7 @@ use Rattle.open_places.proofs.note.Tie as tie
 
 -- Back from where a file has been read to the reading, and from there to where its bytes are known.
 abbrev reading : tie.In-Read → tie.After-read
-reading k = k.before.before.before.before.before.before
-
-abbrev entered : tie.In-Read → tie.Start
-entered k = k.before.before.before.before.before.before.before.before.before.before.before.before.before.before
+reading k = k.before.before.before.before.before.before.before.before
 
 -- So many modules and numbers.
 abbrev modules : tie.In-Read → ℕ
@@ -25,15 +22,15 @@ modules k = k.in-Read.modules
 abbrev count : tie.In-Read → ℕ
 count k = k.in-Read.numbers
 
-bytes : (k : tie.In-Read) → Bytes (entered k).args.file.now
-bytes k = bytes-all (entered k).args.file.now (λ i. (k.shared_slice_known-1.given i).fits)
+bytes : (k : tie.In-Read) → Bytes k.args.file.now
+bytes k = bytes-all k.args.file.now (λ i. (k.shared_slice_known-1.given i).fits)
 
 name-requires : tie.Need-name-requires
 name-requires c κs =
     let d = c.read in
     headed (bytes c.before.before) d.ensures (modules c.before.before) (count c.before.before) c.in-Read.is
     (omega (arith, d.kept.1.1.0))
-    (entered c.before.before).requires.names_fit
+    c.requires.names_fit
 
 -- There is a place for the file's end.
 room : (c : tie.After-slice_known-in-Read-1) → modules c.before.before.before.before.before < length c.read.new.1.1.1.0
@@ -42,7 +39,7 @@ room c =
     omega (
       arith,
       few (bytes c.before.before.before.before.before) d.ensures (modules c.before.before.before.before.before) (count c.before.before.before.before.before) c.in-Read.is,
-      (entered c.before.before.before.before.before).pre.places_fit,
+      c.requires.places_fit,
       d.kept.1.1.1.0,
     )
 
@@ -56,9 +53,9 @@ returns-2 c =
     let d = c.read in
     shelved (bytes c.before.before.before.before.before) d.ensures (modules c.before.before.before.before.before) (count c.before.before.before.before.before) c.in-Read.is
     (omega (arith, d.kept.1.1.0))
-    (entered c.before.before.before.before.before).pre.names_fit
+    c.requires.names_fit
     c.name.auto.1.1.1.0
-    (omega (arith, (entered c.before.before.before.before.before).pre.places_fit, d.kept.1.1.1.0))
+    (omega (arith, c.requires.places_fit, d.kept.1.1.1.0))
     c.name.ensures
 
 pub note_spec : {M : Type 1} → statement M

@@ -52,7 +52,7 @@ turn c = c.before.before
 
 returns : tie.Need-returns-in_default invariant-loop decreases-loop
 returns c =
-    passing-refused c.loop-i.inv (entry c.before.before.before.before.before.before).pre.1 c.loop-i-test.taken c.in_default.is
+    passing-refused c.loop-i.invariant (entry c.before.before.before.before.before.before).pre.1 c.loop-i-test.taken c.in_default.is
     c.keep_module-way.ensures
 
 same-length-2 : tie.Need-shape_of-starts-in_default invariant-loop decreases-loop
@@ -63,7 +63,7 @@ same-length-3 c = simp length-set (offsets_length c.before.before.before.before.
 
 loop-again : tie.Need-loop-i-preserved invariant-loop decreases-loop
 loop-again c =
-    let inv = c.loop-i.inv in
+    let inv = c.loop-i.invariant in
     passing-next inv (entry c.before.before.before.before.before.before).pre.1 c.loop-i-test.taken
     (reached sound_module inv.turning.stands c.in-On.is c.keep_module-way.ensures)
 

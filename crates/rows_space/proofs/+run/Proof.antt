@@ -63,17 +63,12 @@ pub +run_spec : {M : Type 1} → statement M
     (λ c s. c.before.before.run.ensures s)
     (λ c. c.before.before.in-256.kept.1.1.1.1.1.1.0)
     (λ c s.
-    let c.before = c.before.before.before.before in
-    c.before.before.in-256.ensures (resized s (omega (arith, c.before.if2.true, c.before.before.if1.false))))
+    c.before.before.in-256.ensures (resized s (omega (arith, c.before.before.before.before.if2.true, c.before.before.before.before.before.if1.false))))
     (λ c. c.before.before.in-1024.kept.1.1.1.1.1.1.0)
     (λ c s.
-    let c.before.before = c.before.before in
-    let c.before = c.before.before.before.before in
-    c.before.before.in-1024.ensures (resized s (omega (arith, c.before.if3.true, c.before.before.before.if1.false))))
+    c.before.before.in-1024.ensures (resized s (omega (arith, c.before.before.before.before.if3.true, c.before.before.before.before.before.before.if1.false))))
     (λ c. c.before.before.in-8192.kept.1.1.1.1.1.1.0)
     (λ c s.
-    let c.before.before = c.before.before in
-    let c.before = c.before.before.before.before in
-    c.before.before.in-8192.ensures (resized s (omega (arith, c.before.if4.true, c.before.before.before.before.if1.false))))
+    c.before.before.in-8192.ensures (resized s (omega (arith, c.before.before.before.before.if4.true, c.before.before.before.before.before.before.before.if1.false))))
     (λ c. c.before.before.in-65536.kept.1.1.1.1.1.1.0)
     (λ c s. c.before.before.in-65536.ensures s)

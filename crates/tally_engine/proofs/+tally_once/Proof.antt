@@ -156,5 +156,5 @@ pub +tally_once_spec : {M : Type 1} → statement M
     (again-at-module t)
     (fill-row-requires t)
     (λ c. c.before.before.before.before.fill-row.auto.1.1.0 ∙ c.before.before.before.before.before.before.before.before.loop.invariant.0)
-    (λ c. let c.before.before.before.before = c.before.before.before.before in c.before.before.before.before.fill-row.auto.1.1.1.0 ∙ c.before.before.before.before.before.before.before.before.loop.invariant.1)
+    (λ c. c.before.before.before.before.fill-row.auto.1.1.1.0 ∙ c.before.before.before.before.before.before.before.before.loop.invariant.1)
     (returns t))

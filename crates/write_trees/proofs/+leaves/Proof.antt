@@ -45,30 +45,23 @@ pub +leaves_spec : {M : Type 1} → statement M
     (λ c. search rules)
     (λ c κs. let b = bits t c in (omega (arith, c.before.before.before.before.requires), ((joined t c).low, omega (arith, c.before.before.before.before.requires))))
     (λ c κs.
-    let c.before.before.before.before = c.before.before.before.before.before in
     let b = bits t c.before in
-    (omega (arith, c.before.before.before.before.requires), ((joined t c.before).middle, omega (arith, c.before.before.before.before.requires))))
+    (omega (arith, c.before.before.before.before.before.requires), ((joined t c.before).middle, omega (arith, c.before.before.before.before.before.requires))))
     (λ c.
-    let c.before = c.before.before in
-    omega (arith, c.before.before.before.before.before.requires, bits t c.before, c.leaves2.ensures, c.before.leaves.ensures))
+    omega (arith, c.before.before.before.before.before.before.requires, bits t c.before.before, c.leaves2.ensures, c.before.leaves.ensures))
     (λ c κs.
-    let c.before = c.before.before in
-    let c.before.before.before.before = c.before.before.before.before.before in
-    let b = bits t c.before in
-    (omega (arith, c.before.before.before.before.requires), ((joined t c.before).high, omega (arith, c.before.before.before.before.requires))))
+    let b = bits t c.before.before in
+    (omega (arith, c.before.before.before.before.before.before.requires), ((joined t c.before.before).high, omega (arith, c.before.before.before.before.before.before.requires))))
     (λ c.
-    let c.before = c.before.before.before in
     omega (
       arith,
-      c.before.before.before.before.before.requires,
-      bits t c.before,
+      c.before.before.before.before.before.before.before.requires,
+      bits t c.before.before.before,
       c.leaves3.ensures,
       c.before.leaves2.ensures,
       c.before.before.leaves.ensures,
     ))
     (λ c.
-    let c.before.before.before.before = c.before.before.before in
-    one_bit (subst (Parted c.before.before.before.before.args.tree) c.enum_told.given.1 c.before.before.split.ensures))
+    one_bit (subst (Parted c.before.before.before.args.tree) c.enum_told.given.1 c.before.before.split.ensures))
     (λ c.
-    let c.before = c.before.before.before in
-    omega (arith, bits t c.before, c.leaves3.ensures, c.before.leaves2.ensures, c.before.before.leaves.ensures))
+    omega (arith, bits t c.before.before.before, c.leaves3.ensures, c.before.leaves2.ensures, c.before.before.leaves.ensures))

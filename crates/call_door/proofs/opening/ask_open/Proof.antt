@@ -4,16 +4,13 @@ use Rattle.call_door.proofs.Opened.{meets_modules, meets_number, meets_nowhere, 
 use Rattle.call_door.proofs.opening.ask_open.Statement.{statement}
 use Rattle.call_door.proofs.opening.ask_open.Tie as tie
 
-abbrev start : tie.After-find → tie.Start
-start c = c.before.before.before.before.before.before.before.before.before.before.before
-
 site-at-requires : tie.Need-site_at-site-requires
 site-at-requires c κs =
-    in_lists (start c.before).requires.0 _ c.find.result c.find.ensures c.in-At.is
+    in_lists c.requires.0 _ c.find.result c.find.ensures c.in-At.is
 
 work-at-requires : tie.Need-work_at-requires
 work-at-requires c κs =
-    let pre = (start c.before.before.before.before).requires in
+    let pre = c.requires in
     (standing pre.0 _ c.find.result c.find.ensures c.in-At.is c.site_at-site.ensures, pre.1)
 
 returns-3 : tie.Need-returns-in-Nowhere

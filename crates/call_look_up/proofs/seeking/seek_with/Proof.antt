@@ -10,7 +10,7 @@ use Rattle.call_look_up.proofs.seeking.seek_with.Tie as tie
 
 -- Back from where the file's modules are noted to the noting, and to the function's entry.
 abbrev noted : tie.In-Modules → tie.After-note
-noted k = k.before.before.before.before.before
+noted k = k.before.before.before.before.before.before.before
 
 abbrev entered : tie.After-note → tie.Start
 entered n = n.before.before.before.before.before.before
@@ -32,11 +32,11 @@ finds :
 finds f = f.find.ensures (searchable (shelf f.before.before))
 
 abbrev found : tie.In-At → tie.After-find
-found c = c.before
+found c = c.before.before.before
 
 index : (c : tie.In-At) → c.in-At.k < 128
 index c =
-    sought_index (shelf c.before.before.before) c.args.number c.find.result (finds c.before) c.in-At.k c.in-At.is
+    sought_index (shelf c.before.before.before.before.before) c.args.number c.find.result (finds c.before.before.before) c.in-At.k c.in-At.is
 
 returns : tie.Need-returns-in-Refused
 returns c =

@@ -18,15 +18,12 @@ use Rattle.call_rewrite.proofs.rewriting.rewrite_ready.Tie as tie
 abbrev known : tie.After-own-1 → tie.After-shared_slice_known-1
 known c = c.before.before.before.before.before.before.before.before
 
-abbrev entered : tie.After-own-1 → tie.Start
-entered c = c.before.before.before.before.before.before.before.before.before
-
-bytes : (c : tie.After-own-1) → Bytes (entered c).args.file.now
-bytes c = bytes-all (entered c).args.file.now (λ i. (c.shared_slice_known-1.given i).fits)
+bytes : (c : tie.After-own-1) → Bytes c.args.file.now
+bytes c = bytes-all c.args.file.now (λ i. (c.shared_slice_known-1.given i).fits)
 
 decide-requires : tie.Need-decide-requires
 decide-requires c κs =
-    let o = (entered c).requires.beside.opened in
+    let o = c.requires.beside.opened in
     record {
       ms = o.ms;
       held = o.held;
@@ -39,26 +36,24 @@ decide-requires c κs =
 returns : tie.Need-returns-in-Refused
 unfolding decide-requires
 returns c =
-    let s = entered c.before.before.before in
-    let out = s.args.out.now in
-    new-refused s.pre.beside.opened (c.decide.ensures (decide-requires c.before.before.before c.decide.lifetimes)) (length out) out c.in-Refused.is
+    let out = c.args.out.now in
+    new-refused c.requires.beside.opened (c.decide.ensures (decide-requires c.before.before.before c.decide.lifetimes)) (length out) out c.in-Refused.is
 
 returns-2 : tie.Need-returns-in-Stays
 unfolding decide-requires
 returns-2 c =
-    let s = entered c.before.before.before.before.before.before.before in
-    same-written s.pre.beside.opened (c.decide.ensures (decide-requires c.before.before.before.before.before.before.before c.decide.lifetimes))
-    (length s.args.out.now)
-    (bytes c.before.before.before.before.before.before.before)
+    same-written c.requires.beside.opened (c.decide.ensures (decide-requires c.before.before.before.before.before.before.before.before c.decide.lifetimes))
+    (length c.args.out.now)
+    (bytes c.before.before.before.before.before.before.before.before)
     c.in-Stays.is
     c.answer.ensures
 
 write-new-requires : tie.Need-write_new-requires
 unfolding decide-requires
 write-new-requires c κs =
-    let r = (entered c.before.before.before.before.before.before).requires in
+    let r = c.requires in
     let o = r.beside.opened in
-    let says = c.decide.ensures (decide-requires c.before.before.before.before.before.before c.decide.lifetimes) in
+    let says = c.decide.ensures (decide-requires c.before.before.before.before.before.before.before c.decide.lifetimes) in
     record {
       ms = o.ms;
       reads = o.reads;
@@ -77,8 +72,7 @@ write-new-requires c κs =
 returns-3 : tie.Need-returns-in-Go
 unfolding write-new-requires decide-requires
 returns-3 c =
-    let s = entered c.before.before.before.before.before.before.before.before.before.before.before in
-    new-written s.pre.beside.opened (c.decide.ensures (decide-requires c.before.before.before.before.before.before.before.before.before.before.before c.decide.lifetimes)) (length s.args.out.now)
+    new-written c.requires.beside.opened (c.decide.ensures (decide-requires c.before.before.before.before.before.before.before.before.before.before.before.before c.decide.lifetimes)) (length c.args.out.now)
     c.in-Go.is
     (c.write_new.ensures (write-new-requires c.before.before.before.before.before c.write_new.lifetimes))
 
@@ -92,7 +86,7 @@ rewrite_ready_spec =
     (λ c. search rules)
     (λ c κs. search rules)
     (λ c. search rules)
-    (λ c. sym (length-take-le _ _ (numbers-inside (entered c.before.before.before).requires.beside)))
+    (λ c. sym (length-take-le _ _ (numbers-inside c.requires.beside)))
     (λ c. search rules)
     write-new-requires
     returns

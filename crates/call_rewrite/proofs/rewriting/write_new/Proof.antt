@@ -14,11 +14,8 @@ use Rattle.call_rewrite.proofs.rewriting.write_new.Tie as tie
 abbrev known : tie.After-slice_known-2-1 → tie.After-shared_slice_known-1
 known c = c.before.before.before.before.before
 
-abbrev entered : tie.After-slice_known-2-1 → tie.Start
-entered c = c.before.before.before.before.before.before
-
-bytes : (c : tie.After-slice_known-2-1) → Bytes (entered c).args.file.now
-bytes c = bytes-all (entered c).args.file.now (λ i. (c.shared_slice_known-1.given i).fits)
+bytes : (c : tie.After-slice_known-2-1) → Bytes c.args.file.now
+bytes c = bytes-all c.args.file.now (λ i. (c.shared_slice_known-1.given i).fits)
 
 -- Either list is long enough.
 short-enough : (long : ℕ) → long ≤ 1024 → 3 * long ≤ length (replicate {A = ℕ} 3072 0)
@@ -29,11 +26,11 @@ long-enough long few = omega (arith, length-replicate {A = ℕ} 196605 0)
 
 finish-requires : tie.Need-finish-requires
 finish-requires c κs =
-    rewritable (bytes c.before.before.before) (entered c.before.before.before).requires _ (short-enough _ c.if-file-le1024.true)
+    rewritable (bytes c.before.before.before) c.requires _ (short-enough _ c.if-file-le1024.true)
 
 finish-requires-2 : tie.Need-finish-requires-2
 finish-requires-2 c κs =
-    let k = (entered c.before.before.before).requires in
+    let k = c.requires in
     rewritable (bytes c.before.before.before) k _ (long-enough _ (file-short (bytes c.before.before.before) k))
 
 returns : tie.Need-returns-then-file-le1024
@@ -48,8 +45,8 @@ pub write_new_spec : {M : Type 1} → statement M
 write_new_spec =
     tie.close
     (tie.spec
-    (λ c. omega (arith, last_fits (bytes c) (entered c).requires))
-    (λ c. last_fits (bytes c) (entered c).requires)
+    (λ c. omega (arith, last_fits (bytes c) c.requires))
+    (λ c. last_fits (bytes c) c.requires)
     (λ c. search rules)
     finish-requires
     (λ c. search rules)

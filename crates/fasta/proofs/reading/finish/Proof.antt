@@ -9,7 +9,7 @@ abbrev filed : tie.After-slice_known-in-Counted-1 → tie.After-file_record
 filed c = c.before.before
 
 abbrev taken : tie.After-file_record-arg-1 → tie.In-Counted-2
-taken c = c.before
+taken c = c.before.before
 
 slice-aggregate-file-record : tie.Need-slice_bounds-file_record-end
 slice-aggregate-file-record c =

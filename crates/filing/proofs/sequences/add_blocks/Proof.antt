@@ -142,7 +142,7 @@ added c = c.before.before.before.before.before.before.before.before
 add_done : tie.Need-overflow_add-done invariant-loop decreases-loop
 add_done c =
     let t = turn c.before.before.before.before.before.before.before.before.before.before.before.before.before.before in
-    omega (arith, t.within, c.loop-done.inv.all, t.short)
+    omega (arith, t.within, c.loop-done.invariant.all, t.short)
 
 loop-less : tie.Need-loop-done-smaller invariant-loop decreases-loop
 loop-less c = let t = turn c.before.before.before.before.before.before.before.before.before.before.before.before.before.before in omega (arith, t.one, t.within)

@@ -64,7 +64,7 @@ put-line-requires c κs =
 add_at : tie.Need-overflow_add-at invariant-loop decreases-loop
 add_at c =
     let given = (start c.before.before.before.before.before.before.before.before.before.before.before.before.before).pre in
-    let sofar = c.loop-position.inv.1.1.1 given in
+    let sofar = c.loop-position.invariant.1.1.1 given in
     omega (
       arith,
       (line-here given.opened (here c.before.before.before.before.before.before.before.before.before.before.before.before given) c.site_at-site.ensures (start c.before.before.before.before.before.before.before.before.before.before.before.before.before).args.family.delays c.put_line-at.ensures).inside,
@@ -75,7 +75,7 @@ add_at c =
 loop-again : tie.Need-loop-position-preserved invariant-loop decreases-loop
 loop-again c =
     let given = (start c.before.before.before.before.before.before.before.before.before.before.before.before.before).pre in
-    let sofar = c.loop-position.inv.1.1.1 in (
+    let sofar = c.loop-position.invariant.1.1.1 in (
       search rules,
       (
         search rules,

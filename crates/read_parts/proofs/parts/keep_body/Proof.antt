@@ -6,25 +6,22 @@ use Rattle.read_parts.specs.Counted.{CountTaken, counted, takes-list}
 use Rattle.read_parts.proofs.parts.keep_body.Statement.{statement}
 use Rattle.read_parts.proofs.parts.keep_body.Tie as tie
 
-abbrev entry : tie.In-On-2 → tie.Start
-entry c = c.before.before.before.before.before.before.before
-
 -- The count is laid out, and reading stands behind it.
 there : (c : tie.In-On-2)
-    → CountTaken most_occurrences (entry c).args.bytes.now (entry c).args.spot (entry c).args.numbers.now
+    → CountTaken most_occurrences c.args.bytes.now c.args.spot c.args.numbers.now
     c.in-On.next c.keep_count-way.new.1.1.1.0
-there c = counted most_occurrences (entry c).requires c.in-On.is c.keep_count-way.ensures
+there c = counted most_occurrences c.requires c.in-On.is c.keep_count-way.ensures
 
 returns : tie.Need-returns-in_default
 returns c =
     takes-ended (read_many read_occurrence) c.in_default.is c.keep_count-way.ensures
 
 keep-occurrences-requires : tie.Need-keep_occurrences-requires
-keep-occurrences-requires c κs = (there c.before.before).there.stands
+keep-occurrences-requires c κs = (there c.before.before.before).there.stands
 
 returns-2 : tie.Need-returns
 returns-2 c =
-    takes-list read_occurrence (there c.before.before.before.before.before) c.last_kept-count.ensures c.keep_occurrences.ensures
+    takes-list read_occurrence (there c.before.before.before.before.before.before) c.last_kept-count.ensures c.keep_occurrences.ensures
 
 pub keep_body_spec : {M : Type 1} → statement M
 keep_body_spec =
@@ -35,7 +32,7 @@ keep_body_spec =
     (λ c. search rules)
     (λ c. search rules)
     returns
-    (λ c κs. (there c).some)
+    (λ c κs. (there c.before.before).some)
     keep-occurrences-requires
     (λ c. search rules)
     returns-2)

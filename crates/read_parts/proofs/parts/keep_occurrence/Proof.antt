@@ -11,28 +11,22 @@ use Rattle.read_parts.proofs.parts.keep_occurrence.Tie as tie
 
 -- The driven nets are read: the call that reads them, and the function's start.
 abbrev nets : tie.In-On-2 → tie.After-keep_nets-driven
-nets c = c.before.before.before
-
-abbrev entry : tie.In-On-2 → tie.Start
-entry c = c.before.before.before.before.before.before.before
+nets c = c.before.before.before.before
 
 driven : (c : tie.In-On-2)
-    → Reached list_numbers read_nets (entry c).args.bytes.now (entry c).args.spot (entry c).args.numbers.now
+    → Reached list_numbers read_nets c.args.bytes.now c.args.spot c.args.numbers.now
     c.in-On.spot c.keep_nets-driven.new.1.1.0
-driven c = reached sound-nets (entry c).requires c.in-On.is c.keep_nets-driven.ensures
+driven c = reached sound-nets c.requires c.in-On.is c.keep_nets-driven.ensures
 
 -- The number is read: the call that reads it, and where reading stood.
 abbrev number : tie.In-On-refers-2 → tie.After-keep_number-refers
-number c = c.before.before.before
-
-abbrev behind : tie.In-On-refers-2 → tie.In-On-2
-behind c = c.before.before.before.before.before
+number c = c.before.before.before.before
 
 refers : (c : tie.In-On-refers-2)
-    → Reached one read_number (entry (behind c)).args.bytes.now
-    (behind c).driven.given.0.0 (nets (behind c)).keep-nets.new.1.1.0
+    → Reached one read_number c.args.bytes.now
+    c.in-On.spot c.keep_nets-driven.new.1.1.0
     c.in-On-refers.spot c.keep_number-refers.new.1.1.0
-refers c = reached sound-number (driven (behind c)).stands c.in-On-refers.is c.keep_number-refers.ensures
+refers c = reached sound-number (driven c.before.before.before.before.before.before.before).stands c.in-On-refers.is c.keep_number-refers.ensures
 
 returns : tie.Need-returns-in_default
 returns c =
@@ -40,23 +34,21 @@ returns c =
     (takes-ended (λ _. skip read_number read_nets) c.in_default.is c.keep_nets-driven.ensures)
 
 keep-number-requires : tie.Need-keep_number-refers-requires
-keep-number-requires c κs = (driven c.before).stands
+keep-number-requires c κs = (driven c.before.before).stands
 
 returns-2 : tie.Need-returns-in_default-refers
 returns-2 c =
-    let p : tie.After-keep_number-refers = c.before.before.before in
     takes-alike alike-occurrence
-    (takes_skip (driven p.before.before.before)
-    (takes-ended (λ _. read_nets) c.in_default-refers.is p.keep-number.ensures))
+    (takes_skip (driven c.before.before.before.before.before.before)
+    (takes-ended (λ _. read_nets) c.in_default-refers.is c.keep_number-refers.ensures))
 
 keep-nets-requires-2 : tie.Need-keep_nets-requires
-keep-nets-requires-2 c κs = (refers c.before).stands
+keep-nets-requires-2 c κs = (refers c.before.before).stands
 
 returns-3 : tie.Need-returns
 returns-3 c =
-    let p : tie.In-On-refers-2 = c.before.before.before.before in
     takes-alike alike-occurrence
-    (takes_skip (driven (behind p)) (takes_skip (refers p) c.keep_nets.ensures))
+    (takes_skip (driven c.before.before.before.before.before.before.before.before.before.before.before.before) (takes_skip (refers c.before.before.before.before.before) c.keep_nets.ensures))
 
 pub keep_occurrence_spec : {M : Type 1} → statement M
 keep_occurrence_spec =

@@ -11,7 +11,7 @@ use Rattle.read_parts.proofs.way.keep_count.Tie as tie
 
 -- The function's start, from where a number is found.
 abbrev entry : tie.In-Is → tie.Start
-entry c = c.before.before.before.before
+entry c = c.before.before.before.before.before.before
 
 is : (c : tie.In-Is)
     → Is c.in-Is.value c.in-Is.next

@@ -48,32 +48,32 @@ test c = c.before
 
 found :
     (c : tie.After-seek-first invariant-loop decreases-loop) (s : Asked c.before.before.before.before.before)
-    → Found (seekable s.w (c.loop-left.inv s) (now c.before.before s) (told c.before)) c.seek-first.result
-found c s = c.seek-first.ensures (seekable s.w (c.loop-left.inv s) (now c.before.before s) (told c.before))
+    → Found (seekable s.w (c.loop-left.invariant s) (now c.before.before s) (told c.before)) c.seek-first.result
+found c s = c.seek-first.ensures (seekable s.w (c.loop-left.invariant s) (now c.before.before s) (told c.before))
 
 found-next :
     (c : tie.After-seek-second invariant-loop decreases-loop) (s : Asked c.before.before.before.before.before.before)
-    → Found (seekable-next s.w (c.loop-left.inv s) (now c.before.before.before s) (told c.before.before) (found c.before s))
+    → Found (seekable-next s.w (c.loop-left.invariant s) (now c.before.before.before s) (told c.before.before) (found c.before s))
     c.seek-second.result
 found-next c s =
     c.seek-second.ensures
-    (seekable-next s.w (c.loop-left.inv s) (now c.before.before.before s) (told c.before.before) (found c.before s))
+    (seekable-next s.w (c.loop-left.invariant s) (now c.before.before.before s) (told c.before.before) (found c.before s))
 
 put-three-requires : tie.Need-put_three-end-requires invariant-loop decreases-loop
 put-three-requires c κs =
     let s = c.requires in
     subst (λ (g : Gate). Replacing g c.seek-first.result c.seek-second.result c.loop-left.out c.loop-left.end) (sym c.gate_at-gate.ensures)
-    (replacing s.w (c.loop-left.inv s) (now c.before.before.before.before.before s) (told c.before.before.before.before) (found c.before.before.before s) (found-next c.before.before s))
+    (replacing s.w (c.loop-left.invariant s) (now c.before.before.before.before.before s) (told c.before.before.before.before) (found c.before.before.before s) (found-next c.before.before s))
 
 loop-again : tie.Need-loop-left-preserved-then-is_withdrawn invariant-loop decreases-loop
 loop-again c s =
-    replaced-next s.w (c.loop-left.inv s) (now c.before.before.before.before.before.before.before.before s) (told c.before.before.before.before.before.before.before) (found c.before.before.before.before.before.before s) (found-next c.before.before.before.before.before s)
+    replaced-next s.w (c.loop-left.invariant s) (now c.before.before.before.before.before.before.before.before s) (told c.before.before.before.before.before.before.before) (found c.before.before.before.before.before.before s) (found-next c.before.before.before.before.before s)
     (rw c.gate_at-gate.ensures at c.put_three-end.ensures)
 
 -- An occurrence that stays.
 stays_here :
-    (c : tie.Else-is_withdrawn invariant-loop decreases-loop) (s : Asked c.before.before.before.before) → Stays s.w (c.loop-left.inv s) (now c.before s)
-stays_here c s = stays s.w (c.loop-left.inv s) (now c.before s) (sym c.is_withdrawn.ensures ∙ c.if-is_withdrawn.false)
+    (c : tie.Else-is_withdrawn invariant-loop decreases-loop) (s : Asked c.before.before.before.before) → Stays s.w (c.loop-left.invariant s) (now c.before s)
+stays_here c s = stays s.w (c.loop-left.invariant s) (now c.before s) (sym c.is_withdrawn.ensures ∙ c.if-is_withdrawn.false)
 
 put-list-requires : tie.Need-put_list-end-requires invariant-loop decreases-loop
 put-list-requires c κs =

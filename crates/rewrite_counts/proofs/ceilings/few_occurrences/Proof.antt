@@ -44,12 +44,12 @@ module _ (c : tie.After-struct_known-1 invariant-loop decreases-loop)
 
 returns : tie.Need-returns-then-header-own-gt4096 invariant-loop decreases-loop
 returns c s =
-    c.loop-k.inv s
+    c.loop-k.invariant s
     ∙ many-here (here c.before.before.before.before.before s) (omega (arith, c.if-header-own-gt4096.true, counted c.before s, s.table.entry c.loop-k.k (here c.before.before.before.before.before s).m (here c.before.before.before.before.before s).later (here c.before.before.before.before.before s).here))
 
 loop-again : tie.Need-loop-k-preserved invariant-loop decreases-loop
 loop-again c s =
-    c.loop-k.inv s
+    c.loop-k.invariant s
     ∙ few-here (here c.before.before.before.before.before s) (omega (arith, c.if-header-own-gt4096.false, counted c.before s, s.table.entry c.loop-k.k (here c.before.before.before.before.before s).m (here c.before.before.before.before.before s).later (here c.before.before.before.before.before s).here))
 
 pub few_occurrences_spec : {M : Type 1} → statement M

@@ -41,7 +41,7 @@ returns c s =
 
 loop-again : tie.Need-loop-k-preserved invariant-loop decreases-loop
 loop-again c = (
-  omega (arith, c.loop-k.inv.0),
+  omega (arith, c.loop-k.invariant.0),
   λ s.
       let h = here-at s.ms (position c.before.before.before s) (inside c.before.before.before s) in
       small-here h (behind c.before.before.before s) (omega (arith, c.if-sizes-k-gt65535.false, s.size (position c.before.before.before s) h.m h.later h.here, s.reach (position c.before.before.before s) h.m h.later h.here)),

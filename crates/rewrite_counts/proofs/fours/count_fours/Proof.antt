@@ -51,9 +51,9 @@ module _
 
 loop-again : tie.Need-loop-k-preserved invariant-loop decreases-loop
 loop-again c = (
-  omega (arith, c.loop-k.inv.0),
-  length-set c.loop-k.own _ _ ∙ c.loop-k.inv.1,
-  length-set c.loop-k.reached _ _ ∙ c.loop-k.inv.2,
+  omega (arith, c.loop-k.invariant.0),
+  length-set c.loop-k.own _ _ ∙ c.loop-k.invariant.1,
+  length-set c.loop-k.reached _ _ ∙ c.loop-k.invariant.2,
   λ s.
       let found = c.fours_of-found.ensures (reaching s (low c.before.before s) (behind c.before.before s).tabled) in
       counted-more (here-at s.rs (position c.before.before s) (low c.before.before s)) _ _ (behind c.before.before s) (in-own c.before.before s) (in-reached c.before.before s) found.0 found.1,

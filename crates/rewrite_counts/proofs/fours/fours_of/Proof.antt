@@ -38,15 +38,15 @@ now :
 now c s = turn c.loop-left-test.true (c.loop-left.invariant s).ahead c.occurrence_at-o.ensures
 
 module_here :
-    (c : tie.After-struct_known-then-o-ge16-1 invariant-loop decreases-loop) (s : Asked c.before.before.before.before.before.before.before) → AtModule s (c.loop-left.inv s) (now c.before.before.before.before s)
+    (c : tie.After-struct_known-then-o-ge16-1 invariant-loop decreases-loop) (s : Asked c.before.before.before.before.before.before.before) → AtModule s (c.loop-left.invariant s) (now c.before.before.before.before s)
 module_here c s =
-    at_module s (c.loop-left.inv s) (now c.before.before.before.before s) (sym c.is_withdrawn.ensures ∙ c.if-is_withdrawn.false)
+    at_module s (c.loop-left.invariant s) (now c.before.before.before.before s) (sym c.is_withdrawn.ensures ∙ c.if-is_withdrawn.false)
     c.if-o-ge16.true
 
 -- It refers to one of the four gates.
 four-here :
-    (c : tie.Then-is_withdrawn invariant-loop decreases-loop) (s : Asked c.before.before.before.before) → Step s (c.loop-left.inv s) (now c.before s) 1 1
-four-here c s = at-four s (c.loop-left.inv s) (now c.before s) (sym c.is_withdrawn.ensures ∙ c.if-is_withdrawn.true)
+    (c : tie.Then-is_withdrawn invariant-loop decreases-loop) (s : Asked c.before.before.before.before) → Step s (c.loop-left.invariant s) (now c.before s) 1 1
+four-here c s = at-four s (c.loop-left.invariant s) (now c.before s) (sym c.is_withdrawn.ensures ∙ c.if-is_withdrawn.true)
 
 pub fours_of_spec : {M : Type 1} → statement M
 fours_of_spec =

@@ -19,7 +19,7 @@ decreases-loop text most inputs values₀ rows₀ given₀ next₀ values rows g
 
 -- Where a line was looked for, and the loop and the entry in front of it.
 abbrev looked : tie.In-Row invariant-loop decreases-loop → tie.After-find_row invariant-loop decreases-loop
-looked c = c.before
+looked c = c.before.before.before
 
 abbrev entry : tie.In-loop-rows invariant-loop decreases-loop → tie.Start invariant-loop decreases-loop
 entry c = c.before.before.before.before
@@ -35,28 +35,28 @@ found_here c =
 row : (c : tie.In-Row invariant-loop decreases-loop)
     → let s = c.args in
     FoundRow s.inputs (drop c.loop-rows.next s.text.now) c.in-Row.bare c.in-Row.whole
-row c = found-row _ _ (sym (found_here c.before) ∙ c.in-Row.is)
+row c = found-row _ _ (sym (found_here c.before.before.before) ∙ c.in-Row.is)
 
 -- The row ends inside the text.
 end-inside : tie.Need-slice_bounds-put_at-end invariant-loop decreases-loop
 end-inside c =
     let s = c.args in
     let next = c.loop-rows.next in
-    omega (arith, c.loop-rows.inv.inside, (row c).inside, (row c).within, length-drop next s.text.now)
+    omega (arith, c.loop-rows.invariant.inside, (row c).inside, (row c).within, length-drop next s.text.now)
 
 next-inside : (c : tie.In-Row invariant-loop decreases-loop)
     → c.loop-rows.next + c.in-Row.whole ≤ length c.args.text.now
 next-inside c =
     let s = c.args in
-    omega (arith, c.loop-rows.inv.inside, (row c).within, length-drop c.loop-rows.next s.text.now)
+    omega (arith, c.loop-rows.invariant.inside, (row c).within, length-drop c.loop-rows.next s.text.now)
 
 loop-again : tie.Need-loop-rows-preserved invariant-loop decreases-loop
 loop-again c =
-    taking-row c.loop-rows.inv c.loop-rows-test.taken c.if-values-given.false (row c.before.before.before.before.before) c.put_at-given.ensures
+    taking-row c.loop-rows.invariant c.loop-rows-test.taken c.if-values-given.false (row c.before.before.before.before.before) c.put_at-given.ensures
 
 returns : tie.Need-returns-in-Stop invariant-loop decreases-loop
 returns c =
-    taking-found c.loop-rows.inv c.loop-rows-test.taken c.if-values-given.false (sym (found_here c.before) ∙ c.in-Stop.is)
+    taking-found c.loop-rows.invariant c.loop-rows-test.taken c.if-values-given.false (sym (found_here c.before) ∙ c.in-Stop.is)
 
 pub take_rows_spec : {M : Type 1} → statement M
 take_rows_spec =
@@ -75,13 +75,13 @@ take_rows_spec =
     (λ c. omega arith)
     (λ c. omega arith)
     end-inside
-    (λ c κs. omega (arith, c.loop-rows.inv.room-is))
+    (λ c κs. omega (arith, c.loop-rows.invariant.room-is))
     (λ c. omega (arith, next-inside c.before.before.before.before.before))
     (λ c. omega arith)
     (λ c. omega arith)
     loop-again
     (λ c. search rules)
-    (λ c. c.loop-rows.inv.goes.same)
+    (λ c. c.loop-rows.invariant.goes.same)
     returns
     (λ c. c.loop-rows.invariant.goes.same)
     (λ c. taking-all c.loop-rows.invariant c.loop-rows-test.false)

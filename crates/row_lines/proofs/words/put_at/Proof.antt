@@ -62,7 +62,7 @@ loop-holds c =
 
 -- There is room for another value.
 room : tie.Need-bounds-values-at invariant-loop decreases-loop
-room c = let h = c.loop-i.inv.inside in omega (arith, c.if-at-values.false)
+room c = let h = c.loop-i.invariant.inside in omega (arith, c.if-at-values.false)
 
 loop-again : tie.Need-loop-i-preserved invariant-loop decreases-loop
 loop-again c =
@@ -82,7 +82,7 @@ loop-again c =
     c.if-mark-lt-GAP.branch
 
 same_length : tie.Need-shape_of-values-then-at-values invariant-loop decreases-loop
-same_length c = c.loop-i.inv.goes.same
+same_length c = c.loop-i.invariant.goes.same
 
 returns : tie.Need-returns-then-at-values invariant-loop decreases-loop
 returns c =

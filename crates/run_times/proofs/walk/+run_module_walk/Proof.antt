@@ -189,24 +189,22 @@ pub +run_module_walk_spec : {M : Type 1} → statement M
     (λ t.
     run-module-lts.spec (run-module-claims t) (run-module-at t) run-module.Post
     (λ c. omega (arith, in_starts c.before.before.before.before.before.requires.1.0.scene))
-    (λ c. let c.before = c.before.before in in_starts c.before.before.before.before.before.requires.1.0.scene)
-    (λ c κs. let c.before = c.before.before in module_there c.before.before.before.before.before.requires.1.0.scene)
+    (λ c. in_starts c.before.before.before.before.before.before.requires.1.0.scene)
+    (λ c κs. module_there c.before.before.before.before.before.before.requires.1.0.scene)
     (λ c κs.
     let from = began t c.before.before in
     (omega (arith, from.pre.0), (walkable t c.before.before from.pre.1.0, walkable t c.before.before from.pre.1.1)))
     (λ c. c.before.before.before.before.walk.auto.1.1.1.1.1.1.0)
     (λ c. c.before.before.before.before.walk.auto.1.1.1.1.1.1.1.0)
     (λ c.
-    let c.before.before = c.before.before.before.before.before.before.before in
-    (λ s. c.before.before.before.before.walk.ensures.0 (walkable t c.before.before s), λ s. c.before.before.before.before.walk.ensures.1 (walkable t c.before.before s))))
+    (λ s. c.before.before.before.before.walk.ensures.0 (walkable t c.before.before.before.before.before.before.before s), λ s. c.before.before.before.before.walk.ensures.1 (walkable t c.before.before.before.before.before.before.before s))))
     (λ t.
     walk-lts.spec (walk-claims t) (walk_at t) walk.Post Inv-loop μ-loop
-    (λ c. let c.before = c.before in omega (arith, in_nets c.before.before.before.before.before.requires.1.0.runnable.scene))
-    (λ c. let c.before = c.before.before in in_nets c.before.before.before.before.before.requires.1.0.runnable.scene)
+    (λ c. omega (arith, in_nets c.before.before.before.before.before.requires.1.0.runnable.scene))
+    (λ c. in_nets c.before.before.before.before.before.before.requires.1.0.runnable.scene)
     (add_at t)
     (λ c.
-    let c.before = c.before.before.before in
-    let a = c.before.before.before.before.before.args in
+    let a = c.before.before.before.before.before.before.before.args in
     (walking_begins (times_work one_each) a.units.now, walking_begins (times_work (delay_in a.family.delays)) a.others.now))
     (λ c κs.
     occurrence-there (omega (arith, c.loop-test.true)) (come c.before.loop.invariant.0 (start t c.before).requires.1.0).ahead)
@@ -229,10 +227,10 @@ pub +run_module_walk_spec : {M : Type 1} → statement M
     (λ c.
     let read = module-read t c.before.before.before in
     omega (arith, modules.target-listed (units-own t read) (module-kind t c.before.before.before), (start t read.before.before).good))
-    (λ c. let c.before.before.before = c.before.before.before.before in modules.target-listed (units-own t (module-read t c.before.before.before)) (module-kind t c.before.before.before))
-    (λ c κs. let c.before.before.before = c.before.before.before.before in module_there (modules.sub (units-own t (module-read t c.before.before.before)) (module-kind t c.before.before.before)))
-    (λ c κs. let c.before.before.before = called-from t c.before in modules.passes (units-own t (module-read t c.before.before.before)) (module-kind t c.before.before.before))
-    (λ c κs. let c.before.before.before = passed-from t c.before.before.before in modules.passes (others-own t (module-read t c.before.before.before)) (module-kind t c.before.before.before))
+    (λ c. modules.target-listed (units-own t (module-read t c.before.before.before.before)) (module-kind t c.before.before.before.before))
+    (λ c κs. module_there (modules.sub (units-own t (module-read t c.before.before.before.before)) (module-kind t c.before.before.before.before)))
+    (λ c κs. let told = called-from t c.before in modules.passes (units-own t (module-read t told)) (module-kind t told))
+    (λ c κs. let told = passed-from t c.before.before.before in modules.passes (others-own t (module-read t told)) (module-kind t told))
     (mul-lent-units t)
     (lent-units t)
     (lent-units t)
@@ -250,8 +248,8 @@ pub +run_module_walk_spec : {M : Type 1} → statement M
     (loop-again-2 t)
     (λ c. omega (arith, (module-read t c.before.before).before.loop-test.taken))
     (loop-again-3 t)
-    (λ c. let c.before = c.before in (come c.before.loop.invariant.0 (start t c.before).requires.1.0).size)
-    (λ c. let c.before = c.before in (come c.before.loop.invariant.1 (start t c.before).requires.1.1).size)
+    (λ c. (come c.before.loop.invariant.0 (start t c.before).requires.1.0).size)
+    (λ c. (come c.before.loop.invariant.1 (start t c.before).requires.1.1).size)
     (λ c.
     let inv = c.before.loop.invariant in (
       λ s. finish (come inv.0 s) c.loop-test.false,

@@ -72,17 +72,13 @@ loop-holds c =
           ((neutral-both fold _).0 ∙ sym (stands_for first c.coded-v.ensures ∙ ap at read.ensures))),
     )
 
--- Where the function began, from a turn of its loop.
-abbrev start : tie.At-loop-i invariant-loop decreases-loop → tie.Start invariant-loop decreases-loop
-start c = c.before.before.before.before.before.before.before
-
 entry-requires-2 : tie.Need-entry-requires-in-loop-i invariant-loop decreases-loop
-entry-requires-2 c κs = omega (arith, (start c.before).pre.inside)
+entry-requires-2 c κs = omega (arith, c.requires.inside)
 
 -- The slot that was read is one of the scratch.
-slot-inside : (c : tie.After-entry-in-loop-i invariant-loop decreases-loop) → c.entry-in-loop-i.result < length (start c.before.before).args.scratch.now
+slot-inside : (c : tie.After-entry-in-loop-i invariant-loop decreases-loop) → c.entry-in-loop-i.result < length c.args.scratch.now
 slot-inside c =
-    going-slot c.loop-i.invariant.1 (start c.before.before).requires c.loop-i-test.true c.entry-in-loop-i.ensures
+    going-slot c.loop-i.invariant.1 c.requires c.loop-i-test.true c.entry-in-loop-i.ensures
 
 mul-step : tie.Need-offset_bounds-scratch-entry-in-loop-i invariant-loop decreases-loop
 mul-step c = let h = slot-inside c in omega arith
@@ -92,13 +88,13 @@ shared-slice-read-step c = slot-inside c.before
 
 loop-again : tie.Need-loop-i-preserved invariant-loop decreases-loop
 loop-again c =
-    let fold = (start c.before.before.before.before).args.fold in
+    let fold = c.args.fold in
     let so_far = value c.loop-i.v in
-    let scratch = (start c.before.before.before.before).args.scratch.now in
+    let scratch = c.args.scratch.now in
     let read = c.entry-in-loop-i in
     let found = step fold so_far (value (get_or scratch read.result 0)) in (
       is-small found c.step-v.ensures,
-      going_more c.loop-i.invariant.1 c.loop-i-test.true (start c.before.before.before.before).requires.inside
+      going_more c.loop-i.invariant.1 c.loop-i-test.true c.requires.inside
           (λ xs.
           ap (λ (u : Val). fold_on fold u (map value xs))
           (sym (stands_for found c.step-v.ensures ∙ ap (λ (slot : ℕ). step fold so_far (value (get_or scratch slot 0))) read.ensures))),

@@ -121,18 +121,17 @@ pub +run_module_walk_spec : {M : Type 1} → statement M
     run-module-lts.spec (run-module-claims t) (run-module-at t) run-module.Post
     (λ c. omega (arith, in_starts c.before.before.before.before.requires.1.scene))
     (λ c. in_starts c.before.before.before.before.before.requires.1.scene)
-    (λ c κs. let c.before = c.before in module_there c.before.before.before.before.before.requires.1.scene)
+    (λ c κs. module_there c.before.before.before.before.before.requires.1.scene)
     (λ c κs. let from = began t c.before in (omega (arith, from.pre.0), walkable t c.before from.pre.1))
     (λ c. c.before.before.walk.auto.1.1.1.1.1.0)
     (λ c s. c.before.before.walk.ensures (walkable t c.before.before.before.before s)))
     (λ t.
     walk-lts.spec (walk-claims t) (walk_at t) walk.Post Inv-loop μ-loop
     (λ c. omega (arith, in_nets c.before.before.before.before.requires.1.runnable.scene))
-    (λ c. let c.before = c.before in in_nets c.before.before.before.before.before.requires.1.runnable.scene)
+    (λ c. in_nets c.before.before.before.before.before.requires.1.runnable.scene)
     (add_at t)
     (λ c.
-    let c.before = c.before.before.before in
-    let a = c.before.before.before.before.args in
+    let a = c.before.before.before.before.before.before.args in
     walking_begins value_work a.scratch.now)
     (λ c κs. occurrence-there (omega (arith, c.loop-test.true)) (own-progress t c.before).ahead)
     (λ c. omega arith)
@@ -150,9 +149,9 @@ pub +run_module_walk_spec : {M : Type 1} → statement M
     (λ c.
     let read = module-read t c.before.before.before in
     omega (arith, modules.target-listed (own t read) (module-kind t c.before.before.before), (start t read.before.before).good))
-    (λ c. let c.before.before.before = c.before.before.before.before in modules.target-listed (own t (module-read t c.before.before.before)) (module-kind t c.before.before.before))
-    (λ c κs. let c.before.before.before = c.before.before.before.before in module_there (modules.sub (own t (module-read t c.before.before.before)) (module-kind t c.before.before.before)))
-    (λ c κs. let c.before.before.before = called-from t c.before in modules.passes (own t (module-read t c.before.before.before)) (module-kind t c.before.before.before))
+    (λ c. modules.target-listed (own t (module-read t c.before.before.before.before)) (module-kind t c.before.before.before.before))
+    (λ c κs. module_there (modules.sub (own t (module-read t c.before.before.before.before)) (module-kind t c.before.before.before.before)))
+    (λ c κs. let told = called-from t c.before in modules.passes (own t (module-read t told)) (module-kind t told))
     (mul-run-module t)
     (lent-inside t)
     (lent-inside t)

@@ -149,9 +149,9 @@ pub +run_module_walk_spec : {M : Type 1} → statement M
     (λ c.
     let read = module-read t c.before.before.before in
     omega (arith, modules.target-listed (own t read) (module-kind t c.before.before.before), (start t read.before.before).good))
-    (λ c. let c.before.before.before = c.before.before.before.before in modules.target-listed (own t (module-read t c.before.before.before)) (module-kind t c.before.before.before))
-    (λ c κs. let c.before.before.before = c.before.before.before.before in module_there (modules.sub (own t (module-read t c.before.before.before)) (module-kind t c.before.before.before)))
-    (λ c κs. let c.before.before.before = called-from t c.before in modules.passes (own t (module-read t c.before.before.before)) (module-kind t c.before.before.before))
+    (λ c. modules.target-listed (own t (module-read t c.before.before.before.before)) (module-kind t c.before.before.before.before))
+    (λ c κs. module_there (modules.sub (own t (module-read t c.before.before.before.before)) (module-kind t c.before.before.before.before)))
+    (λ c κs. let told = called-from t c.before in modules.passes (own t (module-read t told)) (module-kind t told))
     (mul-run-module t)
     (lent-inside t)
     (lent-inside t)

@@ -7,13 +7,11 @@ use Rattle.meaning.specs.Calls.{module_count}
 
 returns : tie.Need-returns-in-Modules
 returns c =
-    let start : tie.Start = c.before.before.before in
-    listed-answers (module_count start.args.file.now) start.args.modules.now c.in-Modules.is c.modules.ensures
+    listed-answers (module_count c.args.file.now) c.args.modules.now c.in-Modules.is c.modules.ensures
 
 returns-2 : tie.Need-returns-in-Refused
 returns-2 c =
-    let start : tie.Start = c.before.before.before in
-    listed-refuses (module_count start.args.file.now) start.args.modules.now c.in-Refused.is c.modules.ensures
+    listed-refuses (module_count c.args.file.now) c.args.modules.now c.in-Refused.is c.modules.ensures
 
 pub shelf_modules_spec : {M : Type 1} → statement M
 shelf_modules_spec =

@@ -7,14 +7,12 @@ use Rattle.meaning.specs.Calls.{number_at}
 
 returns : tie.Need-returns-in-Number
 returns c =
-    let start : tie.Start = c.before.before.before in
-    named-answers (number_at start.args.file.now start.args.position) start.args.number.now c.in-Number.is
+    named-answers (number_at c.args.file.now c.args.position) c.args.number.now c.in-Number.is
     c.number_at.ensures
 
 returns-2 : tie.Need-returns-in-Refused
 returns-2 c =
-    let start : tie.Start = c.before.before.before in
-    named-refuses (number_at start.args.file.now start.args.position) start.args.number.now c.in-Refused.is
+    named-refuses (number_at c.args.file.now c.args.position) c.args.number.now c.in-Refused.is
     c.number_at.ensures
 
 pub shelf_number_at_spec : {M : Type 1} → statement M

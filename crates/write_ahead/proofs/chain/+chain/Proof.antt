@@ -164,7 +164,7 @@ pub +chain_spec : {M : Type 1} → statement M
     (chain-requires t)
     (λ c. chained-length (entry t c.before.before.before.before.before.before).requires.1 (returns t c))
     (returns t)
-    (λ c κs. let c.before.before.before.before.before.before = c.before.before in ((joined t c.before.before.before.before.before.before).middle, (parts-few (joined t c.before.before.before.before.before.before) (entry t c.before.before.before.before.before.before).requires.1).1))
+    (λ c κs. ((joined t c.before.before).middle, (parts-few (joined t c.before.before) (entry t c.before.before).requires.1).1))
     (λ c. omega (arith, both t c, parts-few (joined t (told t c)) (entry t (told t c)).pre.1))
     (λ c κs. low_able (joined t (told t c.before)) (entry t (told t c.before)).pre.1 (past t c.before))
     (over-one-requires t)

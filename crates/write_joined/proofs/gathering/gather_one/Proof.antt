@@ -24,10 +24,6 @@ returns-2 c a =
     (part-is a)
     c.copy.ensures
 
--- At the copy, what the module at the position asks.
-abbrev asked : tie.After-struct_known-1 → tie.Start
-asked c = c.before.before.before.before.before.before.before.before.before.before.before
-
 copy-requires : tie.Need-copy-requires
 copy-requires c κs =
     let a = c.requires in
@@ -45,10 +41,10 @@ gather_one_spec =
     (λ c. let h = places-listed c.requires in search rules)
     (λ c. let h = places-listed c.requires in search rules)
     (λ c. places-listed c.requires)
-    (λ c. let h = (asked c).requires.few in search rules)
-    (λ c. omega (arith, place-order (asked c).requires))
-    (λ c. omega (arith, place-order (asked c).requires))
-    (λ c. part_end (asked c).requires)
+    (λ c. let h = c.requires.few in search rules)
+    (λ c. omega (arith, place-order c.requires))
+    (λ c. omega (arith, place-order c.requires))
+    (λ c. part_end c.requires)
     copy-requires
     (λ c. search rules)
     returns-2)
