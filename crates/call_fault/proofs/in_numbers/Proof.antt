@@ -8,7 +8,7 @@ use Rattle.call_fault.proofs.in_numbers.Tie as tie
 
 abbrev placed :
     (c : tie.After-place_modules) (w : Whole c.args.numbers.now)
-    → Placed c.args.numbers.now c.place_modules.new.1.1.0 c.entry-modules.result
+    → Placed c.args.numbers.now c.place_modules.new.starts c.entry-modules.result
 placed c w = record { ms = w.ms; filed = c.place_modules.ensures w; counted = c.entry-modules.ensures ∙ counted w }
 
 entry-requires : tie.Need-entry-modules-requires

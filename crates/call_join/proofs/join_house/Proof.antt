@@ -15,10 +15,10 @@ entered n = n.before.before.before.before.before.before.before.before.before
 
 shelf :
     (k : tie.In-Modules)
-    → (Shelved k.args.house.now k.in-Modules.modules k.note.last.1.1.0 k.note.last.1.1.1.0)
+    → (Shelved k.args.house.now k.modules-1.given.0.0 k.note.new.names k.note.new.places)
 shelf k =
-    noted-shelved k.args.house.now k.note.last.1.1.0 k.note.last.1.1.1.0 k.note.result k.note.ensures
-    k.in-Modules.modules k.in-Modules.is
+    noted-shelved k.args.house.now k.note.new.names k.note.new.places k.note.result k.note.ensures
+    k.modules-1.given.0.0 k.modules-1.given.1
 
 -- From the gathering, and from the assembling, to where the modules are noted.
 abbrev known : tie.After-gather-all → tie.In-Modules
@@ -30,7 +30,7 @@ gathered c = c.before.before.before.before
 returns : tie.Need-returns-in-Refused
 returns c b =
     refused_house b (length c.args.out.now) c.args.out.now
-    (noted-fails c.args.house.now c.note.new.1.1.0 c.note.new.1.1.1.0 c.note.result c.note.ensures
+    (noted-fails c.args.house.now c.note.new.names c.note.new.places c.note.result c.note.ensures
     c.in-Refused.number c.in-Refused.place c.in-Refused.is)
 
 returns-2 : tie.Need-returns-in-Modules

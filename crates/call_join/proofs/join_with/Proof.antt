@@ -14,10 +14,10 @@ noted k = k.before.before.before.before.before.before.before
 
 shelf :
     (k : tie.In-Modules)
-    → (Shelved k.args.group.now k.in-Modules.modules k.note.last.1.1.0 k.note.last.1.1.1.0)
+    → (Shelved k.args.group.now k.modules-1.given.0.0 k.note.new.names k.note.new.places)
 shelf k =
-    noted-shelved k.args.group.now k.note.last.1.1.0 k.note.last.1.1.1.0 k.note.result k.note.ensures
-    k.in-Modules.modules k.in-Modules.is
+    noted-shelved k.args.group.now k.note.new.names k.note.new.places k.note.result k.note.ensures
+    k.modules-1.given.0.0 k.modules-1.given.1
 
 -- From behind the marks, and from behind the copy, to where the modules are noted.
 abbrev marked : tie.After-mark → tie.In-Modules
@@ -29,13 +29,13 @@ copied c = c.before.before.before.before
 returns : tie.Need-returns-in-Refused
 returns c =
     refused-group c.requires (length c.args.out.now) c.args.out.now
-    (noted-fails c.args.group.now c.note.new.1.1.0 c.note.new.1.1.1.0 c.note.result c.note.ensures
+    (noted-fails c.args.group.now c.note.new.names c.note.new.places c.note.result c.note.ensures
     c.in-Refused.number c.in-Refused.place c.in-Refused.is)
 
 join-house-requires : tie.Need-join_house-requires
 join-house-requires c κs =
-    begun c.requires (shelf c.before.before.before.before.before.before.before.before.before.before.before.before.before) c.note.kept.1.0 c.copy-at.kept.1.0
-    (omega (arith, c.mark.kept.1.1.0, length-replicate {A = ℕ} 16384 0))
+    begun c.requires (shelf c.before.before.before.before.before.before.before.before.before.before.before.before.before) c.note.kept.numbers c.copy-at.kept.bytes
+    (omega (arith, c.mark.kept.marks, length-replicate {A = ℕ} 16384 0))
     (c.mark.ensures (searchable (shelf c.before.before.before.before.before.before.before.before.before.before.before.before.before)))
     c.copy-at.ensures
 

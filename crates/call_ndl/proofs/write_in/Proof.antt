@@ -29,16 +29,16 @@ abbrev preparing : tie.In-Ready → tie.After-prepare
 preparing k = prepared k.before.before.before
 
 abbrev modules : tie.In-Ready → ℕ
-modules k = k.in-Ready.modules
+modules k = k.count-1.given.0.0
 
 abbrev count : tie.In-Ready → ℕ
-count k = k.in-Ready.count
+count k = k.count-1.given.0.1.0
 
 open-file : (k : tie.In-Ready)
     → (let lists = (preparing k).prepare.new.1 in
     let by_position = lists.1.1.1 in
     OpenedBeside (entered (preparing k)).args.file.now (modules k) (count k) lists.0 lists.1.0 lists.1.1.0 by_position.0 by_position.1.0 by_position.1.1.0 by_position.1.1.1.0 by_position.1.1.1.1.0)
-open-file k = let p = (preparing k).prepare in opened-beside _ _ _ _ _ _ _ _ _ p.result p.ensures _ _ k.in-Ready.is
+open-file k = let p = (preparing k).prepare in opened-beside _ _ _ _ _ _ _ _ _ p.result p.ensures _ _ k.count-1.given.1
 
 returns : tie.Need-returns-in-Refused
 returns c =

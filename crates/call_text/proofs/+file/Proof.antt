@@ -46,15 +46,15 @@ pub +file_spec : {M : Type 1} → statement M
 +file_spec =
     close μ-file λ t.
     lts.spec (claims t) (given t) file.Post
-    (λ c κs. omega (arith, c.if1.true, (began t c.before).pre.1))
+    (λ c κs. omega (arith, c.if1.true, (t.before.before c.before).requires.1))
     (λ c κs.
-    let start = began t c.before.before.before in
-    (omega (arith, start.pre.0, c.before.larger.ensures.0, c.before.larger.ensures.1), start.pre.1))
+    let start = t.before.before c.before.before.before in
+    (omega (arith, start.requires.0, c.before.larger.ensures.0, c.before.larger.ensures.1), start.requires.1))
     (λ c. c.before.before.file.auto.1.1.0)
     (λ c. c.before.before.file.ensures)
     (λ c κs. omega (arith, c.before.if2.true, c.before.before.if1.false))
     (λ c κs. omega (arith, c.before.if3.true, c.before.before.before.if1.false))
-    (λ c κs. (began t c.before.before.before.before).pre.1)
+    (λ c κs. (t.before.before c.before.before.before.before).requires.1)
     (λ c. c.before.before.file-short.auto.1.0)
     (λ c. c.before.before.file-short.ensures)
     (λ c. c.before.before.file-middle.auto.1.0)

@@ -35,7 +35,7 @@ slice-aggregate-shelf-at c = search rules
 shelf-at-requires : tie.Need-shelf_at-requires
 shelf-at-requires c κs = search rules
 
-read : (c : tie.After-shelf_at) → six_bits c.run_words.new.1.1.1.1.1.0 0 ≡ shelf_of c.args.word.now
+read : (c : tie.After-shelf_at) → six_bits c.run_words.new.outputs 0 ≡ shelf_of c.args.word.now
 read c = shelf-of-one c.args.word.now _ c.requires c.run_words.ensures
 
 cast-result : tie.Need-overflow_cast-result

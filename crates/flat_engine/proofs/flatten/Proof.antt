@@ -27,15 +27,15 @@ carried :
     → (let inputs = numbered c in
     let args = (start inputs.before.before).args in
     (f : Flattenable args.image.now args.starts.now args.nets.now args.k args.number args.scratch.now args.bytes.now)
-    → Done (plan f inputs.before.before.module-at.ensures) inputs.number-inputs.last.1.0 c.place_module-last.new.1.1.1.1.1.0 c.place_module-last.result
-    c.place_module-last.new.1.1.1.1.1.1.0)
+    → Done (plan f inputs.before.before.module-at.ensures) inputs.number-inputs.last.1.0 c.place_module-last.new.scratch c.place_module-last.result
+    c.place_module-last.new.bytes)
 carried c f =
     let inputs = numbered c in
     c.place_module-last.ensures _ (ready f inputs.before.before.module-at.ensures inputs.number-inputs.ensures refl refl)
 
 place-module-requires : tie.Need-place_module-last-requires
 place-module-requires c κs =
-    record { plan = _; ready = ready (start c.before.before.before.before.before.before).pre c.module_at-header.ensures c.number_inputs.ensures refl refl }
+    record { plan = _; ready = ready (start c.before.before.before.before.before.before).requires c.module_at-header.ensures c.number_inputs.ensures refl refl }
 
 sub-set-front : tie.Need-overflow_sub-last
 sub-set-front c =

@@ -21,7 +21,7 @@ few e = omega (arith, e.if-modules-gt128.false)
 short : (e : tie.Else-end-start-gt65535) → e.args.all.at - (1 - e.args.all.modules / 128) ≤ 65535
 short e = omega (arith, e.if-end-start-gt65535.false)
 
-ends : (p : tie.After-put) → p.args.all.at ≤ length p.put.new.1.0
+ends : (p : tie.After-put) → p.args.all.at ≤ length p.put.new.out
 ends p =
     let a = p.requires in
     omega (arith, a.room, assembled-length a, p.put.auto.1.0)
@@ -53,7 +53,7 @@ assemble_spec =
     (λ c κs.
     let p = putting c in
     let e = counted p in
-    whole (entered e).pre (few e) (short e) p.put.ensures)
+    whole (entered e).requires (few e) (short e) p.put.ensures)
     (λ c. search rules)
     (λ c. search rules)
     returns-3)

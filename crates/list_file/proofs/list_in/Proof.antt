@@ -25,7 +25,7 @@ put-lines-requires : tie.Need-put_lines-requires
 put-lines-requires c κs =
     let known = counted c in
     let made = ready known.before.before in
-    let given = (start made).pre in
+    let given = (start made).requires in
     let o = opened _ _ _ _ _ _ _ made.prepare.result made.prepare.ensures _ known.modules.given.1 in
     listable o (omega (arith, made.prepare.kept.1.0, given.1.0)) given.1.1.0 given.1.1.1
 
@@ -38,7 +38,7 @@ returns-2 : tie.Need-returns-in-Ready
 returns-2 c =
     let known = counted c.before.before.before.before.before.before.before in
     let made = ready known.before.before in
-    let given = (start made).pre in
+    let given = (start made).requires in
     let o = opened _ _ _ _ _ _ _ made.prepare.result made.prepare.ensures _ known.modules.given.1 in
     put_as (lines-listed o _)
     (c.put_lines.ensures (listable o (omega (arith, made.prepare.kept.1.0, given.1.0)) given.1.1.0 given.1.1.1))

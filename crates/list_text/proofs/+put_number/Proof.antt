@@ -40,13 +40,12 @@ module _ (t : ℕ) where
 
   returns : put-number-lts.Need-returns-then-n-lt10 (put-number-below t, put-number.Post) (put-number-at t) put-number.Post
   returns c =
-      let a = c.before.before.args in
-      one-digit a.n a.out.now a.at c.if1.true
+      let a = c.args in
+      one-digit a.n a.out.now a.at c.if-n-lt10.true
 
   put-number-requires : put-number-lts.Need-put_number-next-requires (put-number-below t, put-number.Post) (put-number-at t) put-number.Post
   put-number-requires c κs =
-      let s = c.before.before.before in
-      (omega (arith, s.requires.0, c.before.if1.false), spellable_tenth s.args.n s.args.out.now s.args.at c.before.if1.false s.requires.1)
+      (omega (arith, c.requires.0, c.if-n-lt10.false), spellable_tenth c.args.n c.args.out.now c.args.at c.if-n-lt10.false c.requires.1)
 
   add-out-2 : put-number-lts.Need-overflow_add-out-2 (put-number-below t, put-number.Post) (put-number-at t) put-number.Post
   add-out-2 c = omega arith
@@ -56,26 +55,23 @@ module _ (t : ℕ) where
 
   -- The last digit's place.
   inside : (c : put-number-lts.After-put_number-next (put-number-below t, put-number.Post) (put-number-at t) put-number.Post)
-      → c.put-number.result < length c.before.before.before.before.args.out.now
+      → c.put_number-next.result < length c.args.out.now
   inside c =
-      let s = c.before.before.before.before in
-      after-tenth s.args.n s.args.out.now s.args.at c.put-number.new.1.0 c.put-number.result c.before.before.if1.false s.requires.1 c.put-number.ensures
+      after-tenth c.args.n c.args.out.now c.args.at c.put_number-next.new.out c.put_number-next.result c.if-n-lt10.false c.requires.1 c.put_number-next.ensures
 
   slice-write-out-2 : put-number-lts.Need-bounds-out-next (put-number-below t, put-number.Post) (put-number-at t) put-number.Post
-  slice-write-out-2 c = let h = inside c.before.before in omega (arith, c.before.before.put-number.auto.1.0)
+  slice-write-out-2 c = let h = inside c.before.before in omega (arith, c.put_number-next.auto.1.0)
 
   add-result-2 : put-number-lts.Need-overflow_add-result-2 (put-number-below t, put-number.Post) (put-number-at t) put-number.Post
   add-result-2 c = let h = inside c.before.before in omega arith
 
   same-length-2 : put-number-lts.Need-shape_of-out (put-number-below t, put-number.Post) (put-number-at t) put-number.Post
-  same-length-2 c = length-set c.before.before.put-number.new.1.0 c.before.before.put-number.result _ ∙ c.before.before.put-number.auto.1.0
+  same-length-2 c = length-set c.put_number-next.new.out c.put_number-next.result _ ∙ c.put_number-next.auto.1.0
 
   returns-2 : put-number-lts.Need-returns (put-number-below t, put-number.Post) (put-number-at t) put-number.Post
   returns-2 c =
-      let tenth = c.before.before in
-      let s = tenth.before.before.before.before in
-      let p = tenth.put-number in
-      digit-more s.args.n s.args.out.now s.args.at p.new.1.0 p.result tenth.before.before.if1.false p.ensures
+      let p = c.put_number-next in
+      digit-more c.args.n c.args.out.now c.args.at p.new.1.0 p.result c.if-n-lt10.false p.ensures
 
 pub +put_number_spec : {M : Type 1} → statement M
 +put_number_spec =

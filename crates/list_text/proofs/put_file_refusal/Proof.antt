@@ -12,7 +12,7 @@ use Rattle.list_text.proofs.put_file_refusal.Tie as tie
 -- The word and the numbers stand there.
 numbered : (c : tie.After-put_numbers-at)
     → PutDown ((refused_word ++ (space ∷ [])) ++ spaced c.args.number (c.args.place ∷ [])) c.args.out.now 0
-    c.put_numbers-at.new.1.1.0 c.put_numbers-at.result
+    c.put_numbers-at.new.out c.put_numbers-at.result
 numbered c = put-after c.put_bytes-at.ensures c.put_numbers-at.ensures
 
 end-line-requires : tie.Need-end_line-requires

@@ -24,10 +24,10 @@ put-bytes-requires c κs =
 -- Position, number and word stand there, and there is room for the refusal's number and the line feed.
 worded : (c : tie.After-put_bytes-at)
     → PutDown (spaced c.args.position (c.args.number ∷ []) ++ (space ∷ (refused_word ++ (space ∷ []))))
-    c.args.out.now 0 c.put_bytes-at.new.1.0 c.put_bytes-at.result
+    c.args.out.now 0 c.put_bytes-at.new.out c.put_bytes-at.result
 worded c = put-after c.put_numbers-at.ensures c.put_bytes-at.ensures
 
-room : (c : tie.After-put_bytes-at) → c.put_bytes-at.result + 21 ≤ length c.put_bytes-at.new.1.0
+room : (c : tie.After-put_bytes-at) → c.put_bytes-at.result + 21 ≤ length c.put_bytes-at.new.out
 room c =
     let kept = put-length c.put_numbers-at.ensures in
     let kept_on = put-length c.put_bytes-at.ensures in
@@ -39,8 +39,8 @@ put-number-requires c κs =
 
 -- The refusal's number stands behind them.
 numbered : (c : tie.After-put_number-at)
-    → PutDown (decimal c.args.refused) c.put_bytes-at.new.1.0 c.put_bytes-at.result
-    c.put_number-at.new.1.0 c.put_number-at.result
+    → PutDown (decimal c.args.refused) c.put_bytes-at.new.out c.put_bytes-at.result
+    c.put_number-at.new.out c.put_number-at.result
 numbered c =
     number_put c.put_number-at.ensures c.before.before.before.before.before.before.before.before.before.before.before.before.before.fits.refused.fits (omega (arith, room c.before.before.before.before))
 

@@ -29,18 +29,16 @@ module _ (t : ℕ) where
   -- What is kept is the answer.
   row-at-requires : lts.Need-row_at-requires (claims t) (Given t) reads.Post Inv-loop μ-loop
   row-at-requires c κs =
-      let looked = c.before.before in
-      let from = asked t looked in
-      omega (arith, (known-row from.args.known.now from.args.k from.pre.1.1.kept looked.kept_at.ensures c.before.if1.true).0)
+      let from = asked t c.before.before in
+      omega (arith, (known-row from.args.known.now from.args.k from.requires.1.1.kept c.kept_at-kept.ensures c.if-kept-gt0.true).0)
 
   returns-kept : lts.Need-returns-then-kept-gt0 (claims t) (Given t) reads.Post Inv-loop μ-loop
   returns-kept c =
-      let looked = c.before.before.before in
-      let a = (asked t looked).args in (
-        λ w. looked_up w looked.kept_at.ensures c.before.before.if1.true,
+      let a = (asked t c.before.before.before).args in (
+        λ w. looked_up w c.kept_at-kept.ensures c.if-kept-gt0.true,
         λ s.
             record {
-              is = c.row_at.ensures ∙ (known-row a.known.now a.k s.kept looked.kept_at.ensures c.before.before.if1.true).1;
+              is = c.row_at.ensures ∙ (known-row a.known.now a.k s.kept c.kept_at-kept.ensures c.if-kept-gt0.true).1;
               kept = s.kept;
             },
       )
@@ -48,63 +46,57 @@ module _ (t : ℕ) where
   add_at : lts.Need-overflow_add-at (claims t) (Given t) reads.Post Inv-loop μ-loop
   add_at c =
       let from = began t c.before.before.before.before.before in
-      omega (arith, (c.before.module-at.ensures _ (module_stands from.pre.1.0.loadable.scene)).body.within, from.good.0.1)
+      omega (arith, (c.module_at-header.ensures _ (module_stands from.requires.1.0.loadable.scene)).body.within, from.good.0.1)
 
   loop-holds : lts.Need-loop-left-init (claims t) (Given t) reads.Post Inv-loop μ-loop
-  loop-holds c =
-      let header = c.before.before in (
-        refl,
-        refl,
-        refl,
-        λ w.
-            let s = w.loadable in
-            (none-loaded s _ header.before.before.before.before.clear.ensures (header.module-at.ensures _ (module_stands s.scene)) refl, w.kept),
-        λ s. (none-counted s.countable (header.module-at.ensures _ (module_stands s.countable.scene)) c.nothing.ensures, s.kept),
-      )
+  loop-holds c = (
+    refl,
+    refl,
+    refl,
+    λ w.
+        let s = w.loadable in
+        (none-loaded s _ c.clear.ensures (c.module_at-header.ensures _ (module_stands s.scene)) refl, w.kept),
+    λ s. (none-counted s.countable (c.module_at-header.ensures _ (module_stands s.countable.scene)) c.nothing-tally.ensures, s.kept),
+  )
 
   occurrence-at-requires : lts.Need-occurrence_at-o-requires (claims t) (Given t) reads.Post Inv-loop μ-loop
-  occurrence-at-requires c κs = occurrence-there c.loop-test.true (c.before.loop.invariant.3 (working t c.before)).0.ahead
+  occurrence-at-requires c κs = occurrence-there c.loop-left-test.true (c.loop-left.invariant.3 (working t c.before)).0.ahead
 
   -- With no occurrence left the loads of the inputs and outputs and the tally are kept.
   keep-requires : lts.Need-keep-requires (claims t) (Given t) reads.Post Inv-loop μ-loop
   keep-requires c κs =
-      let last = c.before.before.before in
-      let loop = ended t last in
+      let loop = ended t c.before.before.before in
       let w = working t loop in
       let sofar = loop.loop.inv.3 w in
-      keepable w.loadable sofar.1 (all-framed t last w) sofar.0.long
+      keepable w.loadable sofar.1 (all-framed t c.before.before.before w) sofar.0.long
       (loop.before.before.before.module-at.ensures _ (module_stands w.loadable.scene))
 
   write-row-requires : lts.Need-write_row-requires (claims t) (Given t) reads.Post Inv-loop μ-loop
   write-row-requires c κs =
-      let lists = c.before.before in
-      let kept = lists.before.before.before in
-      let loop = ended t kept.before.before.before.before in
-      omega (arith, rows_fit loop.loop.known (loop.loop.inv.4 (start t loop).pre.1.1).1 kept.keep.auto.1.1.1.1.1.1.1.0)
+      let loop = ended t c.before.before.before.before.before.before.before.before.before in
+      omega (arith, rows_fit loop.loop.known (loop.loop.inv.4 (start t loop).requires.1.1).1 c.keep.auto.1.1.1.1.1.1.1.0)
 
   -- The end of the function: where the row is written, where the loads are kept, and the loop's last test.
   abbrev keeping : lts.After-write_row (claims t) (Given t) reads.Post Inv-loop μ-loop → lts.After-keep (claims t) (Given t) reads.Post Inv-loop μ-loop
-  keeping c = let lists = c.before.before.before in lists.before.before.before
+  keeping c = c.before.before.before.before.before.before
 
   returns : lts.Need-returns (claims t) (Given t) reads.Post Inv-loop μ-loop
   returns c =
-      let written = c.before.before in
-      let kept = keeping written in
-      let last = kept.before.before.before.before in
-      let loop = ended t last in
+      let kept = keeping c.before.before in
+      let loop = ended t kept.before.before.before.before in
       let header = loop.before.before.before.module-at in (
         λ w₀.
             let clear = (clearing t loop).clear in
             let w = work-moved {entries' = length clear.last.1.0} w₀ (omega (arith, w₀.loadable.room, clear.kept.1.0)) in
             let sofar = loop.loop.inv.3 w in
-            now-kept w.loadable sofar.1 (all-framed t last w) sofar.0.long (header.ensures _ (module_stands w.loadable.scene))
+            now-kept w.loadable sofar.1 (all-framed t kept.before.before.before.before w) sofar.0.long (header.ensures _ (module_stands w.loadable.scene))
             kept.keep.ensures kept.keep.kept.1.1.1.1.1.1.0,
         λ s.
             let sofar = loop.loop.inv.4 s in
-            let all = all-counted s.countable (omega (arith, last.before.before.before.loop-test.left)) sofar.0 in
+            let all = all-counted s.countable (omega (arith, kept.before.before.before.before.before.before.before.loop-test.left)) sofar.0 in
             record {
               is = all;
-              kept = row-known loop.loop.known _ sofar.1 kept.keep.ensures.largest written.write-row.ensures all written.write-row.auto.1.1.1.0;
+              kept = row-known loop.loop.known _ sofar.1 kept.keep.ensures.largest c.write_row.ensures all c.write_row.auto.1.1.1.0;
             },
       )
 
@@ -119,12 +111,12 @@ pub +weigh_once_spec : {M : Type 1} → statement M
     (λ c. refl)
     (λ c. refl)
     (returns-kept t)
-    (λ c. omega (arith, in_nets (asked t c.before).pre.1.0.loadable.scene))
-    (λ c. in_nets (asked t c.before.before).pre.1.0.loadable.scene)
-    (λ c κs. omega (arith, frame-fits (asked t c.before.before.before).pre.1.0.loadable))
-    (λ c. omega (arith, in_starts (began t c.before.before).pre.1.0.loadable.scene))
-    (λ c. in_starts (began t c.before.before.before).pre.1.0.loadable.scene)
-    (λ c κs. module_there (began t c.before.before.before).pre.1.0.loadable.scene)
+    (λ c. omega (arith, in_nets (asked t c.before).requires.1.0.loadable.scene))
+    (λ c. in_nets (asked t c.before.before).requires.1.0.loadable.scene)
+    (λ c κs. omega (arith, frame-fits (asked t c.before.before.before).requires.1.0.loadable))
+    (λ c. omega (arith, in_starts (began t c.before.before).requires.1.0.loadable.scene))
+    (λ c. in_starts (began t c.before.before.before).requires.1.0.loadable.scene)
+    (λ c κs. module_there (began t c.before.before.before).requires.1.0.loadable.scene)
     (add_at t)
     (λ c κs. tt)
     (loop-holds t)

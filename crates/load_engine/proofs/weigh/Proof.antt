@@ -38,7 +38,7 @@ returns c =
         λ s. (c.weigh_once-weighed.ensures.1 (none-known s)).is,
         c.clear.ensures
             ∙ ap (λ l. replicate start.args.room 0 ++ l)
-            (same-further _ _ _ start.args.room start.pre.0.room (c.weigh_once-weighed.ensures.0 (work start start.pre.0)).behind),
+            (same-further _ _ _ start.args.room start.requires.0.room (c.weigh_once-weighed.ensures.0 (work start start.requires.0)).behind),
       ),
     )
 

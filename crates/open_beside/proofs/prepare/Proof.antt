@@ -29,17 +29,17 @@ known c = c.before.before.before.before.before.before.before.before.before
 
 -- So many modules and numbers.
 abbrev modules : tie.In-Read → ℕ
-modules k = k.in-Read.modules
+modules k = k.modules-1.given.0.0
 
 abbrev count : tie.In-Read → ℕ
-count k = k.in-Read.count
+count k = k.modules-1.given.0.1.0
 
 bytes : (k : tie.In-Read) → Bytes (entered k).args.file.now
 bytes k = bytes-all (entered k).args.file.now (λ i. ((listed (reading k)).shared-slice-known.given i).fits)
 
 few : (k : tie.In-Read) → (count k ≤ length (reading k).read.new.1.0) × (count k ≤ length (entered k).args.image.now)
 few k =
-    let few = count_long (bytes k) (reading k).read.ensures (modules k) (count k) k.in-Read.is in (
+    let few = count_long (bytes k) (reading k).read.ensures (modules k) (count k) k.modules-1.given.1 in (
       omega (arith, few.0, few.1, (entered k).requires.numbers_long, (reading k).read.auto.1.0),
       omega (arith, few.0, few.1, (entered k).requires.space.image_long),
     )
@@ -53,7 +53,7 @@ check-copy-requires : tie.Need-check_copy-found-requires
 check-copy-requires c κs =
     let k = known c in
     let d = (reading k).read in (
-      file-ready (bytes k) d.ensures (modules k) (count k) k.before.modules.given.1 (entered k).pre.space d.kept.1.1.0,
+      file-ready (bytes k) d.ensures (modules k) (count k) k.before.modules.given.1 (entered k).requires.space d.kept.1.1.0,
       length-take-le _ _ (few k).1 ∙ sym (length-take-le _ _ (few k).0),
     )
 
@@ -74,7 +74,7 @@ returns-2 c =
     let read = k.before.modules.given.1 in
     let kept = e.check-copy.kept.1.1.1.1.1.1 in
     kept-beside (bytes k) d.ensures (modules k) (count k) read _ _ _ _ _ (prepared_of e.check-copy.result (modules k))
-    (answered (bytes k) d.ensures (modules k) (count k) read (entered k).pre.space d.kept.1.1.0
+    (answered (bytes k) d.ensures (modules k) (count k) read (entered k).requires.space d.kept.1.1.0
     (drop (count k) (entered k).args.image.now) kept.1.0 kept.1.1.0 kept.1.1.1.0 e.check-copy.ensures refl)
     c.answered.ensures
 

@@ -27,23 +27,23 @@ known c = c.before.before.before.before.before.before.before.before
 
 -- So many modules and numbers.
 abbrev modules : tie.In-Read → ℕ
-modules k = k.in-Read.modules
+modules k = k.modules-1.given.0.0
 
 abbrev count : tie.In-Read → ℕ
-count k = k.in-Read.count
+count k = k.modules-1.given.0.1.0
 
 bytes : (k : tie.In-Read) → Bytes (entered k).args.file.now
 bytes k = bytes-all (entered k).args.file.now (λ i. ((lists k.before.before.before.before.before.before.before.before).before.shared-slice-known.given i).fits)
 
-room : (k : tie.In-Read) → count k ≤ length k.read.new.1.0
+room : (k : tie.In-Read) → count k ≤ length k.read.new.numbers
 room k =
-    let few = count_long (bytes k) k.read.ensures (modules k) (count k) k.in-Read.is in
+    let few = count_long (bytes k) k.read.ensures (modules k) (count k) k.modules-1.given.1 in
     omega (arith, few.0, few.1, (entered k).requires.image_long, k.read.auto.1.0)
 
 check-modules-requires : tie.Need-check_modules-found-requires
 check-modules-requires c κs =
     let d = c.read in
-    file-ready (bytes c.before.before.before.before.before.before.before) d.ensures (modules c.before.before.before.before.before.before.before) (count c.before.before.before.before.before.before.before) c.in-Read.is (entered c.before.before.before.before.before.before.before).pre d.kept.1.1.0
+    file-ready (bytes c.before.before.before.before.before.before.before) d.ensures (modules c.before.before.before.before.before.before.before) (count c.before.before.before.before.before.before.before) c.in-Read.is (entered c.before.before.before.before.before.before.before).requires d.kept.1.1.0
 
 returns : tie.Need-returns-in-Refused
 returns c =
@@ -59,7 +59,7 @@ returns-2 c =
     let e = checked c.before in
     let d = e.before.before.before.before.before.before.before.before.before.before.before.before.before.before.before.before.before.read in
     let kept = e.check-modules.kept.1.1.1.1.1.1 in
-    answered (bytes e.before.before.before.before.before.before.before.before.before) d.ensures (modules e.before.before.before.before.before.before.before.before.before) (count e.before.before.before.before.before.before.before.before.before) e.before.before.before.before.before.before.before.before.before.before.modules.given.1 (entered e.before.before.before.before.before.before.before.before.before).pre d.kept.1.1.0
+    answered (bytes e.before.before.before.before.before.before.before.before.before) d.ensures (modules e.before.before.before.before.before.before.before.before.before) (count e.before.before.before.before.before.before.before.before.before) e.before.before.before.before.before.before.before.before.before.before.modules.given.1 (entered e.before.before.before.before.before.before.before.before.before).requires d.kept.1.1.0
     (drop (count e.before.before.before.before.before.before.before.before.before) d.last.1.0) kept.0 kept.1.0 kept.1.1.0 e.check-modules.ensures c.judged.ensures
 
 pub prepare_spec : {M : Type 1} → statement M

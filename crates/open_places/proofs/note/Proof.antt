@@ -17,10 +17,10 @@ reading k = k.before.before.before.before.before.before.before.before
 
 -- So many modules and numbers.
 abbrev modules : tie.In-Read → ℕ
-modules k = k.in-Read.modules
+modules k = k.modules-1.given.0.0
 
 abbrev count : tie.In-Read → ℕ
-count k = k.in-Read.numbers
+count k = k.modules-1.given.0.1.0
 
 bytes : (k : tie.In-Read) → Bytes k.args.file.now
 bytes k = bytes-all k.args.file.now (λ i. (k.shared_slice_known-1.given i).fits)
@@ -33,12 +33,12 @@ name-requires c κs =
     c.requires.names_fit
 
 -- There is a place for the file's end.
-room : (c : tie.After-slice_known-in-Read-1) → modules c.before.before.before.before.before < length c.read.new.1.1.1.0
+room : (c : tie.After-slice_known-in-Read-1) → modules c.before.before.before.before.before < length c.read.new.offsets
 room c =
     let d = c.read in
     omega (
       arith,
-      few (bytes c.before.before.before.before.before) d.ensures (modules c.before.before.before.before.before) (count c.before.before.before.before.before) c.in-Read.is,
+      few (bytes c.before.before.before.before.before) d.ensures (modules c.before.before.before.before.before) (count c.before.before.before.before.before) c.modules-1.given.1,
       c.requires.places_fit,
       d.kept.1.1.1.0,
     )

@@ -11,7 +11,7 @@ use Rattle.print_answer.proofs.tell_through.Statement.{statement}
 use Rattle.print_answer.proofs.tell_through.Tie as tie
 
 front : (c : tie.After-put_file-count) (t : FileTold c.args.numbers.now c.args.text.now)
-    → Filled (list_text t.ms) c.args.text.now c.put_file-count.new.1.0 c.put_file-count.result
+    → Filled (list_text t.ms) c.args.text.now c.put_file-count.new.out c.put_file-count.result
 front c t = put_front (c.put_file-count.ensures t)
 
 returns : tie.Need-returns

@@ -24,8 +24,8 @@ modules c = c.before.before.before.before.before.before
 -- The count is laid out, and reading stands behind it.
 there : (c : tie.In-On-2)
     → CountTaken most_modules (entry c).args.bytes.now first (entry c).args.numbers.now
-    c.in-On.spot c.keep_count-way.new.1.1.1.0
-there c = counted most_modules (stands-first (entry c).requires.0) c.in-On.is c.keep_count-way.ensures
+    c.way-1.given.0.0 c.keep_count-way.new.numbers
+there c = counted most_modules (stands-first (entry c).requires.0) c.way-1.given.1 c.keep_count-way.ensures
 
 returns : tie.Need-returns-in_default
 returns c = through-refused c.in_default.is c.keep_count-way.ensures
@@ -36,7 +36,7 @@ cast-count c = let h = (there c.before.before).small in omega (arith, c.last_kep
 keep-modules-requires : tie.Need-keep_modules-requires
 keep-modules-requires c κs =
     let h = (there c.before.before.before.before.before).small in
-    let fit = (entry c.before.before.before.before.before).pre.1 in (
+    let fit = (entry c.before.before.before.before.before).requires.1 in (
       (there c.before.before.before.before.before).there.stands,
       record {
         in_numbers = omega (arith, fit.in_numbers, c.last_kept-count.ensures);

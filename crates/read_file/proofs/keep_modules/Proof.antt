@@ -29,7 +29,7 @@ offsets_length : (c : tie.At-loop-i invariant-loop decreases-loop) → length c.
 offsets_length c = passing_offsets c.loop-i.invariant (entry c).requires.1
 
 slice-write-starts : tie.Need-bounds-starts-i invariant-loop decreases-loop
-slice-write-starts c = fits_starts c.loop-i.invariant (entry c.before).pre.1 c.loop-i-test.true
+slice-write-starts c = fits_starts c.loop-i.invariant (entry c.before).requires.1 c.loop-i-test.true
 
 mul-starts : tie.Need-offset_bounds-starts-i invariant-loop decreases-loop
 mul-starts c =
@@ -38,7 +38,7 @@ mul-starts c =
     omega (arith, (entry c.before).good)
 
 slice-write-offsets : tie.Need-bounds-offsets-i invariant-loop decreases-loop
-slice-write-offsets c = fits_offsets c.loop-i.invariant (entry c.before).pre.1 c.loop-i-test.true
+slice-write-offsets c = fits_offsets c.loop-i.invariant (entry c.before).requires.1 c.loop-i-test.true
 
 mul-offsets : tie.Need-offset_bounds-offsets-i invariant-loop decreases-loop
 mul-offsets c =
@@ -52,7 +52,7 @@ turn c = c.before.before
 
 returns : tie.Need-returns-in_default invariant-loop decreases-loop
 returns c =
-    passing-refused c.loop-i.invariant (entry c.before.before.before.before.before.before).pre.1 c.loop-i-test.taken c.in_default.is
+    passing-refused c.loop-i.invariant (entry c.before.before.before.before.before.before).requires.1 c.loop-i-test.true c.in_default.is
     c.keep_module-way.ensures
 
 same-length-2 : tie.Need-shape_of-starts-in_default invariant-loop decreases-loop
@@ -64,7 +64,7 @@ same-length-3 c = simp length-set (offsets_length c.before.before.before.before.
 loop-again : tie.Need-loop-i-preserved invariant-loop decreases-loop
 loop-again c =
     let inv = c.loop-i.invariant in
-    passing-next inv (entry c.before.before.before.before.before.before).pre.1 c.loop-i-test.taken
+    passing-next inv (entry c.before.before.before.before.before.before).requires.1 c.loop-i-test.true
     (reached sound_module inv.turning.stands c.in-On.is c.keep_module-way.ensures)
 
 pub keep_modules_spec : {M : Type 1} → statement M

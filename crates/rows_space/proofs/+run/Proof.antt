@@ -45,20 +45,20 @@ module _ (t : ℕ) where
 
   -- The start, from the first decision.
   abbrev start : lts.After-slice_known-1 claims (given t) run.Post → lts.Start claims (given t) run.Post
-  start c = let site = c.before.before.before in site.before.before
+  start c = c.before.before.before.before.before
 
 pub +run_spec : {M : Type 1} → statement M
 +run_spec =
     close μ-run λ t.
     lts.spec (claims t) (given t) run.Post
-    (λ c κs. omega (arith, (start t c.before).pre.1.roomy, c.if1.true))
+    (λ c κs. omega (arith, (start t c.before).requires.1.roomy, c.if1.true))
     (λ c κs.
-    let rows = (start t c.before.before.before).pre in
+    let rows = (start t c.before.before.before).requires in
     (omega (arith, rows.0, rows.1.roomy, c.before.before.if1.true, c.before.larger.ensures), rows.1))
-    (λ c κs. resized (start t c.before.before.before).pre.1 (omega (arith, c.before.if2.true, c.before.before.if1.false)))
-    (λ c κs. resized (start t c.before.before.before.before).pre.1 (omega (arith, c.before.if3.true, c.before.before.before.if1.false)))
-    (λ c κs. resized (start t c.before.before.before.before.before).pre.1 (omega (arith, c.before.if4.true, c.before.before.before.before.if1.false)))
-    (λ c κs. (start t c.before.before.before.before.before).pre.1)
+    (λ c κs. resized (start t c.before.before.before).requires.1 (omega (arith, c.before.if2.true, c.before.before.if1.false)))
+    (λ c κs. resized (start t c.before.before.before.before).requires.1 (omega (arith, c.before.if3.true, c.before.before.before.if1.false)))
+    (λ c κs. resized (start t c.before.before.before.before.before).requires.1 (omega (arith, c.before.if4.true, c.before.before.before.before.if1.false)))
+    (λ c κs. (start t c.before.before.before.before.before).requires.1)
     (λ c. c.before.before.run.auto.1.1.1.1.1.1.1.0)
     (λ c s. c.before.before.run.ensures s)
     (λ c. c.before.before.in-256.kept.1.1.1.1.1.1.0)

@@ -44,12 +44,12 @@ clear-requires c κs =
 
 clear-requires-2 : tie.Need-clear-requires-2
 clear-requires-2 c κs =
-    let e = (began c.before.before.before.before.before).pre.1 in
+    let e = (began c.before.before.before.before.before).requires.1 in
     omega (arith, (header c.before.before.before.before.before e).inputs, answers.inputs-fit e, answers.needed-given e, e.enough)
 
 run-module-requires : tie.Need-run_module-requires
 run-module-requires c κs =
-    let given = (began c.before.before.before.before.before.before.before.before.before.before).pre in (
+    let given = (began c.before.before.before.before.before.before.before.before.before.before).requires in (
       answers.runnable given.0 (answers.zeros-fed given.0 (header c.before.before.before.before.before.before.before.before.before.before given.0) c.clear.ensures),
       answers.runnable given.1 (answers.zeros-fed given.1 (header c.before.before.before.before.before.before.before.before.before.before given.1) c.clear-2.ensures),
     )
@@ -57,7 +57,7 @@ run-module-requires c κs =
 latest-requires : tie.Need-latest-latest-requires
 latest-requires c κs =
     let both = both-zeroed c.before.before.before.before in
-    let given = (began both.before.before.before.before.before.before).pre in
+    let given = (began both.before.before.before.before.before.before).requires in
     let fed = answers.zeros-fed given.0 (header both.before.before.before.before.before.before given.0) both.before.before.before.before.clear.ensures in
     let fed' = answers.zeros-fed given.1 (header both.before.before.before.before.before.before given.1) both.clear2.ensures in (
       answers.outputs-readable given.0 fed (times_work one_each) (c.run_module.ensures.0 (answers.runnable given.0 fed))
@@ -78,7 +78,7 @@ returns : tie.Need-returns
 returns c =
     let run = ran c.before.before.before.before in
     let both = both-zeroed run in
-    let e₀ = (began both.before.before.before.before.before.before).pre.0 in
+    let e₀ = (began both.before.before.before.before.before.before).requires.0 in
     let fed₀ = answers.zeros-fed e₀ (header both.before.before.before.before.before.before e₀) both.before.before.before.before.clear.ensures in (
       λ e.
           let fed = answers.zeros-fed e (header both.before.before.before.before.before.before e) both.before.before.before.before.clear.ensures in

@@ -41,14 +41,14 @@ load-requires c κs =
 run-module-requires : tie.Need-run_module-requires
 run-module-requires c κs =
     let start = began c.before.before.before.before.before in
-    let e = start.pre in
+    let e = start.requires in
     answers.runnable e.callable (answers.values-fed e.callable start.args.values.now e.fed c.load.ensures)
 
 give-requires : tie.Need-give-requires
 give-requires c κs =
     let start = began c.before.before.before.before.before.before.before.before.before in
     let a = start.args in
-    let e = start.pre in
+    let e = start.requires in
     let call = e.callable in
     let fed = answers.values-fed call a.values.now e.fed c.load.ensures in
     let run = c.run_module.ensures (answers.runnable call fed) in

@@ -39,7 +39,7 @@ put-run-requires-3 c κs =
     let third = inputs c.before.before.before in
     let one = laying-put third.before.before.before.before.before.before.before.before.put-list.ensures (laying-start (room third.before.before.before.before.before.before.before.before.before.before.before.before)) in
     let three = laying-put third.put-run2.ensures (laying-put third.before.before.before.before.put-run.ensures one) in
-    (omega (arith, third.before.before.before.before.before.before.before.before.before.before.before.before.pre.0), room-first _ (laying-left (laying-put c.put_list-carry.ensures three)))
+    (omega (arith, third.before.before.before.before.before.before.before.before.before.before.before.before.requires.0), room-first _ (laying-left (laying-put c.put_list-carry.ensures three)))
 
 put-list-requires-3 : tie.Need-put_list-requires
 put-list-requires-3 c κs =
@@ -47,7 +47,7 @@ put-list-requires-3 c κs =
     let one = laying-put third.before.before.before.before.before.before.before.before.put-list.ensures (laying-start (room third.before.before.before.before.before.before.before.before.before.before.before.before)) in
     let three = laying-put third.put-run2.ensures (laying-put third.before.before.before.before.put-run.ensures one) in
     let five = laying-put c.put_run-count.ensures (laying-put c.put_list-carry.ensures three) in
-    (all_small _ (omega (arith, third.before.before.before.before.before.before.before.before.before.before.before.before.pre.0, third.before.before.before.before.before.before.before.before.before.before.before.before.pre.1)), laying-left five)
+    (all_small _ (omega (arith, third.before.before.before.before.before.before.before.before.before.before.before.before.requires.0, third.before.before.before.before.before.before.before.before.before.before.before.before.requires.1)), laying-left five)
 
 returns : tie.Need-returns
 returns c =

@@ -30,7 +30,7 @@ copies-requires : tie.Need-copies-bits-requires
 copies-requires c κs =
     let first = headed c.before.before.before in
     let one = laying-put first.alu-head.ensures (laying-start (room first.before.before.before)) in
-    let pre = first.before.before.before.pre in
+    let pre = first.before.before.before.requires in
     (omega (arith, pre.1), omega (arith, pre.1), pre.2, room-first _ (laying-left (laying-put c.put_list-again.ensures one)))
 
 cells-requires : tie.Need-cells-carries-requires
@@ -38,14 +38,14 @@ cells-requires c κs =
     let first = headed c.before.before.before.before.before.before.before in
     let one = laying-put first.alu-head.ensures (laying-start (room first.before.before.before)) in
     let three = laying-put c.copies-bits.ensures (laying-put c.put_list-again.ensures one) in
-    (first.before.before.before.pre.1, first.before.before.before.pre.2, room-first _ (laying-left three))
+    (first.before.before.before.requires.1, first.before.before.before.requires.2, room-first _ (laying-left three))
 
 look-ahead-requires : tie.Need-look_ahead-outputs-requires
 look-ahead-requires c κs =
     let first = headed c.before.before.before.before.before.before.before.before.before.before.before in
     let one = laying-put first.alu-head.ensures (laying-start (room first.before.before.before)) in
     let three = laying-put c.copies-bits.ensures (laying-put c.put_list-again.ensures one) in
-    (first.before.before.before.pre.1, room-first _ (laying-left (laying-put c.cells-carries.ensures three)))
+    (first.before.before.before.requires.1, room-first _ (laying-left (laying-put c.cells-carries.ensures three)))
 
 put-list-requires-2 : tie.Need-put_list-result-requires
 put-list-requires-2 c κs =
@@ -53,7 +53,7 @@ put-list-requires-2 c κs =
     let one = laying-put first.alu-head.ensures (laying-start (room first.before.before.before)) in
     let three = laying-put c.copies-bits.ensures (laying-put c.put_list-again.ensures one) in
     let five = laying-put c.look_ahead-outputs.ensures (laying-put c.cells-carries.ensures three) in
-    (all_small _ (omega (arith, first.before.before.before.pre.1)), room-first _ (laying-left five))
+    (all_small _ (omega (arith, first.before.before.before.requires.1)), room-first _ (laying-left five))
 
 gate-row-requires : tie.Need-gate_row-requires
 gate-row-requires c κs =
@@ -62,7 +62,7 @@ gate-row-requires c κs =
     let one = laying-put first.alu-head.ensures (laying-start (room first.before.before.before)) in
     let three = laying-put fifth.before.before.before.before.before.before.before.before.copies.ensures (laying-put fifth.before.before.before.before.before.before.before.before.before.before.before.before.put-list.ensures one) in
     let five = laying-put fifth.look-ahead.ensures (laying-put fifth.before.before.before.before.cells.ensures three) in
-    let pre = first.before.before.before.pre in (
+    let pre = first.before.before.before.requires in (
       omega arith,
       omega (arith, pre.1),
       omega (arith, pre.1),

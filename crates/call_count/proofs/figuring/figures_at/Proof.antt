@@ -73,7 +73,7 @@ gates-of-requires c κs =
 returns : tie.Need-returns
 returns c s =
     let headed = header (timed c.before.before.before.before.before.before.before) in
-    let given = headed.before.before.before.before.before.before.before.pre in
+    let given = headed.before.before.before.before.before.before.before.requires in
     let ran = (timed c.before.before.before.before.before.before.before).delays.ensures in
     let tally = tally-is s c.weigh-weighed.ensures.1.0 in
     record {

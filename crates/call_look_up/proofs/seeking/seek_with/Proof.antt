@@ -17,10 +17,10 @@ entered n = n.before.before.before.before.before.before
 
 shelf :
     (k : tie.In-Modules)
-    → (Shelved k.args.file.now k.in-Modules.modules k.note.last.1.1.0 k.note.last.1.1.1.0)
+    → (Shelved k.args.file.now k.modules-1.given.0.0 k.note.new.names k.note.new.places)
 shelf k =
-    noted-shelved k.args.file.now k.note.last.1.1.0 k.note.last.1.1.1.0 k.note.result k.note.ensures
-    k.in-Modules.modules k.in-Modules.is
+    noted-shelved k.args.file.now k.note.new.names k.note.new.places k.note.result k.note.ensures
+    k.modules-1.given.0.0 k.modules-1.given.1
 
 -- From the search to where the modules are noted.
 abbrev known : tie.After-find → tie.In-Modules
@@ -34,13 +34,13 @@ finds f = f.find.ensures (searchable (shelf f.before.before))
 abbrev found : tie.In-At → tie.After-find
 found c = c.before.before.before
 
-index : (c : tie.In-At) → c.in-At.k < 128
+index : (c : tie.In-At) → c.k-1.given.0.0 < 128
 index c =
-    sought_index (shelf c.before.before.before.before.before) c.args.number c.find.result (finds c.before.before.before) c.in-At.k c.in-At.is
+    sought_index (shelf c.before.before.before.before.before) c.args.number c.find.result (finds c.before.before.before) c.k-1.given.0.0 c.k-1.given.1
 
 returns : tie.Need-returns-in-Refused
 returns c =
-    noted-refused c.args.file.now c.note.new.1.1.0 c.note.new.1.1.1.0 c.note.result c.note.ensures
+    noted-refused c.args.file.now c.note.new.names c.note.new.places c.note.result c.note.ensures
     c.args.number c.in-Refused.refusal c.in-Refused.place c.in-Refused.is
 
 returns-2 : tie.Need-returns-in-Nowhere

@@ -14,7 +14,7 @@ abbrev entered : tie.After-put_file-long → tie.Start
 entered p = p.before.before.before.before.before.before.before.before.before
 
 -- It is no longer than the list.
-inside : (p : tie.After-put_file-long) → p.put_file-long.result ≤ length p.put_file-long.new.1.1.1.1.1.1.0
+inside : (p : tie.After-put_file-long) → p.put_file-long.result ≤ length p.put_file-long.new.out
 inside p =
     let s = (entered p).requires in
     omega (arith, (p.put_file-long.ensures s).place, s.room, p.put_file-long.auto.1.1.1.1.1.1.0)

@@ -37,7 +37,7 @@ loop-holds c = walk_begins (begun c).requires c.nothing-so_far.ensures
 
 check-occurrence-requires : tie.Need-check_occurrence-requires invariant-loop decreases-loop
 check-occurrence-requires c κs =
-    step-ready (entered c.before.before.before).pre c.loop-i.invariant c.loop-i-test.true
+    step-ready (entered c.before.before.before).requires c.loop-i.invariant c.loop-i-test.true
 
 same_length : tie.Need-shape_of-numbers-in-Broken invariant-loop decreases-loop
 same_length c = let s = broken c in s.check-occurrence.kept.0 ∙ s.before.before.before.before.loop.inv.numbers_long
@@ -48,7 +48,7 @@ same-length-2 c = let s = broken c in s.check-occurrence.kept.1.1.1.1.1.1.0 ∙ 
 returns : tie.Need-returns-in-Broken invariant-loop decreases-loop
 returns c =
     let s = broken c in
-    walk-stops (entered s.before.before.before.before).pre s.before.before.before.before.loop.inv s.before.before.before.loop-test.taken s.check-occurrence.ensures c.in-Broken.is
+    walk-stops (entered s.before.before.before.before).requires s.before.before.before.before.loop.inv s.before.before.before.loop-test.taken s.check-occurrence.ensures c.in-Broken.is
 
 add-i : tie.Need-overflow_add-i invariant-loop decreases-loop
 add-i c =
@@ -61,11 +61,11 @@ loop-less c = omega (arith, (turn (fine c)).loop-test.taken)
 loop-again : tie.Need-loop-i-preserved invariant-loop decreases-loop
 loop-again c =
     let s = fine c in
-    walk-goes-on (entered s.before.before.before.before).pre s.before.before.before.before.loop.inv s.before.before.before.loop-test.taken s.check-occurrence.ensures
+    walk-goes-on (entered s.before.before.before.before).requires s.before.before.before.before.loop.inv s.before.before.before.loop-test.taken s.check-occurrence.ensures
     c.in-Fine.is s.check-occurrence.kept.0 s.check-occurrence.kept.1.1.1.1.1.1.0
 
 returns-2 : tie.Need-returns invariant-loop decreases-loop
-returns-2 c = walk_ends (entered c.before).pre c.loop-i.invariant c.loop-i-test.false
+returns-2 c = walk_ends (entered c.before).requires c.loop-i.invariant c.loop-i-test.false
 
 pub check_body_spec : {M : Type 1} → statement M
 check_body_spec =

@@ -47,22 +47,22 @@ learning :
     (c : tie.Else-learnt-driven)
     → (let a = (entered c.before.before.before.before.before).args in
     Learning a.numbers.now a.slots.now a.base a.at a.filled c.entry-driven.result
-    c.learn_list-learnt.result c.learn_list-learnt.last.1.1.0 c.learn_list-learnt.last.0)
+    c.learn_list-learnt.result c.learn_list-learnt.new.slots c.learn_list-learnt.new.numbers)
 learning c =
     record { counted = c.entry-driven.ensures; list = c.learn_list-learnt.ensures; all = c.if-learnt-driven.false }
 
 -- Behind them places fit.
 fits :
     (c : tie.Else-learnt-driven)
-    → (((entered c.before.before.before.before.before).args.at + 3 + c.learn_list-learnt.result ≤ length c.learn_list-learnt.last.0) × (length c.learn_list-learnt.last.0 ≤ 65535))
+    → (((entered c.before.before.before.before.before).args.at + 3 + c.learn_list-learnt.result ≤ length c.learn_list-learnt.new.numbers) × (length c.learn_list-learnt.new.numbers ≤ 65535))
 fits c =
-    let p = (entered c.before.before.before.before.before).pre in
-    (omega (arith, (driven-here (learning c) p).behind.within), omega (arith, c.learn_list-learnt.kept.0, p.placed.short))
+    let p = (entered c.before.before.before.before.before).requires in
+    (omega (arith, (driven-here (learning c) p).behind.within), omega (arith, c.learn_list-learnt.kept.numbers, p.placed.short))
 
 write-list-requires : tie.Need-write_list-written-requires
 write-list-requires c κs =
-    let p = (entered c.before.before.before.before.before.before.before).pre in
-    list-ready p c.learn_list-learnt.kept.0 c.learn_list-learnt.kept.1.1.0 p.o.takes
+    let p = (entered c.before.before.before.before.before.before.before).requires in
+    list-ready p c.learn_list-learnt.kept.numbers c.learn_list-learnt.kept.slots p.o.takes
     (stands-tail (driven-here (learning c.before.before) p).behind) (takes-below p.o p.indexes.in_slots)
 
 -- Those of the second list are known.
@@ -72,7 +72,7 @@ writing :
     let a = (entered l).args in
     Writing a.numbers.now a.slots.now a.base a.at a.filled l.before.before.before.entry.result
     l.learn-list.result c.entry-taken.result c.write_list-written.result l.learn-list.last.1.1.0
-    l.learn-list.last.0 c.write_list-written.last.0)
+    l.learn-list.last.0 c.write_list-written.new.numbers)
 writing c =
     record {
       learning = learning (new c.before.before.before);
@@ -82,16 +82,16 @@ writing c =
     }
 
 -- Behind them the numbers are as many as they were, and places fit.
-sized : (c : tie.Else-written-taken) → length c.write_list-written.new.0 ≡ length (started c).args.numbers.now
+sized : (c : tie.Else-written-taken) → length c.write_list-written.new.numbers ≡ length (started c).args.numbers.now
 sized c = c.write_list-written.auto.0 ∙ (learnt (new c.before.before.before)).learn-list.auto.0
 
 room :
     (c : tie.Else-written-taken)
     → (let l = learnt (new c.before.before.before) in
     let a = (entered l).args in
-    (a.filled + l.before.before.before.entry.result ≤ length c.write_list-written.last.0)
-    × (a.at + 3 + l.learn-list.result + c.write_list-written.result ≤ length c.write_list-written.last.0)
-    × (length c.write_list-written.last.0 ≤ 65535))
+    (a.filled + l.before.before.before.entry.result ≤ length c.write_list-written.new.numbers)
+    × (a.at + 3 + l.learn-list.result + c.write_list-written.result ≤ length c.write_list-written.new.numbers)
+    × (length c.write_list-written.new.numbers ≤ 65535))
 room c =
     let p = (started c).requires in
     let n = driven-here (writing c).learning p in
@@ -116,10 +116,10 @@ judge-reference-requires c κs =
 -- A module that is meant has its position in the file.
 inside :
     (c : tie.In-Module)
-    → c.in-Module.j < length (started c.before.before.before.before.before).requires.scene.ms
+    → c.j-1.given.0.0 < length (started c.before.before.before.before.before).requires.scene.ms
 inside c =
     let p = (started c.before.before.before.before.before).requires in
-    (judged (writing c.before.before.before.before.before) c.judge_reference.ensures c.in-Module.is p.scene p.o p.nets p.nets p.stands
+    (judged (writing c.before.before.before.before.before) c.judge_reference.ensures c.j-1.given.1 p.scene p.o p.nets p.nets p.stands
     p.knows p.wide (record { same = λ x. refl })).2
 
 with-module-requires : tie.Need-with_module-requires

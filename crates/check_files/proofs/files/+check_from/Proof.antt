@@ -73,7 +73,7 @@ reached t c =
       nets₀ = start.args.nets.now;
       sizes₀ = start.args.sizes.now;
       rooms₀ = start.args.rooms.now;
-      ready = start.pre.1.0;
+      ready = start.requires.1.0;
       inside = (left t later).if1.left;
       walk = later.check-from.ensures;
     }
@@ -86,11 +86,11 @@ unfolding reached
     check-from-lts.spec (claims t)
     (check-from-at t)
     check-from.Post
-    (λ c. let start = begun t c.before in walk_none start.pre.1.0 start.pre.1.1 c.if1.true)
+    (λ c. let start = begun t c.before in walk_none start.requires.1.0 start.requires.1.1 c.if1.true)
     (λ c. omega arith)
     (λ c κs.
     let start = begun t c.before.before.before.before.before.before in
-    (omega (arith, start.pre.0, c.before.before.before.before.before.if1.false), (start.pre.1.0, omega (arith, c.before.before.before.before.before.if1.false))))
+    (omega (arith, start.requires.0, c.before.before.before.before.before.if1.false), (start.requires.1.0, omega (arith, c.before.before.before.before.before.if1.false))))
     (λ c κs. reached t c)
     (λ c. search rules)
     (λ c. search rules)

@@ -34,7 +34,7 @@ at-repeat-requires c κs =
 slice-relend-prefix-check-from : tie.Need-slice_bounds-check_from-end
 slice-relend-prefix-check-from d =
     let n = numbered d.before in
-    let p = (entered n).pre in
+    let p = (entered n).requires in
     end-inside p n.number-modules.ensures n.number-modules.kept.1.1.1.0 d.at_repeat-known.ensures d.end_before-end.ensures p.ms p.laidout
 
 slice-aggregate-check-from : tie.Need-slice_bounds-check_from-end-2
@@ -47,14 +47,14 @@ check-from-requires : tie.Need-check_from-requires
 check-from-requires c κs =
     let d = ended c in
     let n = numbered d.before.before in
-    let p = (entered n).pre in
+    let p = (entered n).requires in
     (each-ready p n.number-modules.ensures n.number-modules.kept.1.1.1.0 d.before.before.at-repeat.ensures d.end_Before.ensures p.ms p.laidout, omega arith)
 
 returns : tie.Need-returns
 returns c ms l =
     let d = ended c.before.before.before.before.before.before.before.before.before.before.before in
     let n = numbered d.before.before in
-    file-found (entered n).pre n.number-modules.ensures n.number-modules.kept.1.1.1.0 d.before.before.at-repeat.ensures d.end_Before.ensures ms l
+    file-found (entered n).requires n.number-modules.ensures n.number-modules.kept.1.1.1.0 d.before.before.at-repeat.ensures d.end_Before.ensures ms l
     c.check_from.auto.0 (walk_ends c.check_from.ensures (omega arith))
 
 pub check_modules_spec : {M : Type 1} → statement M

@@ -76,7 +76,7 @@ loop-holds c =
       refl,
       refl,
       refl,
-      record { within = omega arith; known = λ ms f e. known-none ms s.args.modules e s.pre.clear },
+      record { within = omega arith; known = λ ms f e. known-none ms s.args.modules e s.requires.clear },
     )
 
 -- The entry from a turn, the turn from behind its test and what follows it, and the module that it is about.
@@ -133,7 +133,7 @@ loop-again c =
 returns : tie.Need-returns invariant-loop decreases-loop
 returns c ms f e =
     let l = c.loop-k in
-    let p = (begun c.before.before).pre in
+    let p = (begun c.before.before).requires in
     let done : l.k ≡ 0 = omega arith in
     known-all
     (subst (λ (n : ℕ). Known ms n l.first l.names l.inputs l.outputs l.repeated) done (l.invariant.4.known ms f e))

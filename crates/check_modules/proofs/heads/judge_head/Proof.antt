@@ -88,7 +88,7 @@ list-end-requires-2 c κs =
 place :
     (c : tie.After-list_end-e)
     → (let s = listed c in
-    Places s.args.numbers.now 0 c.list_end-n.result c.list_end-e.result s.pre.m)
+    Places s.args.numbers.now 0 c.list_end-n.result c.list_end-e.result s.requires.m)
 place c =
     let h = (listed c).requires in
     places c.list_end-n.ensures c.list_end-e.ensures h.m (stands-whole h.own)

@@ -71,7 +71,7 @@ any-known-requires c κs =
     below-sized c.learn.auto.1.0 c.requires.outputs_index
 
 -- A table with entries from before knows no net, and then it knows the inputs.
-known : (c : tie.After-learn) → (Knows c.learn.new.1.0 c.args.base c.args.inputs.now)
+known : (c : tie.After-learn) → (Knows c.learn.new.table c.args.base c.args.inputs.now)
 known c = c.learn.ensures (knows-none c.requires.earlier) (inputs-single c.before.before.before.before)
 
 returns-3 : tie.Need-returns-then-any_known

@@ -18,7 +18,7 @@ write-list-requires c κs = inputs-ready c.requires
 outputs :
     (c : tie.After-write_list)
     → (let a = c.args in
-    ListReady c.write_list.new.0 a.slots.now a.base c.list_end-o.result a.nets)
+    ListReady c.write_list.new.numbers a.slots.now a.base c.list_end-o.result a.nets)
 outputs c =
     outputs-ready c.requires c.list_end-o.ensures c.write_list.auto.0 c.write_list.ensures
 

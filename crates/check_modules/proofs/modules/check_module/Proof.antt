@@ -70,7 +70,7 @@ add-check-body c =
 -- The tables have an entry for each number behind the head too.
 indexes :
     (c : tie.After-judge_head-rule)
-    → (let a = (entered c).args in Indexes a.first.now c.judge_head-rule.new.1.0 a.numbers.now)
+    → (let a = (entered c).args in Indexes a.first.now c.judge_head-rule.new.slots a.numbers.now)
 indexes c =
     let p = (entered c).requires in
     record { in_first = p.indexes.in_first; in_slots = below-sized c.judge_head-rule.auto.1.0 p.indexes.in_slots }
@@ -113,10 +113,10 @@ abbrev walked : tie.In-Fine-2 → tie.After-check_body
 walked c = c.before.before.before.before.before.before
 
 -- The table is as long as it was, and its entries are low.
-kept : (b : tie.After-check_body) → length b.check_body.new.1.1.1.1.1.1.1.0 ≡ length (entered (head b.before.before.before)).args.slots.now
+kept : (b : tie.After-check_body) → length b.check_body.new.slots ≡ length (entered (head b.before.before.before)).args.slots.now
 kept b = b.check_body.auto.1.1.1.1.1.1.1.0 ∙ (head b.before.before.before).judge-head.auto.1.0
 
-low : (b : tie.After-check_body) → Below ((entered (head b.before.before.before)).args.base + 65536) b.check_body.new.1.1.1.1.1.1.1.0
+low : (b : tie.After-check_body) → Below ((entered (head b.before.before.before)).args.base + 65536) b.check_body.new.slots
 low b = b.check_body.ensures.low (head b.before.before.before).judge-head.ensures.low
 
 finish-module-requires : tie.Need-finish_module-broken-requires

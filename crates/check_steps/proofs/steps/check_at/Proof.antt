@@ -44,16 +44,16 @@ abbrev keeping : tie.After-slice_known-in-Fine-2-1 → tie.After-keep
 keeping c = c.before.before.before.before
 
 mul-nets : tie.Need-offset_bounds-nets-k
-mul-nets c = let d = ended c.before.before.before.before.before in omega (arith, few (entered d).pre d.end_Before.ensures)
+mul-nets c = let d = ended c.before.before.before.before.before in omega (arith, few (entered d).requires d.end_Before.ensures)
 
 slice-write-nets : tie.Need-bounds-nets-k
-slice-write-nets c = let d = ended c.before.before.before.before.before in nets-long (entered d).pre d.end_Before.ensures
+slice-write-nets c = let d = ended c.before.before.before.before.before in nets-long (entered d).requires d.end_Before.ensures
 
 keep-requires : tie.Need-keep-requires
 keep-requires c κs =
     let d = ended c.before.before.before.before.before.before.before.before.before in
     let kept = c.check_module.kept in
-    may_keep (entered d).pre d.end_Before.ensures c.check_module.ensures kept.0 kept.1.1.1.1.1.0 _ _ c.in-Fine.is
+    may_keep (entered d).requires d.end_Before.ensures c.check_module.ensures kept.0 kept.1.1.1.1.1.0 _ _ c.in-Fine.is
 
 returns : tie.Need-returns-in-Broken
 returns c b =

@@ -34,13 +34,13 @@ loop-again c =
     let l = c.loop-i in
     let a = c.args in
     record {
-      inside = omega (arith, c.loop-i-test.taken);
-      same = c.step-now.kept.1.1.0 ∙ l.inv.same;
-      whole = c.step-now.kept.1.1.1.0 ∙ l.inv.whole;
+      inside = omega (arith, c.loop-i-test.true);
+      same = c.step-now.kept.bases ∙ l.inv.same;
+      whole = c.step-now.kept.table ∙ l.inv.whole;
       filled = omega (arith, c.step-now.ensures.0, l.inv.same);
       holds =
           λ s h.
-          rw (← one_more a.letters s a.bytes.now l.i c.loop-i-test.taken)
+          rw (← one_more a.letters s a.bytes.now l.i c.loop-i-test.true)
           (c.step-now.ensures.1 (steps a.letters s (take l.i a.bytes.now)) (l.inv.holds s h));
     }
 
@@ -64,7 +64,7 @@ read_block_spec =
     (λ c. omega arith)
     (λ c κs.
     let l = c.before.before.before.before.loop in
-    (omega (arith, l.invariant.same, l.invariant.filled), l.invariant.whole ∙ (entry c.before.before.before.before).pre.1))
+    (omega (arith, l.invariant.same, l.invariant.filled), l.invariant.whole ∙ (entry c.before.before.before.before).requires.1))
     (λ c. omega arith)
     (λ c. omega arith)
     loop-again

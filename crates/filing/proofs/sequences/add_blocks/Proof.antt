@@ -156,10 +156,10 @@ loop-again c =
     record {
       until = t.within;
       all = l.inv.all;
-      bits-long = c.add_words.kept.1.1.1.0 ∙ l.inv.bits-long;
+      bits-long = c.add_words.kept.bits ∙ l.inv.bits-long;
       values-long =
-          length_front l.values c.add_words.last.1.1.1.1.0 (some * 32) c.add_words.kept.1.1.1.1.0 ∙ l.inv.values-long;
-      outputs-long = c.add_words.kept.1.1.1.1.1.0 ∙ l.inv.outputs-long;
+          length_front l.values c.add_words.new.values (some * 32) c.add_words.kept.values ∙ l.inv.values-long;
+      outputs-long = c.add_words.kept.outputs ∙ l.inv.outputs-long;
       counted =
           block_more c.args.sequence.now l.table (replicate 33 0) letters l.done some (l.done + some + letters - 1 - l.done)
           t.letters.0 (omega (arith, t.one, t.letters.0)) (omega (arith, t.end, t.one, t.letters.0)) l.inv.counted _

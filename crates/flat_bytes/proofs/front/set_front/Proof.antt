@@ -72,7 +72,7 @@ put-requires-3 c κs =
 put-requires-4 : tie.Need-put-third-requires
 put-requires-4 c κs =
     let two = numbered c.before.before.before in
-    let able = (start two.before.before.before.before).pre in
+    let able = (start two.before.before.before.before).requires in
     record {
       readable = able.outs;
       within = able.outs_within;
@@ -82,13 +82,13 @@ put-requires-4 c κs =
 put-requires-5 : tie.Need-put-requires
 put-requires-5 c κs =
     let two = numbered c.before.before.before.before.before.before.before in
-    let able = (start two.before.before.before.before).pre in
+    let able = (start two.before.before.before.before).requires in
     (able.counted, laying-room (gates-left able two.before.before.before.before.put.ensures two.put2.ensures c.put-second.ensures c.put-third.ensures))
 
 returns : tie.Need-returns
 returns c =
     let two = numbered c.before.before.before.before.before.before.before.before.before.before in
-    laying-last (gates-left (start two.before.before.before.before).pre two.before.before.before.before.put.ensures two.put2.ensures c.put-second.ensures c.put-third.ensures) c.put.ensures
+    laying-last (gates-left (start two.before.before.before.before).requires two.before.before.before.before.put.ensures two.put2.ensures c.put-second.ensures c.put-third.ensures) c.put.ensures
 
 pub set_front_spec : {M : Type 1} → statement M
 set_front_spec =

@@ -28,12 +28,12 @@ here :
     (c : tie.After-entry invariant-loop decreases-loop)
     → (let args = (start c.before.before.before.before.before).args in
     Turn args.image.now args.from args.to args.scratch.now c.loop-i.i c.entry.result)
-here c = turn (start c.before.before.before.before.before).pre c.loop-i-test.true c.entry.ensures
+here c = turn (start c.before.before.before.before.before).requires c.loop-i-test.true c.entry.ensures
 
 put-requires-2 : tie.Need-put-end-requires-in-loop-i invariant-loop decreases-loop
 put-requires-2 c κs =
     let t = here c.before.before in
-    rw t.value (all-at (start c.before.before.before.before.before.before.before).pre.within.numbers c.loop-i.i 0 t.more, writing-room c.loop-i.invariant t.more)
+    rw t.value (all-at (start c.before.before.before.before.before.before.before).requires.within.numbers c.loop-i.i 0 t.more, writing-room c.loop-i.invariant t.more)
 
 loop-again : tie.Need-loop-i-preserved invariant-loop decreases-loop
 loop-again c =
@@ -49,16 +49,16 @@ put_spec =
     (λ c. c.requires.readable.ordered)
     (λ c. let able = c.requires in omega (arith, count-of-nets able, able.within.count))
     (λ c κs. let able = c.requires in (omega (arith, count-of-nets able, able.within.count), count_room able))
-    (λ c. none_written (start c.before.before).pre c.put-end.ensures)
-    (λ c. omega (arith, (start c.before.before.before.before).pre.readable.inside))
-    (λ c κs. omega (arith, (start c.before.before.before.before).pre.readable.inside))
+    (λ c. none_written (start c.before.before).requires c.put-end.ensures)
+    (λ c. omega (arith, (start c.before.before.before.before).requires.readable.inside))
+    (λ c κs. omega (arith, (start c.before.before.before.before).requires.readable.inside))
     (λ c. omega (arith, (here c).inside))
     (λ c. (here c.before).inside)
     put-requires-2
     (λ c. omega arith)
     (λ c. omega arith)
     loop-again
-    (λ c. writing-length c.loop-i.invariant ∙ counted-long (start c.before.before.before.before).pre c.put-end.ensures)
+    (λ c. writing-length c.loop-i.invariant ∙ counted-long (start c.before.before.before.before).requires c.put-end.ensures)
     (λ c.
     let first = counted c.before in
-    whole (start first).pre first.put.ensures (writing-all c.before.loop.invariant (omega (arith, count-of-nets (start first).pre)))))
+    whole (start first).requires first.put.ensures (writing-all c.before.loop.invariant (omega (arith, count-of-nets (start first).requires)))))

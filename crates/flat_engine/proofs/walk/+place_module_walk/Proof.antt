@@ -28,88 +28,75 @@ module _ (t : ℕ) where
   abbrev began :
       place-module-lts.After-module_at-header (place-module-claims t) (place-module-at t) place-module.Post
       → place-module-lts.Start (place-module-claims t) (place-module-at t) place-module.Post
-  began c = let lists = c.before.before.before in lists.before.before.before.before
+  began c = c.before.before.before.before.before.before.before
 
   walk-requires : place-module-lts.Need-walk-requires (place-module-claims t) (place-module-at t) place-module.Post
   walk-requires c κs =
-      let header = c.before.before in
-      let some = (began header).requires.1 in (
-        omega (arith, (began header).requires.0),
-        record { plan = some.plan; ready = some.ready; header = header.module-at.ensures _ (module_stands (scene some.ready)) },
+      let some = (began c.before.before).requires.1 in (
+        omega (arith, (began c.before.before).requires.0),
+        record { plan = some.plan; ready = some.ready; c.before.before = c.module_at-header.ensures _ (module_stands (scene some.ready)) },
       )
 
   returns : place-module-lts.Need-returns (place-module-claims t) (place-module-at t) place-module.Post
   returns c p ready =
-      let walked = c.before.before.before.before in
-      walked.walk.ensures p ready (walked.before.before.before.module-at.ensures _ (module_stands (scene ready)))
+      c.walk.ensures p ready (c.module_at-header.ensures _ (module_stands (scene ready)))
 
 -- `walk`, whose measure is t.
 module _ (t : ℕ) where
   add_at : walk-lts.Need-overflow_add-at (walk-claims t) (walk_at t) walk.Post Inv-loop μ-loop
   add_at c =
-      let known = c.before.before.before in
-      let from = known.before.before.before.before in
-      omega (arith, from.requires.1.header.body.within, from.well-formed)
+      omega (arith, c.requires.1.header.body.within, c.well-formed)
 
   -- The slot that a gate fills is one of scratch.
   slot-there :
       (c : walk-lts.After-set_gate-end (walk-claims t) (walk_at t) walk.Post Inv-loop μ-loop)
       → let l = (gate-read t c.before.before.before).before.before.loop in
       l.filled < length l.scratch
-  slot-there c = let gate = c.before.before.before in gate-room (own t (gate-read t gate)) (is-gate t gate)
+  slot-there c = gate-room (own t (gate-read t c.before.before.before)) (is-gate t c.before.before.before)
 
   loop-again : walk-lts.Need-loop-left-preserved-in-Gate (walk-claims t) (walk_at t) walk.Post Inv-loop μ-loop
   loop-again c p ready ahead =
-      let written = c.before.before in
-      let gate = written.before.before.before in
-      turn-gate (here t (gate-read t gate) p ready ahead) (is-gate t gate) written.set-gate.ensures
+      turn-gate (here t (gate-read t c.before.before.before.before.before) p ready ahead) (is-gate t c.before.before.before.before.before) c.set_gate-end.ensures
 
   -- At a module, once its arguments are passed: its part of scratch begins within it.
   lent-inside : walk-lts.Need-slice_bounds-place_module-count (walk-claims t) (walk_at t) walk.Post Inv-loop μ-loop
   lent-inside c =
-      let passed = c.before.before in
-      let at = passed-from t passed in
-      turns.lent-inside (own t (module-read t at)) (is_module t at) passed.copy.ensures
+      let at = passed-from t c.before.before in
+      turns.lent-inside (own t (module-read t at)) (is_module t at) c.copy.ensures
 
   mul-place-module : walk-lts.Need-offset_bounds-scratch-frame (walk-claims t) (walk_at t) walk.Post Inv-loop μ-loop
   mul-place-module c =
       let read = module-read t (passed-from t c.before.before) in
       let from = start t read.before.before in
-      omega (arith, frame_is (scene from.pre.1.ready), enough (own t read), (own t read).progress.size, from.good)
+      omega (arith, frame_is (scene from.requires.1.ready), enough (own t read), (own t read).progress.size, from.good)
 
   place-module-requires : walk-lts.Need-place_module-pen-requires (walk-claims t) (walk_at t) walk.Post Inv-loop μ-loop
   place-module-requires c κs =
-      let passed = c.before.before.before.before in
-      let at = passed-from t passed in
+      let at = passed-from t c.before.before.before.before in
       let read = module-read t at in (
-        omega (arith, turns.falls (own t read) (is_module t at), (start t read.before.before).pre.0),
-        record { plan = _; ready = turns.calls (own t read) (is_module t at) passed.copy.ensures },
+        omega (arith, turns.falls (own t read) (is_module t at), (start t read.before.before).requires.0),
+        record { plan = _; ready = turns.calls (own t read) (is_module t at) c.copy.ensures },
       )
 
   copy-requires-2 : walk-lts.Need-copy-requires-in-Module (walk-claims t) (walk_at t) walk.Post Inv-loop μ-loop
   copy-requires-2 c κs =
-      let lists = c.before.before in
-      let placed = lists.before.before.before in
-      let passed = passing t placed in
+      let passed = passing t c.before.before.before.before.before in
       let at = passed-from t passed in
       let now = own t (module-read t at) in
-      turns.fetches now (is_module t at) passed.copy.ensures placed.place-module.new.1.1.1.1.1.0
-      placed.place-module.auto.1.1.1.1.1.0
+      turns.fetches now (is_module t at) passed.copy.ensures c.place_module-pen.new.scratch
+      c.place_module-pen.auto.1.1.1.1.1.0
       (passed.before.before.module-at.ensures _ (module_stands (turns.sub now (is_module t at))))
 
   loop-again-2 : walk-lts.Need-loop-left-preserved (walk-claims t) (walk_at t) walk.Post Inv-loop μ-loop
   loop-again-2 c p ready ahead =
-      let fetched = c.before.before in
-      let lists = fetched.before.before.before in
-      let placed = lists.before.before.before in
-      let passed = passing t placed in
+      let passed = passing t c.before.before.before.before.before.before.before.before in
       let at = passed-from t passed in
       let now = here t (module-read t at) p ready ahead in
-      turns.turn_module now (is_module t at) passed.copy.ensures placed.place-module.new.1.1.1.1.1.0
-      placed.place-module.auto.1.1.1.1.1.0
+      turns.turn_module now (is_module t at) passed.copy.ensures c.place_module-pen.new.scratch
+      c.place_module-pen.auto.1.1.1.1.1.0
       (passed.before.before.module-at.ensures _ (module_stands (turns.sub now (is_module t at))))
-      (placed.place-module.ensures _ (turns.calls now (is_module t at) passed.copy.ensures))
-      fetched.copy2.ensures
+      (c.place_module-pen.ensures _ (turns.calls now (is_module t at) passed.copy.ensures))
+      c.copy-in-Module.ensures
 
 pub +place_module_walk_spec : {M : Type 1} → statement M
 +place_module_walk_spec =
@@ -175,6 +162,6 @@ pub +place_module_walk_spec : {M : Type 1} → statement M
     (loop-again-2 t)
     (λ c. (own-progress t c.before).size)
     (λ c.
-    let able = (start t c.before).pre.1.ready in
+    let able = (start t c.before).requires.1.ready in
     long-now able (own-progress t c.before) ∙ sym (long-before able))
     (λ c p ready header. finish ready (c.before.loop.invariant p ready (all-ahead (scene ready) header)) c.loop-test.false))

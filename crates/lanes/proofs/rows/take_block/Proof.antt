@@ -93,11 +93,11 @@ take_block_spec =
     (λ c. sym c.take_part.auto.1.1.1.1.1.0)
     (λ c. sym c.take_part-2.auto.1.1.1.1.1.0)
     (λ c. sym c.take_part-3.auto.1.1.1.1.1.0)
-    (λ c. sym c.take_part-4.kept.1.1.1.1.1.0)
+    (λ c. sym c.take_part-4.kept.low)
     (λ c. sym c.take_part.auto.1.1.1.1.1.1.0)
     (λ c. sym c.take_part-2.auto.1.1.1.1.1.1.0)
     (λ c. sym c.take_part-3.auto.1.1.1.1.1.1.0)
-    (λ c. sym c.take_part-4.kept.1.1.1.1.1.1.0)
+    (λ c. sym c.take_part-4.kept.high)
     store-requires
     (λ c. c.store.ensures.size)
     returns)

@@ -27,7 +27,7 @@ take-word-requires c κs =
 
 returns : tie.Need-returns
 returns c =
-    let given = (start c.before.before.before.before.before.before.before).pre in (
+    let given = (start c.before.before.before.before.before.before.before).requires in (
       part-packed given.0 c.least-start.ensures c.least-end.ensures c.take_word.ensures.0,
       part-packed given.1 c.least-start.ensures c.least-end.ensures c.take_word.ensures.1,
     )

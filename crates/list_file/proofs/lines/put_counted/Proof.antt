@@ -7,7 +7,7 @@ use Rattle.list_file.proofs.lines.put_counted.Tie as tie
 returns : tie.Need-returns-then-refused-eq0
 returns c =
     let args = c.args in
-    answered args.position args.number args.counted c.if-refused-eq0.taken c.put_figures.ensures
+    answered args.position args.number args.counted c.if-refused-eq0.true c.put_figures.ensures
 
 returns-2 : tie.Need-returns-else-refused-eq0
 returns-2 c =

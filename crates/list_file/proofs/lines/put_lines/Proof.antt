@@ -45,17 +45,17 @@ here c s = here-at s.opened.ms c.loop-position.position (omega (arith, s.opened.
 
 add-end : tie.Need-overflow_add-end invariant-loop decreases-loop
 add-end c =
-    let given = (start c.before.before.before).pre in
+    let given = (start c.before.before.before).requires in
     omega (arith, low (c.loop-position.invariant.1.1.1 given) given c.loop-position-test.true)
 
 part-put-line-end : tie.Need-slice_bounds-put_line-end invariant-loop decreases-loop
 part-put-line-end c =
-    let given = (start c.before.before.before.before.before).pre in
+    let given = (start c.before.before.before.before.before).requires in
     room (c.loop-position.invariant.1.1.1 given) given c.loop-position-test.true
 
 put-line-requires : tie.Need-put_line-at-requires invariant-loop decreases-loop
 put-line-requires c κs =
-    let given = (start c.before.before.before.before.before.before).pre in
+    let given = (start c.before.before.before.before.before.before).requires in
     let kept = c.loop-position.invariant.1 in (
       stands_here given.opened (here c.before.before.before.before.before given) c.site_at-site.ensures,
       (omega (arith, given.loads_long, kept.0), (kept.1.0, omega (arith, part-long (kept.1.1 given) given c.loop-position-test.true))),
@@ -63,18 +63,18 @@ put-line-requires c κs =
 
 add_at : tie.Need-overflow_add-at invariant-loop decreases-loop
 add_at c =
-    let given = (start c.before.before.before.before.before.before.before.before.before.before.before.before.before).pre in
+    let given = (start c.before.before.before.before.before.before.before.before.before.before.before.before.before).requires in
     let sofar = c.loop-position.invariant.1.1.1 given in
     omega (
       arith,
       (line-here given.opened (here c.before.before.before.before.before.before.before.before.before.before.before.before given) c.site_at-site.ensures (start c.before.before.before.before.before.before.before.before.before.before.before.before.before).args.family.delays c.put_line-at.ensures).inside,
-      part-long sofar given c.loop-position-test.taken,
-      low sofar given c.loop-position-test.taken,
+      part-long sofar given c.loop-position-test.true,
+      low sofar given c.loop-position-test.true,
     )
 
 loop-again : tie.Need-loop-position-preserved invariant-loop decreases-loop
 loop-again c =
-    let given = (start c.before.before.before.before.before.before.before.before.before.before.before.before.before).pre in
+    let given = (start c.before.before.before.before.before.before.before.before.before.before.before.before.before).requires in
     let sofar = c.loop-position.invariant.1.1.1 in (
       search rules,
       (
@@ -82,7 +82,7 @@ loop-again c =
         (
           search rules,
           λ s.
-              more (sofar s) (here c.before.before.before.before.before.before.before.before.before.before.before.before s) _ refl (room (sofar given) given c.loop-position-test.taken)
+              more (sofar s) (here c.before.before.before.before.before.before.before.before.before.before.before.before s) _ refl (room (sofar given) given c.loop-position-test.true)
               (line-here s.opened (here c.before.before.before.before.before.before.before.before.before.before.before.before s) c.site_at-site.ensures (start c.before.before.before.before.before.before.before.before.before.before.before.before.before).args.family.delays c.put_line-at.ensures),
         ),
       ),
@@ -95,9 +95,9 @@ put_lines_spec =
     invariant-loop
     decreases-loop
     (λ c. (search rules, (refl, ((entered c).requires.lent, λ s. none s.file (entered c).args.family.delays s.opened.ms _))))
-    (λ c. omega (arith, (in_lists (start c.before).pre.opened c.loop-position-test.true).0))
-    (λ c. (in_lists (start c.before.before).pre.opened c.loop-position-test.true).0)
-    (λ c κs. (in_lists (start c.before.before).pre.opened c.loop-position-test.true).1)
+    (λ c. omega (arith, (in_lists (start c.before).requires.opened c.loop-position-test.true).0))
+    (λ c. (in_lists (start c.before.before).requires.opened c.loop-position-test.true).0)
+    (λ c κs. (in_lists (start c.before.before).requires.opened c.loop-position-test.true).1)
     add-end
     (λ c. search rules)
     (λ c. search rules)
@@ -109,5 +109,5 @@ put_lines_spec =
     loop-again
     (λ c. search rules)
     (λ c. search rules)
-    (λ c. put-length (c.loop-position.invariant.1.1.1 (start c.before).pre).put)
+    (λ c. put-length (c.loop-position.invariant.1.1.1 (start c.before).requires).put)
     (λ c s. all-put (c.loop-position.invariant.1.1.1 s) (omega (arith, s.opened.all))))

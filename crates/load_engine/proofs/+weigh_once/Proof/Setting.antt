@@ -125,9 +125,7 @@ module _ (t : ℕ) where
   -- To the start, from where it is looked up what is kept,
   abbrev pub asked : Looked → Start
   asked c =
-      let tables = c.before.before.before in
-      let lists = tables.before.before.before in
-      lists.before.before.before
+      c.before.before.before.before.before.before.before.before.before
 
   -- from where the frame is cleared,
   abbrev pub began : Cleared → Start
@@ -135,7 +133,7 @@ module _ (t : ℕ) where
 
   -- and from a turn of the loop.
   abbrev pub clearing : Looping → Cleared
-  clearing c = let header = c.before.before.before in header.before.before.before.before
+  clearing c = c.before.before.before.before.before.before.before
 
   abbrev pub start : Looping → Start
   start c = began (clearing c)
@@ -149,13 +147,11 @@ module _ (t : ℕ) where
 
   -- To where a module is known to be called, from where it is weighed and from where the largest load is raised.
   abbrev pub told : Called → AtModule
-  told c = let lent = c.before.before.before in lent.before.before.before
+  told c = c.before.before.before.before.before.before
 
   abbrev pub weighed : Raised → Called
   weighed c =
-      let tables = c.before.before.before in
-      let lists = tables.before.before.before in
-      lists.before.before.before
+      c.before.before.before.before.before.before.before.before.before
 
   -- What the number that was read is.
   pub is-gate : (c : AtGate) → is_gate (gate-read c).occurrence-at.result.refers ≡ true
@@ -186,9 +182,9 @@ module _ (t : ℕ) where
       → let loop = ended c in
       let args = (start loop).args in
       (w : Workable args.image.now args.starts.now args.nets.now args.k (length (clearing loop).clear.last.1.0) args.loads.now args.known.now)
-      → FrameLoaded w.loadable.rs w.loadable.scene.m w.loadable.scene.later args.k c.larger2.result args.scratch.now loop.loop.scratch
+      → FrameLoaded w.loadable.rs w.loadable.scene.m w.loadable.scene.later args.k c.larger-load.result args.scratch.now loop.loop.scratch
   all-framed c w =
       let loop = ended c in
       let s = w.loadable in
-      all-loaded s _ (omega arith) (loop.loop.inv.3 w).0 (kept-behind s _ (clearing loop).clear.ensures) c.before.largest.ensures
-      c.larger2.ensures
+      all-loaded s _ (omega arith) (loop.loop.inv.3 w).0 (kept-behind s _ (clearing loop).clear.ensures) c.largest.ensures
+      c.larger-load.ensures

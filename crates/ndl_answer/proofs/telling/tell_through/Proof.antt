@@ -11,7 +11,7 @@ use Rattle.ndl_answer.proofs.telling.tell_through.Statement.{statement}
 use Rattle.ndl_answer.proofs.telling.tell_through.Tie as tie
 
 front : (c : tie.After-put_file-count) (t : FileTold c.args.names.now c.args.numbers.now c.args.text.now)
-    → Filled (ndl_text c.args.names.now t.ms) c.args.text.now c.put_file-count.new.1.1.0 c.put_file-count.result
+    → Filled (ndl_text c.args.names.now t.ms) c.args.text.now c.put_file-count.new.out c.put_file-count.result
 front c t = put_front (c.put_file-count.ensures t)
 
 returns : tie.Need-returns

@@ -24,7 +24,7 @@ returns c =
 
 begun : (c : tie.After-put_named-next)
     → Laying (apart c.args.sign c.args.nets.now) (each (signed c.args.sign) (drop 1 c.args.nets.now)) c.args.out.now c.args.at
-    c.put_named-next.new.1.1.0 c.put_named-next.result
+    c.put_named-next.new.out c.put_named-next.result
 begun c =
     let whole = apart-first c.args.sign c.args.nets.now c.if-nets-lt1.false in
     laying-put c.put_named-next.ensures (laying-none c.args.out.now c.args.at (sym whole) c.requires.1.fits)

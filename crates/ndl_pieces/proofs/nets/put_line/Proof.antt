@@ -30,14 +30,14 @@ copy-requires c κs =
 -- What is left behind the keyword.
 alone : (c : tie.After-copy-word) → length c.args.nets.now < 1
     → Laying (keyword_line c.args.keyword.now c.args.nets.now) line_end c.args.out.now c.args.at
-    c.copy-word.new.1.0 c.copy-word.result
+    c.copy-word.new.bytes c.copy-word.result
 alone c none =
     laying-put c.copy-word.ensures
     (laying-none c.args.out.now c.args.at (sym (line-none c.args.keyword.now c.args.nets.now none)) c.requires.1.fits)
 
 worded : (c : tie.After-copy-word) → 1 ≤ length c.args.nets.now
     → Laying (keyword_line c.args.keyword.now c.args.nets.now) ((space ∷ []) ++ (nets_text c.args.nets.now ++ line_end))
-    c.args.out.now c.args.at c.copy-word.new.1.0 c.copy-word.result
+    c.args.out.now c.args.at c.copy-word.new.bytes c.copy-word.result
 worded c some =
     laying-put c.copy-word.ensures
     (laying-none c.args.out.now c.args.at (sym (line-some c.args.keyword.now c.args.nets.now some)) c.requires.1.fits)
@@ -45,12 +45,12 @@ worded c some =
 -- Behind the space, and behind the nets.
 spaced : (c : tie.After-copy-first)
     → Laying (keyword_line c.args.keyword.now c.args.nets.now) (nets_text c.args.nets.now ++ line_end)
-    c.args.out.now c.args.at c.copy-first.new.1.0 c.copy-first.result
+    c.args.out.now c.args.at c.copy-first.new.bytes c.copy-first.result
 spaced c = laying-put c.copy-first.ensures (worded c.before.before.before.before.before.before.before c.if-nets-lt1.false)
 
 listed : (c : tie.After-put-end)
     → Laying (keyword_line c.args.keyword.now c.args.nets.now) line_end
-    c.args.out.now c.args.at c.put-end.new.1.0 c.put-end.result
+    c.args.out.now c.args.at c.put-end.new.out c.put-end.result
 listed c = laying-put c.put-end.ensures (spaced c.before.before.before.before)
 
 copy-requires-2 : tie.Need-copy-requires

@@ -25,7 +25,7 @@ put-blocks-requires c κs =
 copy-requires-2 : tie.Need-copy-requires
 copy-requires-2 c κs =
     let p = fronted c.before.before.before.before.before in
-    let t = (start p).pre in
+    let t = (start p).requires in
     omega (arith, last-room t p.copy.ensures (c.put_blocks-last.ensures (blocks-told t p.copy.ensures)))
 
 returns : tie.Need-returns

@@ -46,14 +46,14 @@ module _ (c : tie.After-module_at-header) (t : Told c) where
   placed = c.module-at.ensures t.m t.stands
 
   inputs : Stands (start c).args.numbers.now ((start c).args.from + 2) t.m.inputs
-  inputs = (module_at t.m t.stands).inputs ((start c).args.from + 2) refl
+  inputs = (module_at t.m t.stands).inputs (c.before.before.before.before.args.from + 2) refl
 
   inputs-part :
       take ((start c).args.from + 2 + c.module-at.result.inputs - ((start c).args.from + 2)) (drop ((start c).args.from + 2) (start c).args.numbers.now)
       ≡ t.m.inputs
   inputs-part =
-      part-between ((start c).args.from + 2) ((start c).args.from + 2 + c.module-at.result.inputs) inputs
-      (ap (λ (n : ℕ). (start c).args.from + 2 + n) placed.inputs)
+      part-between (c.before.before.before.before.args.from + 2) (c.before.before.before.before.args.from + 2 + c.module-at.result.inputs) inputs
+      (ap (λ (n : ℕ). c.before.before.before.before.args.from + 2 + n) placed.inputs)
 
   outputs-part :
       take (c.module-at.result.to - c.module-at.result.from) (drop c.module-at.result.from (start c).args.numbers.now) ≡ t.m.outputs
@@ -72,7 +72,7 @@ headed before at after next e f g h = rw (← e, ← f, ← g) h
 begun : (c : tie.After-put_head-body) (t : Told (parts c))
     → let a = (start (parts c)).args in
     Laying (head_text t.m.number t.m.inputs t.m.outputs ++ rest a.names.now t.m) (rest a.names.now t.m)
-    a.out.now a.at c.put_head-body.new.1.1.1.0 c.put_head-body.result
+    a.out.now a.at c.put_head-body.new.out c.put_head-body.result
 begun c t =
     laying-put
     (headed _ _ _ _ (module_at t.m t.stands).number (inputs-part (parts c) t) (outputs-part (parts c) t) c.put_head-body.ensures)
@@ -82,7 +82,7 @@ begun c t =
 abbrev occurrences : (c : tie.After-put_head-body) (t : Told (parts c))
     → let a = (start (parts c)).args in
     let h = (parts c).module-at.result in
-    OccurrencesTold a.names.now a.numbers.now (h.to + 1) h.count c.put_head-body.new.1.1.1.0 c.put_head-body.result
+    OccurrencesTold a.names.now a.numbers.now (h.to + 1) h.count c.put_head-body.new.out c.put_head-body.result
 occurrences c t =
     record {
       os = t.m.occurrences;
@@ -97,7 +97,7 @@ occurrences c t =
 told : (c : tie.After-put_all-pen) (t : Told (parts c.before.before.before.before))
     → let a = (start (parts c.before.before.before.before)).args in
     Laying (head_text t.m.number t.m.inputs t.m.outputs ++ rest a.names.now t.m) end_module_lines
-    a.out.now a.at c.put_all-pen.new.1.1.1.1.0 c.put_all-pen.result.at
+    a.out.now a.at c.put_all-pen.new.out c.put_all-pen.result.at
 told c t =
     laying-put {rest = end_module_lines} (c.put_all-pen.ensures (occurrences c.before.before.before.before t)).put (begun c.before.before.before.before t)
 
@@ -141,7 +141,7 @@ put_spec =
     (λ c. omega (arith, (placed c.before.before.before c.requires).to))
     (λ c. omega (arith, (placed c.before.before.before c.requires).outputs.within, (placed c.before.before.before c.requires).to))
     put-head-requires
-    (λ c. let p = parts c.before.before in omega (arith, (placed p p.before.before.before.before.pre).body.within))
+    (λ c. let p = parts c.before.before in omega (arith, (placed p p.before.before.before.before.requires).body.within))
     put-all-requires
     (λ c. search rules)
     copy-requires

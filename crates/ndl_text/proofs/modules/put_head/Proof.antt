@@ -33,7 +33,7 @@ behind-inputs c =
 titled : (c : tie.After-put_title-first)
     → let a = (start c).args in
     Laying (head_text a.number a.inputs.now a.outputs.now) (from_inputs a.inputs.now a.outputs.now) a.out.now a.at
-    c.put_title-first.new.1.0 c.put_title-first.result
+    c.put_title-first.new.out c.put_title-first.result
 titled c =
     let a = (start c).args in
     laying-put {rest = from_inputs a.inputs.now a.outputs.now} c.put_title-first.ensures (laying-start (start c).requires.3)
@@ -41,13 +41,13 @@ titled c =
 taking : (c : tie.After-put_line-second)
     → let a = (start (behind-title c)).args in
     Laying (head_text a.number a.inputs.now a.outputs.now) (from_outputs a.outputs.now) a.out.now a.at
-    c.put_line-second.new.1.1.0 c.put_line-second.result
+    c.put_line-second.new.out c.put_line-second.result
 taking c = laying-put {rest = from_outputs (start (behind-title c)).args.outputs.now} c.put_line-second.ensures (titled (behind-title c))
 
 giving : (c : tie.After-put_line-third)
     → let a = (start (behind-title (behind-inputs c))).args in
     Laying (head_text a.number a.inputs.now a.outputs.now) define_lines a.out.now a.at
-    c.put_line-third.new.1.1.0 c.put_line-third.result
+    c.put_line-third.new.out c.put_line-third.result
 giving c = laying-put {rest = define_lines} c.put_line-third.ensures (taking (behind-inputs c))
 
 put-title-requires : tie.Need-put_title-first-requires
@@ -57,12 +57,12 @@ put-title-requires c κs =
 put-line-requires : tie.Need-put_line-second-requires
 put-line-requires c κs =
     let s = start c.before.before.before.before.before in
-    (s.pre.1, room-first {xs = keyword_line inputs_word s.args.inputs.now} (from_outputs s.args.outputs.now) (laying-left (titled c.before.before.before.before.before)))
+    (s.requires.1, room-first {xs = keyword_line inputs_word s.args.inputs.now} (from_outputs s.args.outputs.now) (laying-left (titled c.before.before.before.before.before)))
 
 put-line-requires-2 : tie.Need-put_line-third-requires
 put-line-requires-2 c κs =
     let s = start (behind-title c.before.before.before.before.before) in
-    (s.pre.2, room-first {xs = keyword_line outputs_word s.args.outputs.now} define_lines (laying-left (taking c.before.before.before.before.before)))
+    (s.requires.2, room-first {xs = keyword_line outputs_word s.args.outputs.now} define_lines (laying-left (taking c.before.before.before.before.before)))
 
 copy-requires : tie.Need-copy-requires
 copy-requires c κs = omega (arith, (laying-left (giving c.before.before.before.before.before)).fits)

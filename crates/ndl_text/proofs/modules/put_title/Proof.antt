@@ -17,12 +17,12 @@ name number = (77 ∷ decimal number) ++ line_end
 
 worded : (c : tie.After-copy-name)
     → let a = c.args in
-    Laying (title_text a.number) (name a.number) a.out.now a.at c.copy-name.new.1.0 c.copy-name.result
+    Laying (title_text a.number) (name a.number) a.out.now a.at c.copy-name.new.bytes c.copy-name.result
 worded c = laying-put {rest = name c.args.number} c.copy-name.ensures (laying-start c.requires.1)
 
 named : (c : tie.After-put_named-end)
     → let a = c.args in
-    Laying (title_text a.number) line_end a.out.now a.at c.put_named-end.new.1.1.0 c.put_named-end.result
+    Laying (title_text a.number) line_end a.out.now a.at c.put_named-end.new.out c.put_named-end.result
 named c = laying-put {rest = line_end} c.put_named-end.ensures (worded c.before.before.before.before)
 
 copy-requires : tie.Need-copy-name-requires

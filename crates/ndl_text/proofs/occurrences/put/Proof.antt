@@ -41,8 +41,8 @@ module _ (c : tie.After-occurrence_at-place) (t : Told c) where
       take ((start c).args.from + 1 + c.occurrence-at.result.drives - ((start c).args.from + 1)) (drop ((start c).args.from + 1) (start c).args.numbers.now)
       ≡ t.o.drives
   driven-part =
-      part-between ((start c).args.from + 1) ((start c).args.from + 1 + c.occurrence-at.result.drives) drives
-      (ap (λ (n : ℕ). (start c).args.from + 1 + n) placed.drives)
+      part-between (c.before.before.before.before.args.from + 1) (c.before.before.before.before.args.from + 1 + c.occurrence-at.result.drives) drives
+      (ap (λ (n : ℕ). c.before.before.before.before.args.from + 1 + n) placed.drives)
 
   taken-part :
       take (c.occurrence-at.result.to - c.occurrence-at.result.from) (drop c.occurrence-at.result.from (start c).args.numbers.now)
@@ -52,7 +52,7 @@ module _ (c : tie.After-occurrence_at-place) (t : Told c) where
 begun : (c : tie.After-put_driven-refers) (t : Told c.before.before.before.before)
     → let a = c.args in
     Laying (driven_text a.position t.o.drives ++ taken_text a.names.now t.o.refers t.o.takes) (taken_text a.names.now t.o.refers t.o.takes)
-    a.out.now a.at c.put_driven-refers.new.1.1.0 c.put_driven-refers.result
+    a.out.now a.at c.put_driven-refers.new.out c.put_driven-refers.result
 begun c t = laying-put (rw (driven-part c.before.before.before.before t) at c.put_driven-refers.ensures) (laying-start (room-of-parts t))
 
 put-driven-requires : tie.Need-put_driven-refers-requires

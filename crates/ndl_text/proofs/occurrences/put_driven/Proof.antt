@@ -28,17 +28,17 @@ behind-name c =
 
 named : (c : tie.After-put_named-open)
     → let a = c.args in
-    Laying (driven_text a.position a.drives.now) (bracketed a.drives.now) a.out.now a.at c.put_named-open.new.1.1.0 c.put_named-open.result
+    Laying (driven_text a.position a.drives.now) (bracketed a.drives.now) a.out.now a.at c.put_named-open.new.out c.put_named-open.result
 named c = laying-put {rest = bracketed c.args.drives.now} c.put_named-open.ensures (laying-start c.requires.2)
 
 opened : (c : tie.After-copy-list)
     → let a = (start (behind-name c)).args in
-    Laying (driven_text a.position a.drives.now) (nets_text a.drives.now ++ close) a.out.now a.at c.copy-list.new.1.0 c.copy-list.result
+    Laying (driven_text a.position a.drives.now) (nets_text a.drives.now ++ close) a.out.now a.at c.copy-list.new.bytes c.copy-list.result
 opened c = laying-put {rest = nets_text (start (behind-name c)).args.drives.now ++ close} c.copy-list.ensures (named (behind-name c))
 
 listed : (c : tie.After-put-close)
     → let a = (start (behind-name c.before.before.before.before)).args in
-    Laying (driven_text a.position a.drives.now) close a.out.now a.at c.put-close.new.1.0 c.put-close.result
+    Laying (driven_text a.position a.drives.now) close a.out.now a.at c.put-close.new.out c.put-close.result
 listed c = laying-put {rest = close} c.put-close.ensures (opened c.before.before.before.before)
 
 put-named-requires : tie.Need-put_named-open-requires
@@ -52,7 +52,7 @@ copy-requires c κs =
 put-requires : tie.Need-put-close-requires
 put-requires c κs =
     let s = start (behind-name c.before.before.before) in
-    (s.pre.1, room-first {xs = nets_text s.args.drives.now} close (laying-left (opened c.before.before.before)))
+    (s.requires.1, room-first {xs = nets_text s.args.drives.now} close (laying-left (opened c.before.before.before)))
 
 copy-requires-2 : tie.Need-copy-requires
 copy-requires-2 c κs = omega (arith, (laying-left (listed c.before.before.before.before.before)).fits)

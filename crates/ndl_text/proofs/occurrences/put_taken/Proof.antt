@@ -28,17 +28,17 @@ behind-name c =
 
 named : (c : tie.After-put-open)
     → let a = (start c).args in
-    Laying (taken_text a.names.now a.refers a.takes.now) (bracketed a.takes.now) a.out.now a.at c.put-open.new.1.1.0 c.put-open.result
+    Laying (taken_text a.names.now a.refers a.takes.now) (bracketed a.takes.now) a.out.now a.at c.put-open.new.out c.put-open.result
 named c = laying-put {rest = bracketed (start c).args.takes.now} c.put-open.ensures (laying-start (start c).requires.3)
 
 opened : (c : tie.After-copy-list)
     → let a = (start (behind-name c)).args in
-    Laying (taken_text a.names.now a.refers a.takes.now) (nets_text a.takes.now ++ close) a.out.now a.at c.copy-list.new.1.0 c.copy-list.result
+    Laying (taken_text a.names.now a.refers a.takes.now) (nets_text a.takes.now ++ close) a.out.now a.at c.copy-list.new.bytes c.copy-list.result
 opened c = laying-put {rest = nets_text (start (behind-name c)).args.takes.now ++ close} c.copy-list.ensures (named (behind-name c))
 
 listed : (c : tie.After-put-close)
     → let a = (start (behind-name c.before.before.before.before)).args in
-    Laying (taken_text a.names.now a.refers a.takes.now) close a.out.now a.at c.put-close.new.1.0 c.put-close.result
+    Laying (taken_text a.names.now a.refers a.takes.now) close a.out.now a.at c.put-close.new.out c.put-close.result
 listed c = laying-put {rest = close} c.put-close.ensures (opened c.before.before.before.before)
 
 put-requires : tie.Need-put-open-requires
@@ -52,7 +52,7 @@ copy-requires c κs =
 put-requires-2 : tie.Need-put-close-requires
 put-requires-2 c κs =
     let s = start (behind-name c.before.before.before) in
-    (s.pre.2, room-first {xs = nets_text s.args.takes.now} close (laying-left (opened c.before.before.before)))
+    (s.requires.2, room-first {xs = nets_text s.args.takes.now} close (laying-left (opened c.before.before.before)))
 
 copy-requires-2 : tie.Need-copy-requires
 copy-requires-2 c κs = omega (arith, (laying-left (listed c.before.before.before.before.before)).fits)

@@ -54,14 +54,14 @@ module _ (c : tie.After-module_at-header) (t : Told c) where
   placed = c.module-at.ensures t.entry t.stands
 
   inputs : Stands (start c).args.numbers.now ((start c).args.from + 2) t.entry.inputs
-  inputs = (module_at t.entry t.stands).inputs ((start c).args.from + 2) refl
+  inputs = (module_at t.entry t.stands).inputs (c.before.before.before.args.from + 2) refl
 
   inputs-part :
       take ((start c).args.from + 2 + c.module-at.result.inputs - ((start c).args.from + 2)) (drop ((start c).args.from + 2) (start c).args.numbers.now)
       ≡ t.entry.inputs
   inputs-part =
-      part-between ((start c).args.from + 2) ((start c).args.from + 2 + c.module-at.result.inputs) inputs
-      (ap (λ (n : ℕ). (start c).args.from + 2 + n) placed.inputs)
+      part-between (c.before.before.before.args.from + 2) (c.before.before.before.args.from + 2 + c.module-at.result.inputs) inputs
+      (ap (λ (n : ℕ). c.before.before.before.args.from + 2 + n) placed.inputs)
 
   outputs-part :
       take (c.module-at.result.to - c.module-at.result.from) (drop c.module-at.result.from (start c).args.numbers.now) ≡ t.entry.outputs
@@ -80,13 +80,13 @@ headed before at after next e f g h = rw (← e, ← f, ← g) h
 divided : (c : tie.After-put_break-head) (t : Told c.before.before.before.before.before)
     → let a = c.args in
     Laying (leading module_break a.position ++ text t.entry) (text t.entry)
-    a.out.now a.at c.put_break-head.new.1.1.0 c.put_break-head.result
+    a.out.now a.at c.put_break-head.new.out c.put_break-head.result
 divided c t = laying-put c.put_break-head.ensures (laying-start (room-of-parts t))
 
 begun : (c : tie.After-put_head-body) (t : Told c.before.before.before.before.before.before.before.before.before.before.before.before)
     → let a = c.args in
     Laying (leading module_break a.position ++ text t.entry) (rest t.entry)
-    a.out.now a.at c.put_head-body.new.1.1.1.0 c.put_head-body.result
+    a.out.now a.at c.put_head-body.new.out c.put_head-body.result
 begun c t =
     laying-put
     (headed _ _ _ _ (module_at t.entry t.stands).number (inputs-part c.before.before.before.before.before.before.before.before.before.before.before t) (outputs-part c.before.before.before.before.before.before.before.before.before.before.before t) c.put_head-body.ensures)
@@ -96,7 +96,7 @@ begun c t =
 abbrev occurrences : (c : tie.After-put_head-body) (t : Told c.before.before.before.before.before.before.before.before.before.before.before.before)
     → let a = c.args in
     let h = c.module_at-header.result in
-    OccurrencesTold a.numbers.now (h.to + 1) h.count c.put_head-body.new.1.1.1.0 c.put_head-body.result
+    OccurrencesTold a.numbers.now (h.to + 1) h.count c.put_head-body.new.out c.put_head-body.result
 occurrences c t =
     record {
       entries = t.entry.occurrences;
@@ -109,7 +109,7 @@ occurrences c t =
 told : (c : tie.After-put_all-pen) (t : Told c.before.before.before.before.before.before.before.before.before.before.before.before.before.before.before.before)
     → let a = c.args in
     Laying (leading module_break a.position ++ text t.entry) close
-    a.out.now a.at c.put_all-pen.new.1.1.1.0 c.put_all-pen.result.at
+    a.out.now a.at c.put_all-pen.new.out c.put_all-pen.result.at
 told c t =
     laying-put {rest = close} (c.put_all-pen.ensures (occurrences c.before.before.before.before t)).put (begun c.before.before.before.before t)
 

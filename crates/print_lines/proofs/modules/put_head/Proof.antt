@@ -23,7 +23,7 @@ from_inputs inputs outputs = apart 32 inputs ++ behind_inputs outputs
 titled : (c : tie.After-put_title-first)
     → let a = c.args in
     Laying (head_part a.number a.inputs.now a.outputs.now) (from_inputs a.inputs.now a.outputs.now) a.out.now a.at
-    c.put_title-first.new.1.0 c.put_title-first.result
+    c.put_title-first.new.out c.put_title-first.result
 titled c =
     let a = c.args in
     laying-put {rest = from_inputs a.inputs.now a.outputs.now} c.put_title-first.ensures (laying-start c.requires.3)
@@ -31,20 +31,20 @@ titled c =
 taking : (c : tie.After-put_apart-second)
     → let a = c.args in
     Laying (head_part a.number a.inputs.now a.outputs.now) (behind_inputs a.outputs.now) a.out.now a.at
-    c.put_apart-second.new.1.1.0 c.put_apart-second.result
+    c.put_apart-second.new.out c.put_apart-second.result
 taking c = laying-put {rest = behind_inputs c.args.outputs.now} c.put_apart-second.ensures (titled c.before.before.before.before)
 
 parting : (c : tie.After-copy-third)
     → let a = c.args in
     Laying (head_part a.number a.inputs.now a.outputs.now) (from_outputs a.outputs.now) a.out.now a.at
-    c.copy-third.new.1.0 c.copy-third.result
+    c.copy-third.new.bytes c.copy-third.result
 parting c =
     laying-put {rest = from_outputs c.args.outputs.now} c.copy-third.ensures (taking c.before.before.before.before.before.before)
 
 giving : (c : tie.After-put_apart-last)
     → let a = c.args in
     Laying (head_part a.number a.inputs.now a.outputs.now) behind_outputs a.out.now a.at
-    c.put_apart-last.new.1.1.0 c.put_apart-last.result
+    c.put_apart-last.new.out c.put_apart-last.result
 giving c = laying-put {rest = behind_outputs} c.put_apart-last.ensures (parting c.before.before.before.before)
 
 put-title-requires : tie.Need-put_title-first-requires

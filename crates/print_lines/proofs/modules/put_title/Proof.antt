@@ -19,12 +19,12 @@ name number = module_name number ++ behind
 
 opened : (c : tie.After-copy-name)
     → let a = c.args in
-    Laying (title_part a.number) (name a.number) a.out.now a.at c.copy-name.new.1.0 c.copy-name.result
+    Laying (title_part a.number) (name a.number) a.out.now a.at c.copy-name.new.bytes c.copy-name.result
 opened c = laying-put {rest = name c.args.number} c.copy-name.ensures (laying-start c.requires.1)
 
 named : (c : tie.After-put_named-end)
     → let a = c.args in
-    Laying (title_part a.number) behind a.out.now a.at c.put_named-end.new.1.1.0 c.put_named-end.result
+    Laying (title_part a.number) behind a.out.now a.at c.put_named-end.new.out c.put_named-end.result
 named c = laying-put {rest = behind} c.put_named-end.ensures (opened c.before.before.before.before)
 
 copy-requires : tie.Need-copy-name-requires

@@ -43,8 +43,8 @@ module _ (c : tie.After-occurrence_at-place) (t : Told c) where
       take ((start c).args.from + 1 + c.occurrence-at.result.drives - ((start c).args.from + 1)) (drop ((start c).args.from + 1) (start c).args.numbers.now)
       ≡ t.entry.drives
   driven-part =
-      part-between ((start c).args.from + 1) ((start c).args.from + 1 + c.occurrence-at.result.drives) placed.driven
-      (ap (λ (n : ℕ). (start c).args.from + 1 + n) placed.drives)
+      part-between (c.before.before.before.args.from + 1) (c.before.before.before.args.from + 1 + c.occurrence-at.result.drives) placed.driven
+      (ap (λ (n : ℕ). c.before.before.before.args.from + 1 + n) placed.drives)
 
   taken-part :
       take (c.occurrence-at.result.to - c.occurrence-at.result.from) (drop c.occurrence-at.result.from (start c).args.numbers.now)
@@ -59,13 +59,13 @@ room-of-parts {position = position} {out = out} {at = at} t =
 parted : (c : tie.After-put_break-driven) (t : Told c.before.before.before.before.before)
     → let a = c.args in
     Laying (leading occurrence_break a.position ++ line t.entry) (line t.entry)
-    a.out.now a.at c.put_break-driven.new.1.1.0 c.put_break-driven.result
+    a.out.now a.at c.put_break-driven.new.out c.put_break-driven.result
 parted c t = laying-put c.put_break-driven.ensures (laying-start (room-of-parts t))
 
 begun : (c : tie.After-put_driven-refers) (t : Told c.before.before.before.before.before.before.before.before.before.before)
     → let a = c.args in
     Laying (leading occurrence_break a.position ++ line t.entry) (taken_part t.entry.refers t.entry.takes)
-    a.out.now a.at c.put_driven-refers.new.1.0 c.put_driven-refers.result
+    a.out.now a.at c.put_driven-refers.new.out c.put_driven-refers.result
 begun c t = laying-put (rw (driven-part c.before.before.before.before.before.before.before.before.before t) at c.put_driven-refers.ensures) (parted c.before.before.before.before.before t)
 
 put-break-requires : tie.Need-put_break-driven-requires

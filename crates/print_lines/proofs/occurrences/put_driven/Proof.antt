@@ -16,12 +16,12 @@ nets drives = apart 32 drives ++ behind_driven
 
 opened : (c : tie.After-copy-nets)
     → let a = c.args in
-    Laying (driven_part a.drives.now) (nets a.drives.now) a.out.now a.at c.copy-nets.new.1.0 c.copy-nets.result
+    Laying (driven_part a.drives.now) (nets a.drives.now) a.out.now a.at c.copy-nets.new.bytes c.copy-nets.result
 opened c = laying-put {rest = nets c.args.drives.now} c.copy-nets.ensures (laying-start c.requires.1)
 
 listed : (c : tie.After-put_apart-end)
     → let a = c.args in
-    Laying (driven_part a.drives.now) behind_driven a.out.now a.at c.put_apart-end.new.1.1.0 c.put_apart-end.result
+    Laying (driven_part a.drives.now) behind_driven a.out.now a.at c.put_apart-end.new.out c.put_apart-end.result
 listed c = laying-put {rest = behind_driven} c.put_apart-end.ensures (opened c.before.before.before.before)
 
 copy-requires : tie.Need-copy-nets-requires

@@ -21,12 +21,12 @@ nets takes = each (signed 32) takes ++ close
 
 named : (c : tie.After-put_name-nets)
     → let a = c.args in
-    Laying (taken_part a.refers a.takes.now) (nets a.takes.now) a.out.now a.at c.put_name-nets.new.1.0 c.put_name-nets.result
+    Laying (taken_part a.refers a.takes.now) (nets a.takes.now) a.out.now a.at c.put_name-nets.new.out c.put_name-nets.result
 named c = laying-put {rest = nets c.args.takes.now} c.put_name-nets.ensures (laying-start c.requires.2)
 
 listed : (c : tie.After-put_more-end)
     → let a = c.args in
-    Laying (taken_part a.refers a.takes.now) close a.out.now a.at c.put_more-end.new.1.1.0 c.put_more-end.result
+    Laying (taken_part a.refers a.takes.now) close a.out.now a.at c.put_more-end.new.out c.put_more-end.result
 listed c = laying-put {rest = close} c.put_more-end.ensures (named c.before.before.before.before)
 
 put-name-requires : tie.Need-put_name-nets-requires

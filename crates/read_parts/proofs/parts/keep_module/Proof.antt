@@ -16,20 +16,20 @@ number c = c.before.before.before.before
 
 named : (c : tie.In-On-2)
     → Reached one read_number c.args.bytes.now c.args.spot c.args.numbers.now
-    c.in-On.spot c.keep_number-named.new.1.1.0
-named c = reached sound-number c.requires c.in-On.is c.keep_number-named.ensures
+    c.named-1.given.0.0 c.keep_number-named.new.numbers
+named c = reached sound-number c.requires c.named-1.given.1 c.keep_number-named.ensures
 
 inputs : (c : tie.In-On-inputs-2)
     → Reached list_numbers read_nets c.args.bytes.now
-    c.in-On.spot c.keep_number-named.new.1.1.0
-    c.in-On-inputs.spot c.keep_nets-inputs.new.1.1.0
-inputs c = reached sound-nets (named c.before.before.before.before.before.before.before).stands c.in-On-inputs.is c.keep_nets-inputs.ensures
+    c.named-1.given.0.0 c.keep_number-named.new.numbers
+    c.inputs-1.given.0.0 c.keep_nets-inputs.new.numbers
+inputs c = reached sound-nets (named c.before.before.before.before.before.before.before).stands c.inputs-1.given.1 c.keep_nets-inputs.ensures
 
 outputs : (c : tie.In-On-outputs-2)
     → Reached list_numbers read_nets c.args.bytes.now
-    c.in-On-inputs.spot c.keep_nets-inputs.new.1.1.0
-    c.in-On-outputs.spot c.keep_nets-outputs.new.1.1.0
-outputs c = reached sound-nets (inputs c.before.before.before.before.before.before.before).stands c.in-On-outputs.is c.keep_nets-outputs.ensures
+    c.inputs-1.given.0.0 c.keep_nets-inputs.new.numbers
+    c.outputs-1.given.0.0 c.keep_nets-outputs.new.numbers
+outputs c = reached sound-nets (inputs c.before.before.before.before.before.before.before).stands c.outputs-1.given.1 c.keep_nets-outputs.ensures
 
 returns : tie.Need-returns-in_default
 returns c =

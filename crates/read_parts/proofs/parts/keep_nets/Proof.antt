@@ -9,8 +9,8 @@ use Rattle.read_parts.proofs.parts.keep_nets.Tie as tie
 -- The count is laid out, and reading stands behind it.
 there : (c : tie.In-On-2)
     → CountTaken most_nets c.args.bytes.now c.args.spot c.args.numbers.now
-    c.in-On.next c.keep_count-way.new.1.1.1.0
-there c = counted most_nets c.requires c.in-On.is c.keep_count-way.ensures
+    c.way-1.given.0.0 c.keep_count-way.new.numbers
+there c = counted most_nets c.requires c.way-1.given.1 c.keep_count-way.ensures
 
 returns : tie.Need-returns-in_default
 unfolding read_nets

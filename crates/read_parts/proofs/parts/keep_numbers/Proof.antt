@@ -20,11 +20,11 @@ turn c = c.before.before
 
 returns : tie.Need-returns-in_default invariant-loop decreases-loop
 returns c =
-    turn-refused c.loop-left.invariant c.loop-left-test.taken c.in_default.is c.keep_number-way.ensures
+    turn-refused c.loop-left.invariant c.loop-left-test.true c.in_default.is c.keep_number-way.ensures
 
 loop-again : tie.Need-loop-left-preserved invariant-loop decreases-loop
 loop-again c =
-    turn-next c.loop-left.invariant c.loop-left-test.taken
+    turn-next c.loop-left.invariant c.loop-left-test.true
     (reached sound-number c.loop-left.invariant.stands c.in-On.is c.keep_number-way.ensures)
 
 pub keep_numbers_spec : {M : Type 1} → statement M

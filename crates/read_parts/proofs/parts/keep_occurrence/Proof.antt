@@ -15,8 +15,8 @@ nets c = c.before.before.before.before
 
 driven : (c : tie.In-On-2)
     → Reached list_numbers read_nets c.args.bytes.now c.args.spot c.args.numbers.now
-    c.in-On.spot c.keep_nets-driven.new.1.1.0
-driven c = reached sound-nets c.requires c.in-On.is c.keep_nets-driven.ensures
+    c.driven-1.given.0.0 c.keep_nets-driven.new.numbers
+driven c = reached sound-nets c.requires c.driven-1.given.1 c.keep_nets-driven.ensures
 
 -- The number is read: the call that reads it, and where reading stood.
 abbrev number : tie.In-On-refers-2 → tie.After-keep_number-refers
@@ -24,9 +24,9 @@ number c = c.before.before.before.before
 
 refers : (c : tie.In-On-refers-2)
     → Reached one read_number c.args.bytes.now
-    c.in-On.spot c.keep_nets-driven.new.1.1.0
-    c.in-On-refers.spot c.keep_number-refers.new.1.1.0
-refers c = reached sound-number (driven c.before.before.before.before.before.before.before).stands c.in-On-refers.is c.keep_number-refers.ensures
+    c.driven-1.given.0.0 c.keep_nets-driven.new.numbers
+    c.refers-1.given.0.0 c.keep_number-refers.new.numbers
+refers c = reached sound-number (driven c.before.before.before.before.before.before.before).stands c.refers-1.given.1 c.keep_number-refers.ensures
 
 returns : tie.Need-returns-in_default
 returns c =

@@ -78,7 +78,7 @@ mark_body_spec =
     let read = c.before.before in
     let loop = head read in
     let at = loop.loop.at in
-    indexed _ (part_small (at + 1 + read.occurrence-at.result.drives - (at + 1)) (at + 1) (begun loop).pre.small) (loop.loop.inv.0 ∙ (begun loop).pre.wide))
+    indexed _ (part_small (at + 1 + read.occurrence-at.result.drives - (at + 1)) (at + 1) (begun loop).requires.small) (loop.loop.inv.0 ∙ (begun loop).requires.wide))
     (λ c. let t = now c.before.before.before.before.before c.requires in omega (arith, takes-within t, t.read.to, c.before.before.before.before.before.before.before.before.before.before.good))
     (λ c. let t = now c.before.before.before.before.before c.requires in omega (arith, t.read.to))
     (λ c. let t = now c.before.before.before.before.before c.requires in omega (arith, t.read.to))
@@ -87,7 +87,7 @@ mark_body_spec =
     let first = c.before.before.before.before in
     let loop = head (seen first) in
     let place = (seen first).occurrence-at.result in
-    indexed _ (part_small (place.to - place.from) place.from (begun loop).pre.small) (first.mark.auto.1.0 ∙ loop.loop.inv.0 ∙ (begun loop).pre.wide))
+    indexed _ (part_small (place.to - place.from) place.from (begun loop).requires.small) (first.mark.auto.1.0 ∙ loop.loop.inv.0 ∙ (begun loop).requires.wide))
     (λ c. let read = seen (marked c.before.before) in read.before.loop-test.taken)
     (λ c. let read = seen (marked c.before.before) in omega (arith, read.before.loop-test.taken))
     loop-again

@@ -104,17 +104,17 @@ put_body_spec =
     (λ c. let s = c.requires in omega (arith, (found c s).low))
     (λ c κs.
     let seen = (test c).before in
-    let s = (begun (head seen)).pre in
+    let s = (begun (head seen)).requires in
     seekable-next s.w ((head seen).loop.inv s) (now seen s) (told (test c)) (found c s))
     (λ c κs.
     let seen = (test c.before).before in
-    let s = (begun (head seen)).pre in
+    let s = (begun (head seen)).requires in
     (in_net s.w ((head seen).loop.inv s) (now seen s) (told (test c.before)), in_takes s.w ((head seen).loop.inv s) (now seen s) (told (test c.before))))
     (λ c. let s = c.requires in omega (arith, (found c.before.before s).low))
     (λ c. let s = c.requires in omega (arith, (found-next c.before s).low))
     put-three-requires
     (λ c. let s = c.requires in omega (arith, (found-next c.before.before.before.before.before s).low))
-    (λ c. omega (arith, c.loop-left-test.taken))
+    (λ c. omega (arith, c.loop-left-test.true))
     loop-again
     (λ c. let s = c.requires in omega (arith, (stays_here c s).within, (now c.before s).read.next, c.before.before.before.before.before.before.before.before.good))
     (λ c. let s = c.requires in omega (arith, (now c.before s).read.next))

@@ -35,7 +35,7 @@ returns c s =
     (omega (arith, h.inputs)) refl)
     (outputs-part s.m s.stands (one.before.before.before.before.module-at.result.to - one.before.before.before.before.module-at.result.from) one.before.before.before.before.module-at.result.from
     (omega (arith, h.from, h.to)) h.from)
-    (c.mark_body.ensures (record { os = s.m.occurrences; stands = h.body; many = h.count; small = s.small; wide = c.mark-2.kept.1.0 ∙ one.mark.kept.1.0 ∙ s.wide }) _
+    (c.mark_body.ensures (record { os = s.m.occurrences; stands = h.body; many = h.count; small = s.small; wide = c.mark-2.kept.table ∙ one.mark.kept.1.0 ∙ s.wide }) _
     (c.mark-2.ensures _ (one.mark.ensures _ (none-stamped s.older))))
 
 pub mark_module_spec : {M : Type 1} → statement M
@@ -60,15 +60,15 @@ mark_module_spec =
     (λ c κs.
     let one = c.before.before.before.before in
     let r = read one in
-    let s = (start r).pre in
+    let s = (start r).requires in
     let h = r.module-at.result in
     indexed _ (part_small (h.to - h.from) h.from s.small) (one.mark.auto.1.0 ∙ s.wide))
-    (λ c. let r = read (first c.before.before) in let s = r.before.before.before.pre in omega (arith, (parts s.m s.stands).end, (header r s).from, (header r s).to, r.before.before.before.good))
+    (λ c. let r = read (first c.before.before) in let s = r.before.before.before.requires in omega (arith, (parts s.m s.stands).end, (header r s).from, (header r s).to, r.before.before.before.good))
     (λ c κs.
     let second = c.before.before.before in
     let one = first second in
     let r = read one in
-    let s = (start r).pre in
+    let s = (start r).requires in
     let h = header r s in
     record { os = s.m.occurrences; stands = h.body; many = h.count; small = s.small; wide = second.mark2.auto.1.0 ∙ one.mark.kept.1.0 ∙ s.wide })
     (λ c. search rules)

@@ -85,7 +85,7 @@ module _
         }
 
 -- The buffer is as long as it was lent.
-same-long : (c : tie.After-put-at invariant-loop decreases-loop) → length c.put-at.new.1.0 ≡ length (start c).args.out.now
+same-long : (c : tie.After-put-at invariant-loop decreases-loop) → length c.put-at.new.out ≡ length (start c).args.out.now
 same-long c = c.put-at.auto.1.0
 
 -- At a turn, of what the function was lent.
@@ -94,7 +94,7 @@ module _ (t : tie.In-loop-k invariant-loop decreases-loop) where
   lent = (begun t).requires
 
   abbrev long : length (put_of t.before).put.last.1.0 ≡ length (begun t).args.out.now
-  long = same-long (put_of t.before)
+  long = same-long t.before.before.before.before
 
   low : t.before.loop.k < length lent.ms
   low = inside t _ lent long
@@ -163,7 +163,7 @@ put_file_spec =
     (λ c. omega (arith, c.requires.all, c.requires.few))
     (λ c κs.
     let first = let known = c.before.before.before in known.before.before.before.before in
-    let s = first.pre in
+    let s = first.requires in
     let long = ap length (file-long s.ms first.args.modules s.all) ∙ length-append (number_bytes first.args.modules) (each module_bytes (rewrite_file s.ms)) in
     (omega (arith, s.all, s.few), omega (arith, s.room, long)))
     (λ c.
@@ -196,7 +196,7 @@ put_file_spec =
     (λ c κs. writable c.before.before.before.before.before.before _ (lent c.before.before.before.before.before.before) (long c.before.before.before.before.before.before))
     (λ c. let t = putting c.before.before.before in omega (arith, t.loop-test.taken))
     loop-again-2
-    (λ c. laying-length (c.loop-k.invariant.2 _ (start c.before.before.before.before).pre (same-long c.before.before.before.before)) ∙ same-long c.before.before.before.before)
+    (λ c. laying-length (c.loop-k.invariant.2 _ (start c.before.before.before.before).requires (same-long c.before.before.before.before)) ∙ same-long c.before.before.before.before)
     (λ c s.
     let put = put_of c.before in
     let none = drop_of_length-le s.ms {i = c.before.loop.k} (omega (arith, c.loop-test.false, s.all)) in

@@ -58,7 +58,7 @@ part c s = front-part s.there.m s.there.stands _ (long c s)
 
 fronted :
     (c : tie.After-put_list-front) (s : Asked c.before.before.before)
-    → Laying (whole c.before.before.before s) (number_bytes (count c.before.before.before s) ++ body c.before.before.before s) (start c.before.before.before.before.before.before).args.out.now (start c.before.before.before.before.before.before).args.to c.put_list-front.new.1.0 c.put_list-front.result
+    → Laying (whole c.before.before.before s) (number_bytes (count c.before.before.before s) ++ body c.before.before.before s) (start c.before.before.before.before.before.before).args.out.now (start c.before.before.before.before.before.before).args.to c.put_list-front.new.bytes c.put_list-front.result
 fronted c s =
     laying-more (begun c.before.before.before s) (each number_bytes (front s.there.m)) (number_bytes (count c.before.before.before s) ++ body c.before.before.before s) (module-bytes s.there.m)
     (rw (part c.before.before.before s) at c.put_list-front.ensures)
@@ -73,7 +73,7 @@ same_count c s = omega (arith, (header c s).count, s.owned)
 counted :
     (c : tie.After-put-counted) (s : Asked (read (front_of c)))
     → Laying (whole (read (front_of c)) s) (body (read (front_of c)) s) (start (marked (read (front_of c)))).args.out.now (start (marked (read (front_of c)))).args.to
-    c.put-counted.new.1.0 c.put-counted.result
+    c.put-counted.new.out c.put-counted.result
 counted c s =
     laying-more (fronted (front_of c) s) (number_bytes (count (read (front_of c)) s)) (body (read (front_of c)) s) refl
     (rw (same_count (read (front_of c)) s) at c.put-counted.ensures)
@@ -81,7 +81,7 @@ counted c s =
 roomy :
     (c : tie.After-put-counted) (s : Asked (read (front_of c)))
     → Roomy (start (marked (read (front_of c)))).args.numbers.now ((read (front_of c)).module-at.result.to + 1) (read (front_of c)).module-at.result.count
-    (marked (read (front_of c))).mark-module.new.1.1.0 (start (marked (read (front_of c)))).args.stamp (length c.put-counted.new.1.0) c.put-counted.result
+    (marked (read (front_of c))).mark-module.new.1.1.0 (start (marked (read (front_of c)))).args.stamp (length c.put-counted.new.out) c.put-counted.result
 unfolding unused
 roomy c s =
     let r = read (front_of c) in

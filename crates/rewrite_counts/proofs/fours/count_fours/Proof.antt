@@ -67,11 +67,11 @@ count_fours_spec =
     decreases-loop
     (λ c. (omega arith, refl, refl, λ s. counted_none s.rs _ _ _ (omega (arith, s.all)) s.reached_long))
     (λ c. c.loop-k-test.true)
-    (λ c κs. let s = (start c.before).pre in reaching s (low c.before s) (behind c.before s).tabled)
-    (λ c. let s = (start c.before.before).pre in omega (arith, in-own c.before.before s))
-    (λ c. let s = (start c.before.before).pre in in-own c.before.before s)
-    (λ c. let s = (start c.before.before).pre in omega (arith, in-reached c.before.before s))
-    (λ c. let s = (start c.before.before).pre in in-reached c.before.before s)
+    (λ c κs. let s = (start c.before).requires in reaching s (low c.before s) (behind c.before s).tabled)
+    (λ c. let s = (start c.before.before).requires in omega (arith, in-own c.before.before s))
+    (λ c. let s = (start c.before.before).requires in in-own c.before.before s)
+    (λ c. let s = (start c.before.before).requires in omega (arith, in-reached c.before.before s))
+    (λ c. let s = (start c.before.before).requires in in-reached c.before.before s)
     (λ c. omega (arith, c.loop-k-test.true))
     loop-again
     (λ c. c.loop-k.invariant.1)

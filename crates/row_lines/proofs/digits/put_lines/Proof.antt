@@ -30,7 +30,7 @@ room c =
 
 loop-again : tie.Need-loop-row-preserved invariant-loop decreases-loop
 loop-again c =
-    lays_more c.loop-row.invariant c.loop-row-test.taken c.if-values-from.left c.if-out-at.left c.put_line-at.ensures
+    lays_more c.loop-row.invariant c.loop-row-test.true c.if-values-from.false c.if-out-at.false c.put_line-at.ensures
 
 pub put_lines_spec : {M : Type 1} → statement M
 put_lines_spec =

@@ -34,8 +34,8 @@ found_here c =
 
 row : (c : tie.In-Row invariant-loop decreases-loop)
     → let s = c.args in
-    FoundRow s.inputs (drop c.loop-rows.next s.text.now) c.in-Row.bare c.in-Row.whole
-row c = found-row _ _ (sym (found_here c.before.before.before) ∙ c.in-Row.is)
+    FoundRow s.inputs (drop c.loop-rows.next s.text.now) c.bare-1.given.0.0 c.bare-1.given.0.1.0
+row c = found-row _ _ (sym (found_here c.before.before.before) ∙ c.bare-1.given.1)
 
 -- The row ends inside the text.
 end-inside : tie.Need-slice_bounds-put_at-end invariant-loop decreases-loop
@@ -45,18 +45,18 @@ end-inside c =
     omega (arith, c.loop-rows.invariant.inside, (row c).inside, (row c).within, length-drop next s.text.now)
 
 next-inside : (c : tie.In-Row invariant-loop decreases-loop)
-    → c.loop-rows.next + c.in-Row.whole ≤ length c.args.text.now
+    → c.loop-rows.next + c.bare-1.given.0.1.0 ≤ length c.args.text.now
 next-inside c =
     let s = c.args in
     omega (arith, c.loop-rows.invariant.inside, (row c).within, length-drop c.loop-rows.next s.text.now)
 
 loop-again : tie.Need-loop-rows-preserved invariant-loop decreases-loop
 loop-again c =
-    taking-row c.loop-rows.invariant c.loop-rows-test.taken c.if-values-given.false (row c.before.before.before.before.before) c.put_at-given.ensures
+    taking-row c.loop-rows.invariant c.loop-rows-test.true c.if-values-given.false (row c.before.before.before.before.before) c.put_at-given.ensures
 
 returns : tie.Need-returns-in-Stop invariant-loop decreases-loop
 returns c =
-    taking-found c.loop-rows.invariant c.loop-rows-test.taken c.if-values-given.false (sym (found_here c.before) ∙ c.in-Stop.is)
+    taking-found c.loop-rows.invariant c.loop-rows-test.true c.if-values-given.false (sym (found_here c.before) ∙ c.in-Stop.is)
 
 pub take_rows_spec : {M : Type 1} → statement M
 take_rows_spec =

@@ -23,10 +23,10 @@ loop-again c =
     let w = c.args.word.now in
     ⊎_elim
     (λ a.
-    let one = value-here w l.i c.loop-i-test.taken (omega (arith, c.mark_of.ensures, a.0.taken)) in
+    let one = value-here w l.i c.loop-i-test.true (omega (arith, c.mark_of.ensures, a.0.taken)) in
     (omega arith, omega (arith, a.1), omega (arith, a.1, ap length one)))
     (λ a.
-    let none = no_value-here w l.i c.loop-i-test.taken (omega (arith, c.mark_of.ensures, a.0.left)) in
+    let none = no_value-here w l.i c.loop-i-test.true (omega (arith, c.mark_of.ensures, a.0.left)) in
     (omega arith, omega (arith, a.1), omega (arith, a.1, ap length none)))
     c.if-mark_of-lt-GAP.branch
 

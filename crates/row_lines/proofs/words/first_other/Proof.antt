@@ -34,12 +34,12 @@ none word i h = ap first_other (drop_of_length-le word h)
 returns : tie.Need-returns-then-mark_of-eq-OTHER invariant-loop decreases-loop
 returns c =
     let w = c.args.word.now in
-    omega (arith, c.loop-i.invariant.1, here w c.loop-i.i c.loop-i-test.taken (sym c.mark_of.ensures ∙ c.if-mark_of-eq-OTHER.true))
+    omega (arith, c.loop-i.invariant.1, here w c.loop-i.i c.loop-i-test.true (sym c.mark_of.ensures ∙ c.if-mark_of-eq-OTHER.true))
 
 loop-again : tie.Need-loop-i-preserved invariant-loop decreases-loop
 loop-again c =
     let w = c.args.word.now in
-    let rest = further w c.loop-i.i c.loop-i-test.taken (λ e. c.if-mark_of-eq-OTHER.false (c.mark_of.ensures ∙ e)) in
+    let rest = further w c.loop-i.i c.loop-i-test.true (λ e. c.if-mark_of-eq-OTHER.false (c.mark_of.ensures ∙ e)) in
     (omega arith, omega (arith, c.loop-i.invariant.1, rest))
 
 returns-2 : tie.Need-returns invariant-loop decreases-loop

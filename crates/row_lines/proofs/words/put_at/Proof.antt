@@ -70,15 +70,15 @@ loop-again c =
     let w = c.args.word.now in
     ⊎_elim
     (λ a.
-    let one = value-here w l.i c.loop-i-test.taken (omega (arith, c.mark_of-mark.ensures, a.0.taken)) in
-    puts-value l.inv c.loop-i-test.taken
+    let one = value-here w l.i c.loop-i-test.true (omega (arith, c.mark_of-mark.ensures, a.0.taken)) in
+    puts-value l.inv c.loop-i-test.true
     (one ∙ ap (λ (m : ℕ). m ∷ values_of (drop (l.i + 1) w)) (sym c.mark_of-mark.ensures))
     a.1.left
     a.2
     a.3)
     (λ a.
-    let none = no_value-here w l.i c.loop-i-test.taken (omega (arith, c.mark_of-mark.ensures, a.0.left)) in
-    puts_none l.inv c.loop-i-test.taken none a.1 a.2)
+    let none = no_value-here w l.i c.loop-i-test.true (omega (arith, c.mark_of-mark.ensures, a.0.left)) in
+    puts_none l.inv c.loop-i-test.true none a.1 a.2)
     c.if-mark-lt-GAP.branch
 
 same_length : tie.Need-shape_of-values-then-at-values invariant-loop decreases-loop

@@ -31,12 +31,12 @@ take-block-requires c κs =
 
 run-module-requires : tie.Need-run_module-requires
 run-module-requires c κs =
-    let b = (start c.before.before.before.before).pre in
+    let b = (start c.before.before.before.before).requires in
     runs b (c.module_at-header.ensures (scene b.standing).m (module_stands (scene b.standing))) refl c.take_block.ensures
 
 give-block-requires : tie.Need-give_block-requires
 give-block-requires c κs =
-    let b = (start c.before.before.before.before.before.before.before).pre in
+    let b = (start c.before.before.before.before.before.before.before).requires in
     let header = c.module_at-header.ensures (scene b.standing).m (module_stands (scene b.standing)) in
     gives b header refl c.take_block.ensures (c.run_module.ensures (runs b header refl c.take_block.ensures))
     c.run_module.auto.1.1.1.1.0

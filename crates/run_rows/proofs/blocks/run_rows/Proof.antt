@@ -74,7 +74,7 @@ read-place :
     (c : tie.After-least-some invariant-loop decreases-loop)
     → c.loop-done.done * c.module_at-header.result.inputs ≤ length (began c.before.before.before.before).args.values.now
 read-place c =
-    let s = (began c.before.before.before.before).pre in
+    let s = (began c.before.before.before.before).requires in
     omega (arith, read-there s c.loop-done.done c.least-some.result (upto c) (ins c.before.before s) (outs c.before.before s))
 
 write-place :
@@ -82,12 +82,12 @@ write-place :
     → let h = c.module_at-header.result in
     c.loop-done.done * (h.to - h.from) ≤ length (began c.before.before.before.before).args.out.now
 write-place c =
-    let s = (began c.before.before.before.before).pre in
+    let s = (began c.before.before.before.before).requires in
     omega (arith, write-there s c.loop-done.done c.least-some.result (upto c) (ins c.before.before s) (outs c.before.before s))
 
 run-block-requires : tie.Need-run_block-requires invariant-loop decreases-loop
 run-block-requires c κs =
-    let s = (began c.before.before.before.before.before.before).pre in
+    let s = (began c.before.before.before.before.before.before).requires in
     turn-runs s c.loop-done.done c.least-some.result (upto c.before.before) (ins c.before.before.before.before s) (outs c.before.before.before.before s) (few c.before.before) c.loop-done.invariant.same c.loop-done.invariant.size
 
 loop-again : tie.Need-loop-done-preserved invariant-loop decreases-loop
@@ -113,7 +113,7 @@ run_rows_spec =
     (λ c. omega (arith, in_starts (scene c.requires.standing)))
     (λ c. in_starts (scene c.requires.standing))
     (λ c κs. module_there (scene c.requires.standing))
-    (λ c. omega (arith, outputs-are (began c.before).pre.standing c.module_at-header.ensures))
+    (λ c. omega (arith, outputs-are (began c.before).requires.standing c.module_at-header.ensures))
     loop-holds
     (λ c. omega (arith, c.loop-done-test.true))
     (λ c κs. search rules)

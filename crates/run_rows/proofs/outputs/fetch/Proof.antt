@@ -49,7 +49,7 @@ loop-again c =
     let l = c.loop-j in
     let p = c.requires in
     let a = c.args in
-    let taken = c.loop-j-test.taken in
+    let taken = c.loop-j-test.true in
     record {
       until = omega (arith, taken);
       lows =
@@ -75,16 +75,16 @@ fetch_spec =
     (λ c κs. let p = c.requires in (omega (arith, p.one), p.place))
     (λ c.
     let turn = c.before.before.before in
-    omega (arith, turn.before.loop.invariant.lows.size, (start turn.before).pre.low-long, turn.loop-test.true))
+    omega (arith, turn.before.loop.invariant.lows.size, (start turn.before).requires.low-long, turn.loop-test.true))
     (λ c. let h = slot-inside c.before.before in omega arith)
     (λ c. slot-inside c.before.before)
     (λ c. omega (arith, c.requires.one))
     (λ c κs.
     let read = c.before.before.before in
-    let p = (start read.before.before).pre in (omega (arith, p.one), p.place))
+    let p = (start read.before.before).requires in (omega (arith, p.one), p.place))
     (λ c.
     let turn = (slot c).before in
-    omega (arith, turn.before.loop.inv.highs.size, (start turn.before).pre.high-long, turn.loop-test.taken))
+    omega (arith, turn.before.loop.inv.highs.size, (start turn.before).requires.high-long, turn.loop-test.taken))
     (λ c. omega (arith, c.loop-j-test.true))
     (λ c. omega (arith, c.loop-j-test.true))
     loop-again

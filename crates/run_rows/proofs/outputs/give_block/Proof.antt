@@ -58,7 +58,7 @@ loop-again : tie.Need-loop-done-preserved invariant-loop decreases-loop
 loop-again c =
     let l = c.loop-done in
     let a = c.args in
-    let taken = c.loop-done-test.taken in
+    let taken = c.loop-done-test.true in
     let some = c.least-some.result in
     let few : some ≤ 8 = omega (arith, c.least-some.ensures) in
     let upto : l.done + some ≤ a.count = omega (arith, c.least-some.ensures, taken) in
@@ -86,8 +86,8 @@ give_block_spec =
     (λ c. omega (arith, there c, c.before.before.before.before.before.good))
     (λ c. omega (arith, there c, c.before.before.before.before.before.good))
     give-some-requires
-    (λ c. omega (arith, c.least-some.ensures, c.loop-done-test.taken))
-    (λ c. omega (arith, c.least-some.ensures, c.loop-done-test.taken))
+    (λ c. omega (arith, c.least-some.ensures, c.loop-done-test.true))
+    (λ c. omega (arith, c.least-some.ensures, c.loop-done-test.true))
     loop-again
     (λ c. c.loop-done.invariant.size)
     (λ c g.

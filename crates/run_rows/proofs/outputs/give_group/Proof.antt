@@ -69,7 +69,7 @@ loop-again c =
       until = omega (arith, taken);
       here = omega (arith, l.invariant.here, ap (λ (n : ℕ). n * a.outputs) (add-one l.r), suc-mul l.r a.outputs);
       size =
-          same_len_mid l.place (l.place + a.outputs - l.place) l.out c.give_row.new.1.1.1.0 c.give_row.auto.1.1.1.0
+          same_len_mid l.place (l.place + a.outputs - l.place) l.out c.give_row.new.out c.give_row.auto.1.1.1.0
           ∙ l.invariant.size;
       laid_so = λ g.
           row_more g a.out.now refl (l.invariant.laid_so g) l.invariant.here refl taken

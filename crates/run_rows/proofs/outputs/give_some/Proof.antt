@@ -26,7 +26,7 @@ fetch-requires c κs =
 give-group-requires : tie.Need-give_group-requires
 give-group-requires c κs =
     let f = fetched c in
-    let g = f.before.before.before.before.before.pre in
+    let g = f.before.before.before.before.before.requires in
     let all = length-replicate {A = ℕ} 192 0 in
     shown-group g f.fetch.ensures.0 f.fetch.ensures.1 (omega (arith, g.narrow, all)) (omega (arith, g.narrow, all)) refl
 

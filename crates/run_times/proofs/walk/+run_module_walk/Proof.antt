@@ -31,22 +31,20 @@ module _ (t : ℕ) where
   abbrev began :
       run-module-lts.After-module_at-header (run-module-claims t) (run-module-at t) run-module.Post
       → run-module-lts.Start (run-module-claims t) (run-module-at t) run-module.Post
-  began c = let known = c.before.before.before in known.before.before.before.before
+  began c = c.before.before.before.before.before.before.before
 
   abbrev walkable :
       (c : run-module-lts.After-module_at-header (run-module-claims t) (run-module-at t) run-module.Post) {scratch : List ℕ}
       → let a = (began c).args in
       (s : Runnable a.image.now a.starts.now a.nets.now a.k scratch)
-      → Walkable a.image.now a.starts.now a.nets.now a.k c.module-at.result scratch
-  walkable c s = record { runnable = s; header = c.module-at.ensures s.scene.m (module_stands s.scene) }
+      → Walkable a.image.now a.starts.now a.nets.now a.k c.module_at-header.result scratch
+  walkable c s = record { runnable = s; header = c.module_at-header.ensures s.scene.m (module_stands s.scene) }
 
 -- `walk`, whose measure is t.
 module _ (t : ℕ) where
   add_at : walk-lts.Need-overflow_add-at (walk-claims t) (walk_at t) walk.Post Inv-loop μ-loop
   add_at c =
-      let known = c.before.before.before in
-      let from = known.before.before.before.before in
-      omega (arith, from.requires.1.0.header.body.within, from.well-formed)
+      omega (arith, c.requires.1.0.header.body.within, c.well-formed)
 
   add-filled : walk-lts.Need-overflow_add-filled (walk-claims t) (walk_at t) walk.Post Inv-loop μ-loop
   add-filled c =
@@ -58,13 +56,13 @@ module _ (t : ℕ) where
       (c : walk-lts.After-at_gate-times (walk-claims t) (walk_at t) walk.Post Inv-loop μ-loop)
       → let l = (gate-read t c.before.before.before).before.before.loop in
       l.filled < length l.units
-  in-units c = let gate = c.before.before.before in turns.gate-room (units-own t (gate-read t gate)) (gate-kind t gate)
+  in-units c = turns.gate-room (units-own t (gate-read t c.before.before.before)) (gate-kind t c.before.before.before)
 
   in-others :
       (c : walk-lts.After-at_gate-times (walk-claims t) (walk_at t) walk.Post Inv-loop μ-loop)
       → let l = (gate-read t c.before.before.before).before.before.loop in
       l.filled < length l.others
-  in-others c = let gate = c.before.before.before in turns.gate-room (others-own t (gate-read t gate)) (gate-kind t gate)
+  in-others c = turns.gate-room (others-own t (gate-read t c.before.before.before)) (gate-kind t c.before.before.before)
 
   mul-units : walk-lts.Need-offset_bounds-units-here (walk-claims t) (walk_at t) walk.Post Inv-loop μ-loop
   mul-units c =
@@ -78,11 +76,10 @@ module _ (t : ℕ) where
 
   loop-again : walk-lts.Need-loop-left-preserved-in-Gate (walk-claims t) (walk_at t) walk.Post Inv-loop μ-loop
   loop-again c =
-      let gate = c.before.before.before in
-      let read = gate-read t gate in
+      let read = gate-read t c.before.before.before in
       let inv = read.before.before.loop.inv in (
-        λ s ahead. turns.turn-gate (here t read inv.0 s ahead) (gate-kind t gate) c.at-gate.ensures.0,
-        λ s ahead. turns.turn-gate (here t read inv.1 s ahead) (gate-kind t gate) c.at-gate.ensures.1,
+        λ s ahead. turns.turn-gate (here t read inv.0 s ahead) (gate-kind t c.before.before.before) c.at_gate-times.ensures.0,
+        λ s ahead. turns.turn-gate (here t read inv.1 s ahead) (gate-kind t c.before.before.before) c.at_gate-times.ensures.1,
       )
 
   -- At a module, once its arguments are passed: its parts of the lists begin within them.
@@ -94,47 +91,43 @@ module _ (t : ℕ) where
 
   lent-others : walk-lts.Need-slice_bounds-run_module-count-then-o-gt0 (walk-claims t) (walk_at t) walk.Post Inv-loop μ-loop
   lent-others c =
-      let passed = c.before.before.before in
-      let told = passed-from t (passed-one t passed) in
-      modules.lent-inside (others-own t (module-read t told)) (module-kind t told) passed.copy2.ensures
+      let told = passed-from t (passed-one t c.before.before.before) in
+      modules.lent-inside (others-own t (module-read t told)) (module-kind t told) c.copy-then-o-gt0.ensures
 
   mul-lent-units : walk-lts.Need-offset_bounds-units-frame (walk-claims t) (walk_at t) walk.Post Inv-loop μ-loop
   mul-lent-units c =
       let read = module-read t (passed-from t (passed-one t c.before.before)) in
       let from = start t read.before.before in
       let now = units-own t read in
-      omega (arith, frame_is from.pre.1.0.runnable.scene, turns.enough now, now.progress.size, from.good)
+      omega (arith, frame_is from.requires.1.0.runnable.scene, turns.enough now, now.progress.size, from.good)
 
   mul-lent-others : walk-lts.Need-offset_bounds-others-frame (walk-claims t) (walk_at t) walk.Post Inv-loop μ-loop
   mul-lent-others c =
       let read = module-read t (passed-from t (passed-one t c.before.before.before)) in
       let from = start t read.before.before in
       let now = others-own t read in
-      omega (arith, frame_is from.pre.1.1.runnable.scene, turns.enough now, now.progress.size, from.good)
+      omega (arith, frame_is from.requires.1.1.runnable.scene, turns.enough now, now.progress.size, from.good)
 
   run-module-requires : walk-lts.Need-run_module-requires (walk-claims t) (walk_at t) walk.Post Inv-loop μ-loop
   run-module-requires c κs =
-      let both = c.before.before.before.before in
-      let one = passed-one t both in
+      let one = passed-one t c.before.before.before.before in
       let told = passed-from t one in
       let read = module-read t told in (
-        omega (arith, modules.falls (units-own t read) (module-kind t told), (start t read.before.before).pre.0),
+        omega (arith, modules.falls (units-own t read) (module-kind t told), (start t read.before.before).requires.0),
         (
           modules.calls (units-own t read) (module-kind t told) one.copy.ensures,
-          modules.calls (others-own t read) (module-kind t told) both.copy2.ensures,
+          modules.calls (others-own t read) (module-kind t told) c.copy-then-o-gt0.ensures,
         ),
       )
 
   copy-requires-3 : walk-lts.Need-copy-requires-then-o-gt0-2 (walk-claims t) (walk_at t) walk.Post Inv-loop μ-loop
   copy-requires-3 c κs =
-      let lent = c.before.before in
-      let ran = lent.before.before.before in
-      let one = passed-one t (passed-both t ran) in
+      let one = passed-one t (passed-both t c.before.before.before.before.before) in
       let told = passed-from t one in
       let now = units-own t (module-read t told) in
       let kind = module-kind t told in
-      modules.fetches now kind one.copy.ensures ran.run-module.new.1.1.1.1.1.0
-      ran.run-module.auto.1.1.1.1.1.0
+      modules.fetches now kind one.copy.ensures c.run_module.new.units
+      c.run_module.auto.1.1.1.1.1.0
       (one.before.before.module-at.ensures (modules.sub now kind).m (module_stands (modules.sub now kind)))
 
   copy-requires-4 : walk-lts.Need-copy-requires-then-o-gt0-3 (walk-claims t) (walk_at t) walk.Post Inv-loop μ-loop
@@ -151,8 +144,7 @@ module _ (t : ℕ) where
 
   loop-again-2 : walk-lts.Need-loop-left-preserved-then-o-gt0 (walk-claims t) (walk_at t) walk.Post Inv-loop μ-loop
   loop-again-2 c =
-      let fetched = c.before.before in
-      let ran = ran-before t (fetched_one t fetched) in
+      let ran = ran-before t (fetched_one t c.before.before) in
       let both = passed-both t ran in
       let one = passed-one t both in
       let told = passed-from t one in
@@ -165,22 +157,22 @@ module _ (t : ℕ) where
             ran.run-module.kept.1.1.1.1.1.0
             (one.before.before.module-at.ensures (modules.sub now kind).m (module_stands (modules.sub now kind)))
             (ran.run-module.ensures.0 (modules.calls now kind one.copy.ensures))
-            (fetched_one t fetched).copy3.ensures,
+            (fetched_one t c.before.before).copy3.ensures,
         λ s ahead.
             let now = here t read inv.1 s ahead in
             modules.turn_module now kind both.copy2.ensures ran.run-module.last.1.1.1.1.1.1.0
             ran.run-module.kept.1.1.1.1.1.1.0
             (one.before.before.module-at.ensures (modules.sub now kind).m (module_stands (modules.sub now kind)))
             (ran.run-module.ensures.1 (modules.calls now kind both.copy2.ensures))
-            fetched.copy4.ensures,
+            c.copy-then-o-gt0-3.ensures,
       )
 
   loop-again-3 : walk-lts.Need-loop-left-preserved (walk-claims t) (walk_at t) walk.Post Inv-loop μ-loop
   loop-again-3 c =
       let read = module-read t c.before.before in
       let inv = read.before.before.loop.inv in (
-        λ s ahead. turns.turn-idle (here t read inv.0 s ahead) (omega (arith, c.if1.false)),
-        λ s ahead. turns.turn-idle (here t read inv.1 s ahead) (omega (arith, c.if1.false)),
+        λ s ahead. turns.turn-idle (here t read inv.0 s ahead) (omega (arith, c.if-o-gt0.false)),
+        λ s ahead. turns.turn-idle (here t read inv.1 s ahead) (omega (arith, c.if-o-gt0.false)),
       )
 
 pub +run_module_walk_spec : {M : Type 1} → statement M
@@ -193,7 +185,7 @@ pub +run_module_walk_spec : {M : Type 1} → statement M
     (λ c κs. module_there c.before.before.before.before.before.before.requires.1.0.scene)
     (λ c κs.
     let from = began t c.before.before in
-    (omega (arith, from.pre.0), (walkable t c.before.before from.pre.1.0, walkable t c.before.before from.pre.1.1)))
+    (omega (arith, from.requires.0), (walkable t c.before.before from.requires.1.0, walkable t c.before.before from.requires.1.1)))
     (λ c. c.before.before.before.before.walk.auto.1.1.1.1.1.1.0)
     (λ c. c.before.before.before.before.walk.auto.1.1.1.1.1.1.1.0)
     (λ c.

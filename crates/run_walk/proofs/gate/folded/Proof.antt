@@ -66,7 +66,7 @@ loop-holds c =
       is-small first c.coded-v.ensures,
       going_more
           (going_start 0 given.image.now given.from given.to scratch {rest = λ xs. fold_on fold (known (neutral fold)) (map value xs)}
-          c.requires.ordered (λ xs. refl)) (omega (arith, c.if-to-from.left)) c.requires.inside
+          c.requires.ordered (λ xs. refl)) (omega (arith, c.if-to-from.false)) c.requires.inside
           (λ xs.
           ap (λ (u : Val). fold_on fold u (map value xs))
           ((neutral-both fold _).0 ∙ sym (stands_for first c.coded-v.ensures ∙ ap at read.ensures))),

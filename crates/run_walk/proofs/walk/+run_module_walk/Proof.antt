@@ -28,22 +28,20 @@ module _ (t : ℕ) where
   abbrev began :
       run-module-lts.After-module_at-header (run-module-claims t) (run-module-at t) run-module.Post
       → run-module-lts.Start (run-module-claims t) (run-module-at t) run-module.Post
-  began c = let known = c.before.before.before in known.before.before.before
+  began c = c.before.before.before.before.before.before
 
   abbrev walkable :
       (c : run-module-lts.After-module_at-header (run-module-claims t) (run-module-at t) run-module.Post)
       → let a = (began c).args in
       (s : Runnable a.image.now a.starts.now a.nets.now a.k a.scratch.now)
-      → Walkable a.image.now a.starts.now a.nets.now a.k c.module-at.result a.scratch.now
-  walkable c s = record { runnable = s; header = c.module-at.ensures s.scene.m (module_stands s.scene) }
+      → Walkable a.image.now a.starts.now a.nets.now a.k c.module_at-header.result a.scratch.now
+  walkable c s = record { runnable = s; header = c.module_at-header.ensures s.scene.m (module_stands s.scene) }
 
 -- `walk`, whose measure is t.
 module _ (t : ℕ) where
   add_at : walk-lts.Need-overflow_add-at (walk-claims t) (walk_at t) walk.Post Inv-loop μ-loop
   add_at c =
-      let known = c.before.before.before in
-      let from = known.before.before.before in
-      omega (arith, from.requires.1.header.body.within, from.well-formed)
+      omega (arith, c.requires.1.header.body.within, c.well-formed)
 
   add-filled : walk-lts.Need-overflow_add-filled (walk-claims t) (walk_at t) walk.Post Inv-loop μ-loop
   add-filled c =
@@ -55,7 +53,7 @@ module _ (t : ℕ) where
       (c : walk-lts.After-result (walk-claims t) (walk_at t) walk.Post Inv-loop μ-loop)
       → let l = (gate-read t c.before.before.before).before.before.loop in
       l.filled < length l.scratch
-  slot-there c = let gate = c.before.before.before in turns.gate-room (own t (gate-read t gate)) (gate-kind t gate)
+  slot-there c = turns.gate-room (own t (gate-read t c.before.before.before)) (gate-kind t c.before.before.before)
 
   mul-scratch : walk-lts.Need-offset_bounds-scratch-here (walk-claims t) (walk_at t) walk.Post Inv-loop μ-loop
   mul-scratch c =
@@ -64,55 +62,47 @@ module _ (t : ℕ) where
 
   loop-again : walk-lts.Need-loop-left-preserved-in-Gate (walk-claims t) (walk_at t) walk.Post Inv-loop μ-loop
   loop-again c s ahead =
-      let gate = c.before.before.before in
-      turns.turn-gate (here t (gate-read t gate) s ahead) (gate-kind t gate) c.result.ensures
+      turns.turn-gate (here t (gate-read t c.before.before.before) s ahead) (gate-kind t c.before.before.before) c.result.ensures
 
   -- At a module, once its arguments are passed: its part of scratch begins within it.
   lent-inside : walk-lts.Need-slice_bounds-run_module-count (walk-claims t) (walk_at t) walk.Post Inv-loop μ-loop
   lent-inside c =
-      let passed = c.before.before in
-      let told = passed-from t passed in
-      modules.lent-inside (own t (module-read t told)) (module-kind t told) passed.copy.ensures
+      let told = passed-from t c.before.before in
+      modules.lent-inside (own t (module-read t told)) (module-kind t told) c.copy.ensures
 
   mul-run-module : walk-lts.Need-offset_bounds-scratch-frame (walk-claims t) (walk_at t) walk.Post Inv-loop μ-loop
   mul-run-module c =
       let read = module-read t (passed-from t c.before.before) in
       let from = start t read.before.before in
-      omega (arith, frame_is from.pre.1.runnable.scene, turns.enough (own t read), (own t read).progress.size, from.good)
+      omega (arith, frame_is from.requires.1.runnable.scene, turns.enough (own t read), (own t read).progress.size, from.good)
 
   run-module-requires : walk-lts.Need-run_module-requires (walk-claims t) (walk_at t) walk.Post Inv-loop μ-loop
   run-module-requires c κs =
-      let passed = c.before.before.before in
-      let told = passed-from t passed in
+      let told = passed-from t c.before.before.before in
       let read = module-read t told in (
-        omega (arith, modules.falls (own t read) (module-kind t told), (start t read.before.before).pre.0),
-        modules.calls (own t read) (module-kind t told) passed.copy.ensures,
+        omega (arith, modules.falls (own t read) (module-kind t told), (start t read.before.before).requires.0),
+        modules.calls (own t read) (module-kind t told) c.copy.ensures,
       )
 
   copy-requires-2 : walk-lts.Need-copy-requires-then-o-gt0 (walk-claims t) (walk_at t) walk.Post Inv-loop μ-loop
   copy-requires-2 c κs =
-      let ran = c.before.before.before in
-      let passed = ran.before.before.before.before in
-      let told = passed-from t passed in
+      let told = passed-from t c.before.before.before.before.before.before.before in
       let now = own t (module-read t told) in
       let kind = module-kind t told in
-      modules.fetches now kind passed.copy.ensures ran.run-module.new.1.1.1.1.0
-      ran.run-module.auto.1.1.1.1.0
-      (passed.before.before.module-at.ensures (modules.sub now kind).m (module_stands (modules.sub now kind)))
+      modules.fetches now kind c.copy.ensures c.run_module.new.scratch
+      c.run_module.auto.1.1.1.1.0
+      (c.module_at-sub.ensures (modules.sub now kind).m (module_stands (modules.sub now kind)))
 
   loop-again-2 : walk-lts.Need-loop-left-preserved-then-o-gt0 (walk-claims t) (walk_at t) walk.Post Inv-loop μ-loop
   loop-again-2 c s ahead =
-      let fetched = c.before.before in
-      let ran = fetched.before.before.before.before in
-      let passed = ran.before.before.before.before in
-      let told = passed-from t passed in
+      let told = passed-from t c.before.before.before.before.before.before.before.before.before.before in
       let now = here t (module-read t told) s ahead in
       let kind = module-kind t told in
-      modules.turn_module now kind passed.copy.ensures ran.run-module.new.1.1.1.1.0
-      ran.run-module.auto.1.1.1.1.0
-      (passed.before.before.module-at.ensures (modules.sub now kind).m (module_stands (modules.sub now kind)))
-      (ran.run-module.ensures (modules.calls now kind passed.copy.ensures))
-      fetched.copy2.ensures
+      modules.turn_module now kind c.copy.ensures c.run_module.new.scratch
+      c.run_module.auto.1.1.1.1.0
+      (c.module_at-sub.ensures (modules.sub now kind).m (module_stands (modules.sub now kind)))
+      (c.run_module.ensures (modules.calls now kind c.copy.ensures))
+      c.copy-then-o-gt0.ensures
 
 pub +run_module_walk_spec : {M : Type 1} → statement M
 +run_module_walk_spec =
@@ -122,7 +112,7 @@ pub +run_module_walk_spec : {M : Type 1} → statement M
     (λ c. omega (arith, in_starts c.before.before.before.before.requires.1.scene))
     (λ c. in_starts c.before.before.before.before.before.requires.1.scene)
     (λ c κs. module_there c.before.before.before.before.before.requires.1.scene)
-    (λ c κs. let from = began t c.before in (omega (arith, from.pre.0), walkable t c.before from.pre.1))
+    (λ c κs. let from = began t c.before in (omega (arith, from.requires.0), walkable t c.before from.requires.1))
     (λ c. c.before.before.walk.auto.1.1.1.1.1.0)
     (λ c s. c.before.before.walk.ensures (walkable t c.before.before.before.before s)))
     (λ t.

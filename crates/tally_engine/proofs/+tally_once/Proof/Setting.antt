@@ -70,18 +70,18 @@ abbrev pub μ-loop : lts.decreases-loop-left
 module _ (t : ℕ) where
   -- Where the function began, from where the row was looked up and from a turn of its loop.
   abbrev pub asked : lts.After-is_filled (claims t) (Given t) reads.Post Inv-loop μ-loop → lts.Start (claims t) (Given t) reads.Post Inv-loop μ-loop
-  asked c = let known = c.before.before.before in known.before.before.before
+  asked c = c.before.before.before.before.before.before
 
   abbrev pub start : lts.At-loop-left (claims t) (Given t) reads.Post Inv-loop μ-loop → lts.Start (claims t) (Given t) reads.Post Inv-loop μ-loop
-  start c = let header = c.before.before.before in asked header.before.before.before
+  start c = asked c.before.before.before.before.before.before
 
   -- What the number that was read is.
   pub is-gate :
       (c : lts.In-Gate (claims t) (Given t) reads.Post Inv-loop μ-loop)
-      → is_gate c.before.before.before.occurrence-at.result.refers ≡ true
-  is-gate c = gate-told _ (sym c.before.before.kind-of.ensures ∙ c.enum_told.given.1)
+      → is_gate c.occurrence_at-o.result.refers ≡ true
+  is-gate c = gate-told _ (sym c.kind_of.ensures ∙ c.enum_told-1.given.1)
 
   pub is_module :
       (c : lts.In-Module (claims t) (Given t) reads.Post Inv-loop μ-loop)
-      → is_gate c.before.before.before.occurrence-at.result.refers ≡ false
-  is_module c = module_told _ (sym c.before.before.kind-of.ensures ∙ c.enum-told2.given.1)
+      → is_gate c.occurrence_at-o.result.refers ≡ false
+  is_module c = module_told _ (sym c.kind_of.ensures ∙ c.enum_told-in-Module-1.given.1)

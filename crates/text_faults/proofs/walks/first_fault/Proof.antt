@@ -31,7 +31,7 @@ input-count c =
 
 abbrev bodied :
     (c : tie.After-mark_all) (p : Asked c.before.before.before.before.before.before.before.before.before)
-    → Body c.args.numbers.now c.mark_all.new.1.0 (c.module_at-header.result.to + 1) c.module_at-header.result.count
+    → Body c.args.numbers.now c.mark_all.new.marks (c.module_at-header.result.to + 1) c.module_at-header.result.count
 bodied c p =
     let all : input-count c.before.before.before.before ≡ length (first c.before.before.before.before.before.before.before.before.before p).m.inputs = omega (arith, (header c.before.before.before.before p).inputs) in
     begun-body (first c.before.before.before.before.before.before.before.before.before p) (input-count c.before.before.before.before) (header c.before.before.before.before p) all (c.mark_all.ensures [] c.requires.1.1.1)
@@ -79,7 +79,7 @@ add-walk-2 c =
 
 walk-requires : tie.Need-walk-requires
 walk-requires c κs =
-    (c.requires.0, (omega (arith, c.requires.1.0), (bodied c.before.before.before.before c.requires.0, omega (arith, c.mark_all.kept.1.0, c.requires.1.1.0))))
+    (c.requires.0, (omega (arith, c.requires.1.0), (bodied c.before.before.before.before c.requires.0, omega (arith, c.mark_all.kept.marks, c.requires.1.1.0))))
 
 same_length : tie.Need-shape_of-marks
 same_length c = search rules

@@ -60,7 +60,7 @@ same_length c = c.fault_in-atom.auto.1.1.1.1.1.0 ∙ c.loop-i.invariant.0
 returns : tie.Need-returns-then-atom-o invariant-loop decreases-loop
 returns c p b =
     let w = c.loop-i.invariant.1 p b in
-    let f = facing w c.loop-i-test.taken in
+    let f = facing w c.loop-i-test.true in
     let place = c.occurrence_at-o.ensures f.o f.there in
     let a = (c.fault_in-atom.ensures p f.o w.signals f.there w.marked).0 in
     walking_stops w f _ a _ place.drives (omega (arith, c.if-atom-o.true, place.drives, place.to))
@@ -73,10 +73,10 @@ loop-less c = omega arith
 
 loop-again : tie.Need-loop-i-preserved invariant-loop decreases-loop
 loop-again c = (
-  c.fault_in-atom.kept.1.1.1.1.1.0 ∙ c.loop-i.invariant.0,
+  c.fault_in-atom.kept.marks ∙ c.loop-i.invariant.0,
   λ p b.
       let w = c.loop-i.invariant.1 p b in
-      let f = facing w c.loop-i-test.taken in
+      let f = facing w c.loop-i-test.true in
       let place = c.occurrence_at-o.ensures f.o f.there in
       let a = c.fault_in-atom.ensures p f.o w.signals f.there w.marked in
       walking_on w f _ a.0 _ place.next (omega (arith, c.if-atom-o.false, place.drives, place.to)) a.1,

@@ -16,142 +16,123 @@ use Rattle.write_ahead.proofs.chain.+chain.Proof.Setting.{μ, Given, claims, ent
 module _ (t : ℕ) where
   chain-requires : lts.Need-chain-requires (claims t) (Given t) reads.Post
   chain-requires c κs =
-      let node = c.before.before.before in
-      let start = entry t node in (
-        omega (arith, counted _ _ _ (joined t node).is, start.pre.0),
-        low_chainable (joined t node) start.pre.1 (omega (arith, c.before.if1.true, c.before.before.leaves.ensures)),
+      let start = entry t c.before.before.before in (
+        omega (arith, counted _ _ _ (joined t c.before.before.before).is, start.requires.0),
+        low_chainable (joined t c.before.before.before) start.requires.1 (omega (arith, c.if-left-low.true, c.leaves-low.ensures)),
       )
 
   returns : lts.Need-returns-then-left-low (claims t) (Given t) reads.Post
   returns c =
-      let called = c.before.before in
-      let test = called.before.before in
-      let node = test.before.before in
-      low-chained (joined t node) (entry t node).requires.1 (omega (arith, test.if1.true, test.before.leaves.ensures))
-      called.chain.ensures
+      low-chained (joined t c.before.before.before.before.before.before) (entry t c.before.before.before.before.before.before).requires.1 (omega (arith, c.if-left-low.true, c.leaves-low.ensures))
+      c.chain.ensures
 
   over-one-requires : lts.Need-over_one-behind-requires (claims t) (Given t) reads.Post
   over-one-requires c κs =
-      let x = c.before.before.before in
-      let sizes = counts t x in
-      one_able (joined t (told t sizes)) (entry t (told t sizes)).pre.1 (past t sizes) x.ahead.ensures
+      let sizes = counts t c.before.before.before in
+      one_able (joined t (told t sizes)) (entry t (told t sizes)).requires.1 (past t sizes) c.ahead-x.ensures
 
   chain-requires-2 : lts.Need-chain-rest-requires (claims t) (Given t) reads.Post
   chain-requires-2 c κs =
-      let test = c.before in
-      let carry = within t test in
+      let carry = within t c.before in
       let x = low t carry in
       let sizes = counts t x in
       let node = told t sizes in (
-        omega (arith, counted _ _ _ (joined t node).is, (entry t node).pre.0),
-        middle_chainable (joined t node) (entry t node).pre.1 (past t sizes) x.ahead.ensures carry.over-one.ensures (inside t test)
+        omega (arith, counted _ _ _ (joined t node).is, (entry t node).requires.0),
+        middle_chainable (joined t node) (entry t node).requires.1 (past t sizes) x.ahead.ensures carry.over-one.ensures (inside t c.before)
             sizes.before.before.leaves.result
             sizes.before.before.leaves.ensures,
       )
 
   returns-2 : lts.Need-returns-then-left-both (claims t) (Given t) reads.Post
   returns-2 c =
-      let called = c.before.before.before in
-      let test = called.before.before in
-      let carry = within t test in
+      let carry = within t c.before.before.before.before.before in
       let x = low t carry in
       let sizes = counts t x in
       let node = told t sizes in
-      middle-chained (joined t node) (entry t node).pre.1 (past t sizes) x.ahead.ensures carry.over-one.ensures (inside t test)
+      middle-chained (joined t node) (entry t node).requires.1 (past t sizes) x.ahead.ensures carry.over-one.ensures (inside t c.before.before.before.before.before)
       sizes.before.before.leaves.result
       sizes.before.before.leaves.ensures
-      called.chain2.ensures
+      c.chain-rest.ensures
 
   add-t28 : lts.Need-overflow_add-result (claims t) (Given t) reads.Post
   add-t28 c =
-      let called = c.before.before.before in
-      let test = called.before.before in
-      let carry = within t test in
+      let carry = within t c.before.before.before.before.before in
       let x = low t carry in
       let sizes = counts t x in
       let node = told t sizes in
       let able =
-      middle_chainable (joined t node) (entry t node).pre.1 (past t sizes) x.ahead.ensures carry.over-one.ensures (inside t test)
+      middle_chainable (joined t node) (entry t node).requires.1 (past t sizes) x.ahead.ensures carry.over-one.ensures (inside t c.before.before.before.before.before)
       sizes.before.before.leaves.result
       sizes.before.before.leaves.ensures in
-      omega (arith, laid-few able called.chain2.ensures)
+      omega (arith, laid-few able c.chain-rest.ensures)
 
   ahead-requires-2 : lts.Need-ahead-y-requires (claims t) (Given t) reads.Post
   ahead-requires-2 c κs =
-      let test = c.before in
-      let carry = one t test in
+      let carry = one t c.before in
       let x = low t carry in
       let sizes = counts t x in
       let node = told t sizes in
-      middle_able (joined t node) (entry t node).pre.1 (past t sizes) x.ahead.ensures carry.over-one.ensures (outside t test)
+      middle_able (joined t node) (entry t node).requires.1 (past t sizes) x.ahead.ensures carry.over-one.ensures (outside t c.before)
 
   over-two-requires : lts.Need-over_two-behind-requires (claims t) (Given t) reads.Post
   over-two-requires c κs =
-      let y = c.before.before.before in
-      let test = beyond t y in
+      let test = beyond t c.before.before.before in
       let carry = one t test in
       let x = low t carry in
       let sizes = counts t x in
       let node = told t sizes in
-      two_able (joined t node) (entry t node).pre.1 (past t sizes) x.ahead.ensures carry.over-one.ensures (outside t test) y.ahead2.ensures
+      two_able (joined t node) (entry t node).requires.1 (past t sizes) x.ahead.ensures carry.over-one.ensures (outside t test) c.ahead-y.ensures
 
   chain-requires-3 : lts.Need-chain-rest-requires-in-Node (claims t) (Given t) reads.Post
   chain-requires-3 c κs =
-      let behind = c.before.before.before in
-      let y = middle t behind in
+      let y = middle t c.before.before.before in
       let test = beyond t y in
       let carry = one t test in
       let x = low t carry in
       let sizes = counts t x in
       let node = told t sizes in (
-        omega (arith, counted _ _ _ (joined t node).is, (entry t node).pre.0),
-        high_chainable (joined t node) (entry t node).pre.1 (past t sizes) x.ahead.ensures carry.over-one.ensures (outside t test)
+        omega (arith, counted _ _ _ (joined t node).is, (entry t node).requires.0),
+        high_chainable (joined t node) (entry t node).requires.1 (past t sizes) x.ahead.ensures carry.over-one.ensures (outside t test)
             y.ahead2.ensures
-            behind.over-two.ensures
+            c.over_two-behind.ensures
             (sizes.before.before.leaves.result + sizes.leaves2.result)
             (both t sizes),
       )
 
   returns-4 : lts.Need-returns-else-left-both (claims t) (Given t) reads.Post
   returns-4 c =
-      let called = c.before.before.before in
-      let behind = called.before.before.before.before in
-      let y = middle t behind in
+      let y = middle t c.before.before.before.before.before.before.before in
       let test = beyond t y in
       let carry = one t test in
       let x = low t carry in
       let sizes = counts t x in
       let node = told t sizes in
-      high-chained (joined t node) (entry t node).pre.1 (past t sizes) x.ahead.ensures carry.over-one.ensures (outside t test)
+      high-chained (joined t node) (entry t node).requires.1 (past t sizes) x.ahead.ensures carry.over-one.ensures (outside t test)
       y.ahead2.ensures
-      behind.over-two.ensures
+      c.over_two-behind.ensures
       (sizes.before.before.leaves.result + sizes.leaves2.result)
       (both t sizes)
-      called.chain3.ensures
+      c.chain-rest-in-Node.ensures
 
   add-t23 : lts.Need-overflow_add-result-in-Node (claims t) (Given t) reads.Post
   add-t23 c =
-      let called = c.before.before.before in
-      let behind = called.before.before.before.before in
-      let y = middle t behind in
+      let y = middle t c.before.before.before.before.before.before.before in
       let test = beyond t y in
       let carry = one t test in
       let x = low t carry in
       let sizes = counts t x in
       let node = told t sizes in
       let able =
-      high_chainable (joined t node) (entry t node).pre.1 (past t sizes) x.ahead.ensures carry.over-one.ensures (outside t test)
+      high_chainable (joined t node) (entry t node).requires.1 (past t sizes) x.ahead.ensures carry.over-one.ensures (outside t test)
       y.ahead2.ensures
-      behind.over-two.ensures
+      c.over_two-behind.ensures
       (sizes.before.before.leaves.result + sizes.leaves2.result)
       (both t sizes) in
-      omega (arith, laid-few able called.chain3.ensures)
+      omega (arith, laid-few able c.chain-rest-in-Node.ensures)
 
   returns-3 : lts.Need-returns-in-Leaf (claims t) (Given t) reads.Post
   returns-3 c =
-      let parted = c.before.before in
-      let start = parted.before.before in
-      no_steps _ _ _ _ _ _ (subst (Parted start.args.tree) c.enum_told.given.1 parted.split.ensures)
+      no_steps _ _ _ _ _ _ (subst (Parted c.args.tree) c.in-Leaf.is c.split.ensures)
 
 pub +chain_spec : {M : Type 1} → statement M
 +chain_spec =
@@ -165,14 +146,14 @@ pub +chain_spec : {M : Type 1} → statement M
     (λ c. chained-length (entry t c.before.before.before.before.before.before).requires.1 (returns t c))
     (returns t)
     (λ c κs. ((joined t c.before.before).middle, (parts-few (joined t c.before.before) (entry t c.before.before).requires.1).1))
-    (λ c. omega (arith, both t c, parts-few (joined t (told t c)) (entry t (told t c)).pre.1))
-    (λ c κs. low_able (joined t (told t c.before)) (entry t (told t c.before)).pre.1 (past t c.before))
+    (λ c. omega (arith, both t c, parts-few (joined t (told t c)) (entry t (told t c)).requires.1))
+    (λ c κs. low_able (joined t (told t c.before)) (entry t (told t c.before)).requires.1 (past t c.before))
     (over-one-requires t)
     (chain-requires-2 t)
     (add-t28 t)
     (λ c.
     let carry = within t c.before.before.before.before.before in
-    chained-length (entry t (told t (counts t (low t carry)))).pre.1 (returns-2 t c))
+    chained-length (entry t (told t (counts t (low t carry)))).requires.1 (returns-2 t c))
     (returns-2 t)
     (ahead-requires-2 t)
     (over-two-requires t)
@@ -181,5 +162,5 @@ pub +chain_spec : {M : Type 1} → statement M
     (returns-3 t)
     (λ c.
     let y = middle t c.before.before.before.before.before.before.before in
-    chained-length (entry t (told t (counts t (low t (one t (beyond t y)))))).pre.1 (returns-4 t c))
+    chained-length (entry t (told t (counts t (low t (one t (beyond t y)))))).requires.1 (returns-4 t c))
     (returns-4 t)

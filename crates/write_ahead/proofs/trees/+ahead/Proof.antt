@@ -47,108 +47,71 @@ module _ (t : ℕ) where
 
   -- The start, from where a node is told; the places behind the pieces, each from the one behind the next.
   abbrev entry : lts.In-Node claims (Given t) reads.Post → lts.Start claims (Given t) reads.Post
-  entry c = let parted = c.before.before.before in parted.before.before
+  entry c = c.before.before.before.before.before
 
   abbrev told : lts.After-ahead-x claims (Given t) reads.Post → lts.In-Node claims (Given t) reads.Post
   told c = c.before.before
 
-  abbrev low : lts.After-over_one-y_at claims (Given t) reads.Post → lts.After-ahead-x claims (Given t) reads.Post
-  low c = c.before.before.before.before
-
   abbrev one : lts.After-ahead-y claims (Given t) reads.Post → lts.After-over_one-y_at claims (Given t) reads.Post
   one c = c.before.before.before.before
 
-  abbrev middle : lts.After-over_two-z_at claims (Given t) reads.Post → lts.After-ahead-y claims (Given t) reads.Post
-  middle c = c.before.before.before.before
-
-  abbrev two : lts.After-ahead-z claims (Given t) reads.Post → lts.After-over_two-z_at claims (Given t) reads.Post
-  two c = c.before.before.before.before
-
   joined : (c : lts.In-Node claims (Given t) reads.Post)
-      → (let parts = c.before.x.given.0 in Joined (entry c).args.tree parts.0 parts.1.0 parts.1.1.0)
-  joined c = subst (Parted (entry c).args.tree) c.before.x.given.1 c.before.before.before.split.ensures
+      → (let parts = c.x-1.given.0 in Joined (entry c).args.tree parts.0 parts.1.0 parts.1.1.0)
+  joined c = subst (Parted (entry c).args.tree) c.x-1.given.1 c.split.ensures
 
   ahead-requires : lts.Need-ahead-x-requires claims (Given t) reads.Post
   ahead-requires c κs =
       let node = joined c.before in
       let start = entry c.before in
-      (omega (arith, counted _ _ _ node.is, start.pre.0), low_able node start.pre.1)
+      (omega (arith, counted _ _ _ node.is, start.requires.0), low_able node start.requires.1)
 
   over-one-requires : lts.Need-over_one-y_at-requires claims (Given t) reads.Post
   over-one-requires c κs =
-      let x = c.before.before.before in
-      one_able (joined (told x)) (entry (told x)).pre.1 x.ahead.ensures
+      one_able (joined c.before.before.before.before.before) (entry c.before.before.before.before.before).requires.1 c.ahead-x.ensures
 
   ahead-requires-2 : lts.Need-ahead-y-requires claims (Given t) reads.Post
   ahead-requires-2 c κs =
-      let carry = c.before.before.before in
-      let x = low carry in
-      let node = joined (told x) in
-      let start = entry (told x) in (
-        omega (arith, counted _ _ _ node.is, start.pre.0),
-        middle_able node start.pre.1 x.ahead.ensures carry.over-one.ensures,
+      let node = joined c.before.before.before.before.before.before.before.before.before in
+      let start = entry c.before.before.before.before.before.before.before.before.before in (
+        omega (arith, counted _ _ _ node.is, start.requires.0),
+        middle_able node start.requires.1 c.ahead-x.ensures c.over_one-y_at.ensures,
       )
 
   over-two-requires : lts.Need-over_two-z_at-requires claims (Given t) reads.Post
   over-two-requires c κs =
-      let y = c.before.before.before in
-      let carry = one y in
-      let x = low carry in
-      two_able (joined (told x)) (entry (told x)).pre.1 x.ahead.ensures carry.over-one.ensures y.ahead2.ensures
+      two_able (joined c.before.before.before.before.before.before.before.before.before.before.before.before.before) (entry c.before.before.before.before.before.before.before.before.before.before.before.before.before).requires.1 c.ahead-x.ensures c.over_one-y_at.ensures c.ahead-y.ensures
 
   ahead-requires-3 : lts.Need-ahead-z-requires claims (Given t) reads.Post
   ahead-requires-3 c κs =
-      let both = c.before.before.before in
-      let y = middle both in
-      let carry = one y in
-      let x = low carry in
-      let node = joined (told x) in
-      let start = entry (told x) in (
-        omega (arith, counted _ _ _ node.is, start.pre.0),
-        high_able node start.pre.1 x.ahead.ensures carry.over-one.ensures y.ahead2.ensures both.over-two.ensures,
+      let node = joined c.before.before.before.before.before.before.before.before.before.before.before.before.before.before.before.before.before in
+      let start = entry c.before.before.before.before.before.before.before.before.before.before.before.before.before.before.before.before.before in (
+        omega (arith, counted _ _ _ node.is, start.requires.0),
+        high_able node start.requires.1 c.ahead-x.ensures c.over_one-y_at.ensures c.ahead-y.ensures c.over_two-z_at.ensures,
       )
 
   join-requires : lts.Need-join-requires claims (Given t) reads.Post
   join-requires c κs =
-      let z = c.before.before.before.before in
-      let both = two z in
-      let y = middle both in
-      let carry = one y in
-      let x = low carry in
-      join_able (joined (told x)) (entry (told x)).pre.1 x.ahead.ensures carry.over-one.ensures y.ahead2.ensures
-      both.over-two.ensures z.ahead3.ensures
+      join_able (joined c.before.before.before.before.before.before.before.before.before.before.before.before.before.before.before.before.before.before.before.before.before.before) (entry c.before.before.before.before.before.before.before.before.before.before.before.before.before.before.before.before.before.before.before.before.before.before).requires.1 c.ahead-x.ensures c.over_one-y_at.ensures c.ahead-y.ensures
+      c.over_two-z_at.ensures c.ahead-z.ensures
 
   returns-2 : lts.Need-returns-in-Node claims (Given t) reads.Post
   returns-2 c =
-      let end = c.before.before in
-      let z = end.before.before.before.before.before in
-      let both = two z in
-      let y = middle both in
-      let carry = one y in
-      let x = low carry in
-      node-laid (joined (told x)) (entry (told x)).pre.1 x.ahead.ensures carry.over-one.ensures y.ahead2.ensures
-      both.over-two.ensures z.ahead3.ensures end.join.ensures
+      node-laid (joined c.before.before.before.before.before.before.before.before.before.before.before.before.before.before.before.before.before.before.before.before.before.before.before.before.before) (entry c.before.before.before.before.before.before.before.before.before.before.before.before.before.before.before.before.before.before.before.before.before.before.before.before.before).requires.1 c.ahead-x.ensures c.over_one-y_at.ensures c.ahead-y.ensures
+      c.over_two-z_at.ensures c.ahead-z.ensures c.join.ensures
 
   same_length : lts.Need-shape_of-bytes claims (Given t) reads.Post
   same_length c =
-      let z = c.before.before.before.before.before.before.before in
-      laid-length (entry (told (low (one (middle (two z)))))).pre.1 (returns-2 c)
+      laid-length (entry c.before.before.before.before.before.before.before.before.before.before.before.before.before.before.before.before.before.before.before.before.before.before.before.before.before).requires.1 (returns-2 c)
 
   returns : lts.Need-returns-in-Leaf claims (Given t) reads.Post
   returns c =
-      let parted = c.before.before in
-      let start = parted.before.before in
-      leaf-laid _ _ _ _ _ (subst (Parted start.args.tree) c.enum_told.given.1 parted.split.ensures)
+      leaf-laid _ _ _ _ _ (subst (Parted c.args.tree) c.in-Leaf.is c.split.ensures)
 
   -- The net of a node's P is small.
   small-net : (c : lts.After-ahead-z claims (Given t) reads.Post)
-      → (let y = middle (two c) in
-      ((entry (told (low (one y)))).args.width ≤ 64) × (y.ahead2.result.end ≤ 2000))
+      → (((entry c.before.before.before.before.before.before.before.before.before.before.before.before.before.before.before.before.before.before).args.width ≤ 64) × (c.ahead-y.result.end ≤ 2000))
   small-net z =
-      let y = middle (two z) in
-      let carry = one y in
-      let x = low carry in
-      let able = two_able (joined (told x)) (entry (told x)).pre.1 x.ahead.ensures carry.over-one.ensures y.ahead2.ensures in
+      let able = two_able (joined z.before.before.before.before.before.before.before.before.before.before.before.before.before.before.before.before.before.before) (entry z.before.before.before.before.before.before.before.before.before.before.before.before.before.before.before.before.before.before).requires.1 z.ahead-x.ensures z.over_one-y_at.ensures z.ahead-y.ensures in
       (able.0, able.1)
 
 pub +ahead_spec : {M : Type 1} → statement M

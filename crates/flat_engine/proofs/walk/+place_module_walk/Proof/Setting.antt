@@ -94,7 +94,7 @@ module _ (t : ℕ) where
 
   -- Where the walk began.
   abbrev pub start : Looping → walk-lts.Start (walk-claims t) (walk_at t) walk.Post Inv-loop μ-loop
-  start c = let known = c.before.before.before.before in known.before.before.before.before
+  start c = c.before.before.before.before.before.before.before.before
 
   pub own-progress :
       (c : Looping)
@@ -119,10 +119,10 @@ module _ (t : ℕ) where
   pub own :
       (c : Reading)
       → let l = c.before.before.loop in
-      Here (start c.before.before).pre.1.ready l.at l.left l.filled l.scratch l.bytes (record { next = l.next; at = l.end })
+      Here (start c.before.before).requires.1.ready l.at l.left l.filled l.scratch l.bytes (record { next = l.next; at = l.end })
       c.occurrence-at.result
   own c =
-      let able = (start c.before.before).pre.1 in
+      let able = (start c.before.before).requires.1 in
       here c able.plan able.ready (all-ahead (scene able.ready) able.header)
 
   -- What the number that was read is.
@@ -140,7 +140,7 @@ module _ (t : ℕ) where
 
   -- From where a module's arguments are passed, and from where it is placed.
   abbrev pub passed-from : walk-lts.After-copy (walk-claims t) (walk_at t) walk.Post Inv-loop μ-loop → AtModule
-  passed-from c = let header = c.before.before in header.before.before.before
+  passed-from c = c.before.before.before.before.before
 
   abbrev pub passing : walk-lts.After-place_module-pen (walk-claims t) (walk_at t) walk.Post Inv-loop μ-loop → walk-lts.After-copy (walk-claims t) (walk_at t) walk.Post Inv-loop μ-loop
-  passing c = let lent = c.before.before in lent.before.before.before
+  passing c = c.before.before.before.before.before

@@ -107,7 +107,7 @@ module _ (t : ℕ) where
 
   -- Where the walk began.
   abbrev pub start : Looping → walk-lts.Start (walk-claims t) (walk_at t) walk.Post Inv-loop μ-loop
-  start c = let known = c.before.before.before.before in known.before.before.before.before
+  start c = c.before.before.before.before.before.before.before.before
 
   -- In either list, once the occurrence's place is read, what is known of any module that can be run from the start.
   pub here :
@@ -127,16 +127,16 @@ module _ (t : ℕ) where
       (c : Reading)
       → let from = start c.before.before in
       let l = c.before.before.loop in
-      Here (times_work one_each) from.pre.1.0.runnable l.at l.left l.filled l.units c.occurrence-at.result
-  units-own c = let w = (start c.before.before).pre.1.0 in here c c.before.before.loop.invariant.0 w.runnable (enter w)
+      Here (times_work one_each) from.requires.1.0.runnable l.at l.left l.filled l.units c.occurrence-at.result
+  units-own c = let w = (start c.before.before).requires.1.0 in here c c.before.before.loop.invariant.0 w.runnable (enter w)
 
   -- and those by the family.
   pub others-own :
       (c : Reading)
       → let from = start c.before.before in
       let l = c.before.before.loop in
-      Here (times_work (delay_in from.args.family.delays)) from.pre.1.1.runnable l.at l.left l.filled l.others c.occurrence-at.result
-  others-own c = let w = (start c.before.before).pre.1.1 in here c c.before.before.loop.invariant.1 w.runnable (enter w)
+      Here (times_work (delay_in from.args.family.delays)) from.requires.1.1.runnable l.at l.left l.filled l.others c.occurrence-at.result
+  others-own c = let w = (start c.before.before).requires.1.1 in here c c.before.before.loop.invariant.1 w.runnable (enter w)
 
   -- In the arm of a gate the number is that of a gate,
   abbrev pub gate-read : AtGate → Reading
@@ -155,27 +155,17 @@ module _ (t : ℕ) where
   -- Back from where each is done: the header read of the module that is called, its arguments passed in one list and in both, itself run, and
   -- its outputs fetched in one list.
   abbrev pub called-from : walk-lts.After-module_at-sub (walk-claims t) (walk_at t) walk.Post Inv-loop μ-loop → AtModule
-  called-from c = let chosen = c.before.before.before in chosen.before.before
+  called-from c = c.before.before.before.before.before
 
   abbrev pub passed-from : walk-lts.After-copy (walk-claims t) (walk_at t) walk.Post Inv-loop μ-loop → AtModule
   passed-from c = called-from c.before.before
 
-  abbrev pub passed-one :
-      walk-lts.After-copy-then-o-gt0 (walk-claims t) (walk_at t) walk.Post Inv-loop μ-loop
-      → walk-lts.After-copy (walk-claims t) (walk_at t) walk.Post Inv-loop μ-loop
-  passed-one c = c.before.before.before.before
-
   abbrev pub passed-both :
       walk-lts.After-run_module (walk-claims t) (walk_at t) walk.Post Inv-loop μ-loop
       → walk-lts.After-copy-then-o-gt0 (walk-claims t) (walk_at t) walk.Post Inv-loop μ-loop
-  passed-both c = let lent = c.before.before in lent.before.before.before
+  passed-both c = c.before.before.before.before.before
 
   abbrev pub ran-before :
       walk-lts.After-copy-then-o-gt0-2 (walk-claims t) (walk_at t) walk.Post Inv-loop μ-loop
       → walk-lts.After-run_module (walk-claims t) (walk_at t) walk.Post Inv-loop μ-loop
-  ran-before c = let lent = c.before.before in lent.before.before.before.before
-
-  abbrev pub fetched_one :
-      walk-lts.After-copy-then-o-gt0-3 (walk-claims t) (walk_at t) walk.Post Inv-loop μ-loop
-      → walk-lts.After-copy-then-o-gt0-2 (walk-claims t) (walk_at t) walk.Post Inv-loop μ-loop
-  fetched_one c = c.before.before.before.before
+  ran-before c = c.before.before.before.before.before.before

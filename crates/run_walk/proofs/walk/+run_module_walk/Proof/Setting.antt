@@ -96,7 +96,7 @@ module _ (t : ℕ) where
 
   -- Where the walk began.
   abbrev pub start : Looping → walk-lts.Start (walk-claims t) (walk_at t) walk.Post Inv-loop μ-loop
-  start c = let known = c.before.before.before.before in known.before.before.before
+  start c = c.before.before.before.before.before.before.before
 
   pub own-progress :
       (c : Looping)
@@ -121,8 +121,8 @@ module _ (t : ℕ) where
       (c : Reading)
       → let from = start c.before.before in
       let l = c.before.before.loop in
-      Here value_work from.pre.1.runnable l.at l.left l.filled l.scratch c.occurrence-at.result
-  own c = let w = (start c.before.before).pre.1 in here c w.runnable (enter w)
+      Here value_work from.requires.1.runnable l.at l.left l.filled l.scratch c.occurrence-at.result
+  own c = let w = (start c.before.before).requires.1 in here c w.runnable (enter w)
 
   -- In the arm of a gate the number is that of a gate of the rule,
   abbrev pub gate-read : AtGate → Reading
@@ -140,7 +140,7 @@ module _ (t : ℕ) where
 
   -- From where the header of the module that is called is read, and from where its arguments are passed.
   abbrev pub called-from : walk-lts.After-module_at-sub (walk-claims t) (walk_at t) walk.Post Inv-loop μ-loop → AtModule
-  called-from c = let chosen = c.before.before.before in chosen.before.before
+  called-from c = c.before.before.before.before.before
 
   abbrev pub passed-from : walk-lts.After-copy (walk-claims t) (walk_at t) walk.Post Inv-loop μ-loop → AtModule
   passed-from c = called-from c.before.before

@@ -45,52 +45,38 @@ module _ (t : ℕ) where
 
   -- The start, from where a node is told; the places behind the pieces, each from the one behind the next.
   abbrev pub entry : lts.In-Node claims (Given t) reads.Post → lts.Start claims (Given t) reads.Post
-  entry c = let parted = c.before.before.before in parted.before.before
+  entry c = c.before.before.before.before.before
 
   abbrev pub told : lts.After-leaves claims (Given t) reads.Post → lts.In-Node claims (Given t) reads.Post
   told c = c.before.before.before
 
-  abbrev pub counts : lts.After-ahead-x claims (Given t) reads.Post → lts.After-leaves claims (Given t) reads.Post
-  counts c = c.before.before
-
-  abbrev pub low : lts.After-over_one-behind claims (Given t) reads.Post → lts.After-ahead-x claims (Given t) reads.Post
-  low c = c.before.before.before.before
-
-  abbrev pub within : lts.Then-left-both claims (Given t) reads.Post → lts.After-over_one-behind claims (Given t) reads.Post
-  within c = c.before.before.before
-
   abbrev pub one : lts.Else-left-both claims (Given t) reads.Post → lts.After-over_one-behind claims (Given t) reads.Post
   one c = c.before.before.before
-
-  abbrev pub beyond : lts.After-ahead-y claims (Given t) reads.Post → lts.Else-left-both claims (Given t) reads.Post
-  beyond c = c.before.before
 
   abbrev pub middle : lts.After-over_two-behind claims (Given t) reads.Post → lts.After-ahead-y claims (Given t) reads.Post
   middle c = c.before.before.before.before
 
   pub joined : (c : lts.In-Node claims (Given t) reads.Post)
-      → (let parts = c.before.x.given.0 in Joined (entry c).args.tree parts.0 parts.1.0 parts.1.1.0)
-  joined c = subst (Parted (entry c).args.tree) c.before.x.given.1 c.before.before.before.split.ensures
+      → (let parts = c.x-1.given.0 in Joined (entry c).args.tree parts.0 parts.1.0 parts.1.1.0)
+  joined c = subst (Parted (entry c).args.tree) c.x-1.given.1 c.split.ensures
 
   -- The steps are past the lowest tree.
   pub past : (c : lts.After-leaves claims (Given t) reads.Post)
-      → leaves (tree_of (told c).before.x.given.0.0) ≤ (entry (told c)).args.left
-  past c = omega (arith, c.before.if1.false, c.before.before.leaves.ensures)
+      → leaves (tree_of c.x-1.given.0.0) ≤ (entry c.before.before.before).args.left
+  past c = omega (arith, c.if-left-low.false, c.leaves-low.ensures)
 
   pub both : (c : lts.After-leaves claims (Given t) reads.Post)
-      → (let parts = (told c).before.x.given.0 in
-      c.before.before.leaves.result + c.leaves2.result ≡ leaves (tree_of parts.0) + leaves (tree_of parts.1.0))
-  both c = omega (arith, c.leaves2.ensures, c.before.before.leaves.ensures)
+      → (let parts = c.x-1.given.0 in
+      c.leaves-low.result + c.leaves.result ≡ leaves (tree_of parts.0) + leaves (tree_of parts.1.0))
+  both c = omega (arith, c.leaves.ensures, c.leaves-low.ensures)
 
   -- The rest lies inside the middle tree, or past it.
   pub inside : (c : lts.Then-left-both claims (Given t) reads.Post)
-      → (let node = told (counts (low (within c))) in
-      let parts = node.before.x.given.0 in
-      (entry node).args.left < leaves (tree_of parts.0) + leaves (tree_of parts.1.0))
-  inside c = omega (arith, c.if2.true, both (counts (low (within c))))
+      → (let parts = c.x-1.given.0 in
+      (entry c.before.before.before.before.before.before.before.before.before.before.before.before).args.left < leaves (tree_of parts.0) + leaves (tree_of parts.1.0))
+  inside c = omega (arith, c.if-left-both.true, both c.before.before.before.before.before.before.before.before.before)
 
   pub outside : (c : lts.Else-left-both claims (Given t) reads.Post)
-      → (let node = told (counts (low (one c))) in
-      let parts = node.before.x.given.0 in
-      leaves (tree_of parts.0) + leaves (tree_of parts.1.0) ≤ (entry node).args.left)
-  outside c = omega (arith, c.if2.false, both (counts (low (one c))))
+      → (let parts = c.x-1.given.0 in
+      leaves (tree_of parts.0) + leaves (tree_of parts.1.0) ≤ (entry c.before.before.before.before.before.before.before.before.before.before.before.before).args.left)
+  outside c = omega (arith, c.if-left-both.false, both c.before.before.before.before.before.before.before.before.before)
