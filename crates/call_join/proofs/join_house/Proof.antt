@@ -8,17 +8,17 @@ use Rattle.call_join.proofs.join_house.Tie as tie
 
 -- Back from where the file's modules are noted to the noting, and to the function's entry.
 abbrev noted : tie.In-Modules → tie.After-note
-noted k = k.before.before.before.before.before.before.before
+noted k = k.before.before.before.before.before
 
 abbrev entered : tie.After-note → tie.Start
 entered n = n.before.before.before.before.before.before.before.before.before
 
 shelf :
     (k : tie.In-Modules)
-    → (Shelved k.args.house.now k.modules-1.given.0.0 k.note.new.names k.note.new.places)
+    → (Shelved k.args.house.now k.in-Modules.modules k.note.new.names k.note.new.places)
 shelf k =
     noted-shelved k.args.house.now k.note.new.names k.note.new.places k.note.result k.note.ensures
-    k.modules-1.given.0.0 k.modules-1.given.1
+    k.in-Modules.modules k.in-Modules.is
 
 -- From the gathering, and from the assembling, to where the modules are noted.
 abbrev known : tie.After-gather-all → tie.In-Modules

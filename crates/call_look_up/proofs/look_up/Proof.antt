@@ -20,24 +20,24 @@ house-bytes w = bytes-all w.args.house.now (λ i. (w.shared_slice_known-2-1.give
 in_group :
     (c : tie.In-Group)
     → (let a = c.args in
-    Handed a.group.now c.start-1.given.0.0 c.start-1.given.0.1.0
+    Handed a.group.now c.in-Group.start c.in-Group.length
     (handed (look_up a.group.now a.house.now a.number).decision))
 in_group c =
     let a = c.args in
-    out-of-group a.group.now a.house.now a.number (group-bytes c.before.before.before) (house-bytes c.before.before.before)
-    c.start-1.given.0.0 c.start-1.given.0.1.0
-    (sym c.start-1.given.1 ∙ c.which_shelf.ensures)
+    out-of-group a.group.now a.house.now a.number (group-bytes c.before) (house-bytes c.before)
+    c.in-Group.start c.in-Group.length
+    (sym c.in-Group.is ∙ c.which_shelf.ensures)
 
 in_house :
     (c : tie.In-House)
     → (let a = c.args in
-    Handed a.house.now c.start-in-House-1.given.0.0 c.start-in-House-1.given.0.1.0
+    Handed a.house.now c.in-House.start c.in-House.length
     (handed (look_up a.group.now a.house.now a.number).decision))
 in_house c =
     let a = c.args in
-    out-of_house a.group.now a.house.now a.number (group-bytes c.before.before.before) (house-bytes c.before.before.before)
-    c.start-in-House-1.given.0.0 c.start-in-House-1.given.0.1.0
-    (sym c.start-in-House-1.given.1 ∙ c.which_shelf.ensures)
+    out-of_house a.group.now a.house.now a.number (group-bytes c.before) (house-bytes c.before)
+    c.in-House.start c.in-House.length
+    (sym c.in-House.is ∙ c.which_shelf.ensures)
 
 returns : tie.Need-returns-in-Group
 returns c =

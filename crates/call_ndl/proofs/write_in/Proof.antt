@@ -26,19 +26,19 @@ bytes p = bytes-all (entered p).args.file.now (λ i. ((known p).shared-slice-kno
 
 -- From where the file is known to be ready.
 abbrev preparing : tie.In-Ready → tie.After-prepare
-preparing k = prepared k.before.before.before
+preparing k = prepared k.before
 
 abbrev modules : tie.In-Ready → ℕ
-modules k = k.count-1.given.0.0
+modules k = k.in-Ready.modules
 
 abbrev count : tie.In-Ready → ℕ
-count k = k.count-1.given.0.1.0
+count k = k.in-Ready.count
 
 open-file : (k : tie.In-Ready)
     → (let lists = (preparing k).prepare.new.1 in
     let by_position = lists.1.1.1 in
     OpenedBeside (entered (preparing k)).args.file.now (modules k) (count k) lists.0 lists.1.0 lists.1.1.0 by_position.0 by_position.1.0 by_position.1.1.0 by_position.1.1.1.0 by_position.1.1.1.1.0)
-open-file k = let p = (preparing k).prepare in opened-beside _ _ _ _ _ _ _ _ _ p.result p.ensures _ _ k.count-1.given.1
+open-file k = let p = (preparing k).prepare in opened-beside _ _ _ _ _ _ _ _ _ p.result p.ensures _ _ k.in-Ready.is
 
 returns : tie.Need-returns-in-Refused
 returns c =

@@ -40,4 +40,4 @@ kind_of_spec =
     (λ c. family (λ n. Gate Or (n - 3) ≡ kind_of n) 3 5 (refl, (refl, (refl, tt))) _ (omega arith) (omega arith))
     (λ c. family (λ n. Gate And (n - 8) ≡ kind_of n) 3 10 (refl, (refl, (refl, tt))) _ (omega arith) (omega arith))
     (λ c. family (λ n. Gate Nor (n - 11) ≡ kind_of n) 3 13 (refl, (refl, (refl, tt))) _ (omega arith) (omega arith))
-    (λ c. simp (le-ltb _ 16 c.in_default.if-n-lt16-own.left)))
+    (λ c. simp (le-ltb _ 16 c.in_default.if-n-lt16-own.false)))

@@ -15,11 +15,11 @@ start c =
     c.before.before.before.before.before.before.before.before.before.before.before.before.before.before.before.before.before.before.before.before.before
 
 -- The count of modules from where the lists are lent on.
-abbrev counted : tie.After-put-lines-arg9 → tie.In-Ready-2
+abbrev counted : tie.After-put-lines-arg9 → tie.In-Ready
 counted c = c.before.before.before.before.before.before.before.before.before.before
 
 put-file-refusal-requires : tie.Need-put_file_refusal-requires
-put-file-refusal-requires c κs = omega (arith, (start (ready c.before.before.before.before)).requires.1.1.1)
+put-file-refusal-requires c κs = omega (arith, (start (ready c.before.before)).requires.1.1.1)
 
 put-lines-requires : tie.Need-put_lines-requires
 put-lines-requires c κs =
@@ -31,7 +31,7 @@ put-lines-requires c κs =
 
 returns : tie.Need-returns-in-Refused
 returns c =
-    let made = (ready c.before.before.before.before.before.before.before).prepare in
+    let made = (ready c.before.before.before.before.before).prepare in
     put_as (refusal-listed _ _ _ _ (broken _ _ _ _ _ _ _ made.result made.ensures _ _ c.in-Refused.is)) c.put_file_refusal.ensures
 
 returns-2 : tie.Need-returns-in-Ready

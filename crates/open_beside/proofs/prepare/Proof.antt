@@ -15,7 +15,7 @@ use Rattle.open_beside.proofs.prepare.Tie as tie
 
 -- Back from where a file has been read to the reading, and from there to where the lists are known and to the function's entry.
 abbrev reading : tie.In-Read → tie.After-read
-reading k = k.before.before.before.before.before.before.before.before.before
+reading k = k.before.before.before.before.before.before.before
 
 abbrev listed : tie.After-read → tie.After-shared_slice_known-1
 listed r = r.before.before.before.before.before.before.before.before.before.before.before.before.before.before
@@ -29,17 +29,17 @@ known c = c.before.before.before.before.before.before.before.before.before
 
 -- So many modules and numbers.
 abbrev modules : tie.In-Read → ℕ
-modules k = k.modules-1.given.0.0
+modules k = k.in-Read.modules
 
 abbrev count : tie.In-Read → ℕ
-count k = k.modules-1.given.0.1.0
+count k = k.in-Read.count
 
 bytes : (k : tie.In-Read) → Bytes (entered k).args.file.now
 bytes k = bytes-all (entered k).args.file.now (λ i. ((listed (reading k)).shared-slice-known.given i).fits)
 
 few : (k : tie.In-Read) → (count k ≤ length (reading k).read.new.1.0) × (count k ≤ length (entered k).args.image.now)
 few k =
-    let few = count_long (bytes k) (reading k).read.ensures (modules k) (count k) k.modules-1.given.1 in (
+    let few = count_long (bytes k) (reading k).read.ensures (modules k) (count k) k.in-Read.is in (
       omega (arith, few.0, few.1, (entered k).requires.numbers_long, (reading k).read.auto.1.0),
       omega (arith, few.0, few.1, (entered k).requires.space.image_long),
     )

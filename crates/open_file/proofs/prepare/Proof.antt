@@ -13,13 +13,13 @@ use Rattle.open_file.proofs.prepare.Tie as tie
 
 -- Back from where a file has been read to the reading, and from there to where the lists are known and to the function's entry.
 abbrev reading : tie.In-Read → tie.After-read
-reading k = k.before.before.before.before.before.before.before.before
+reading k = k.before.before.before.before.before.before
 
 abbrev lists : tie.After-read → tie.After-slice_known-1
 lists r = r.before.before.before.before.before.before.before.before.before.before.before
 
 abbrev entered : tie.In-Read → tie.Start
-entered k = (lists k.before.before.before.before.before.before.before.before).before.before
+entered k = (lists k.before.before.before.before.before.before).before.before
 
 -- From the check of the modules to where its file has been read.
 abbrev known : tie.After-check-modules-arg8 → tie.In-Read
@@ -27,17 +27,17 @@ known c = c.before.before.before.before.before.before.before.before
 
 -- So many modules and numbers.
 abbrev modules : tie.In-Read → ℕ
-modules k = k.modules-1.given.0.0
+modules k = k.in-Read.modules
 
 abbrev count : tie.In-Read → ℕ
-count k = k.modules-1.given.0.1.0
+count k = k.in-Read.count
 
 bytes : (k : tie.In-Read) → Bytes (entered k).args.file.now
-bytes k = bytes-all (entered k).args.file.now (λ i. ((lists k.before.before.before.before.before.before.before.before).before.shared-slice-known.given i).fits)
+bytes k = bytes-all (entered k).args.file.now (λ i. ((lists k.before.before.before.before.before.before).before.shared-slice-known.given i).fits)
 
 room : (k : tie.In-Read) → count k ≤ length k.read.new.numbers
 room k =
-    let few = count_long (bytes k) k.read.ensures (modules k) (count k) k.modules-1.given.1 in
+    let few = count_long (bytes k) k.read.ensures (modules k) (count k) k.in-Read.is in
     omega (arith, few.0, few.1, (entered k).requires.image_long, k.read.auto.1.0)
 
 check-modules-requires : tie.Need-check_modules-found-requires

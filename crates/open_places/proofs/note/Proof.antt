@@ -13,14 +13,14 @@ use Rattle.open_places.proofs.note.Tie as tie
 
 -- Back from where a file has been read to the reading, and from there to where its bytes are known.
 abbrev reading : tie.In-Read → tie.After-read
-reading k = k.before.before.before.before.before.before.before.before
+reading k = k.before.before.before.before.before.before
 
 -- So many modules and numbers.
 abbrev modules : tie.In-Read → ℕ
-modules k = k.modules-1.given.0.0
+modules k = k.in-Read.modules
 
 abbrev count : tie.In-Read → ℕ
-count k = k.modules-1.given.0.1.0
+count k = k.in-Read.numbers
 
 bytes : (k : tie.In-Read) → Bytes k.args.file.now
 bytes k = bytes-all k.args.file.now (λ i. (k.shared_slice_known-1.given i).fits)
@@ -38,7 +38,7 @@ room c =
     let d = c.read in
     omega (
       arith,
-      few (bytes c.before.before.before.before.before) d.ensures (modules c.before.before.before.before.before) (count c.before.before.before.before.before) c.modules-1.given.1,
+      few (bytes c.before.before.before.before.before) d.ensures (modules c.before.before.before.before.before) (count c.before.before.before.before.before) c.in-Read.is,
       c.requires.places_fit,
       d.kept.1.1.1.0,
     )

@@ -12,32 +12,32 @@ use Rattle.read_file.proofs.keep_file.Tie as tie
 abbrev begun : tie.After-keep_count-arg-1 → tie.Start
 begun c = c.before.before.before.before.before
 
-abbrev entry : tie.In-On-2 → tie.Start
-entry c = begun c.before.before.before.before.before
+abbrev entry : tie.In-On → tie.Start
+entry c = begun c.before.before.before.before
 
-abbrev read : tie.After-last_kept-count → tie.In-On-2
-read c = c.before.before
+abbrev read : tie.After-last_kept-count → tie.In-On
+read c = c.before
 
 abbrev modules : tie.After-slice_known-7-1 → tie.After-keep_modules
 modules c = c.before.before.before.before.before.before
 
 -- The count is laid out, and reading stands behind it.
-there : (c : tie.In-On-2)
+there : (c : tie.In-On)
     → CountTaken most_modules (entry c).args.bytes.now first (entry c).args.numbers.now
-    c.way-1.given.0.0 c.keep_count-way.new.numbers
-there c = counted most_modules (stands-first (entry c).requires.0) c.way-1.given.1 c.keep_count-way.ensures
+    c.in-On.spot c.keep_count-way.new.numbers
+there c = counted most_modules (stands-first (entry c).requires.0) c.in-On.is c.keep_count-way.ensures
 
 returns : tie.Need-returns-in_default
 returns c = through-refused c.in_default.is c.keep_count-way.ensures
 
 cast-count : tie.Need-overflow_cast-count
-cast-count c = let h = (there c.before.before).small in omega (arith, c.last_kept-count.ensures)
+cast-count c = let h = (there c.before).small in omega (arith, c.last_kept-count.ensures)
 
 keep-modules-requires : tie.Need-keep_modules-requires
 keep-modules-requires c κs =
-    let h = (there c.before.before.before.before.before).small in
-    let fit = (entry c.before.before.before.before.before).requires.1 in (
-      (there c.before.before.before.before.before).there.stands,
+    let h = (there c.before.before.before.before).small in
+    let fit = (entry c.before.before.before.before).requires.1 in (
+      (there c.before.before.before.before).there.stands,
       record {
         in_numbers = omega (arith, fit.in_numbers, c.last_kept-count.ensures);
         in_bytes = omega (arith, fit.in_bytes, c.last_kept-count.ensures);
@@ -58,7 +58,7 @@ keep_file_spec =
     (λ c. search rules)
     (λ c. search rules)
     returns
-    (λ c κs. (there c.before.before).some)
+    (λ c κs. (there c).some)
     cast-count
     keep-modules-requires
     (λ c. search rules)

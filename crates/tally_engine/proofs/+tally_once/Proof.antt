@@ -48,7 +48,7 @@ module _ (t : ℕ) where
   -- A gate counts for itself.
   with-gate-requires : lts.Need-with_gate-tally-requires (claims t) (Given t) reads.Post Inv-loop μ-loop
   with-gate-requires c κs =
-      let s = (start t c.before.before.before.before.before.before).requires.1 in
+      let s = (start t c.before.before.before.before.before).requires.1 in
       let sofar = (c.loop-left.invariant.2 s).0 in
       let gate = at-gate s.countable sofar (turn c.loop-left-test.true sofar.ahead c.occurrence_at-o.ensures) (is-gate t c.before) in
       (gate.below, gate.step.addable)
@@ -66,15 +66,15 @@ module _ (t : ℕ) where
   -- A module adds its tally.
   tally-once-requires : lts.Need-tally_once-inner-requires (claims t) (Given t) reads.Post Inv-loop μ-loop
   tally-once-requires c κs =
-      let s = (start t c.before.before.before.before.before.before.before.before).requires.1 in
+      let s = (start t c.before.before.before.before.before.before.before).requires.1 in
       let sofar = c.loop-left.invariant.2 s in
       let now = turn c.loop-left-test.true sofar.0.ahead c.occurrence_at-o.ensures in
       let inner = at_module s.countable sofar.0 now (is_module t c.before.before.before) in
-      (omega (arith, (start t c.before.before.before.before.before.before.before.before).requires.0, inner.after, inner.inside), tallying s.countable sofar.0 now (is_module t c.before.before.before) sofar.1)
+      (omega (arith, (start t c.before.before.before.before.before.before.before).requires.0, inner.after, inner.inside), tallying s.countable sofar.0 now (is_module t c.before.before.before) sofar.1)
 
   with-tally-requires : lts.Need-with_tally-tally-requires (claims t) (Given t) reads.Post Inv-loop μ-loop
   with-tally-requires c κs =
-      let s = (start t c.before.before.before.before.before.before.before.before.before.before.before.before.before).requires.1 in
+      let s = (start t c.before.before.before.before.before.before.before.before.before.before.before.before).requires.1 in
       let sofar = c.loop-left.invariant.2 s in
       let now = turn c.loop-left-test.true sofar.0.ahead c.occurrence_at-o.ensures in
       let done = c.tally_once-inner.ensures (tallying s.countable sofar.0 now (is_module t c.before.before.before.before.before.before.before.before) sofar.1) in

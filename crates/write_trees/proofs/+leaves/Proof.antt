@@ -27,12 +27,12 @@ below t = and 0 leaves-kinds.ps (falls 0 leaves-kinds.ps ◌<◌ μ-leaves t) le
 module _ (t : ℕ) where
   -- The node, and its bits.
   joined : (c : lts.In-Node (split-reads.Asked, split-reads.Learnt, below t, leaves.Post) (given t) leaves.Post)
-      → (let told = c.x-1.given.0 in
+      → (let told = c.in-Node.given.0 in
       Joined c.args.tree told.0 told.1.0 told.1.1.0)
-  joined c = subst (Parted c.args.tree) c.x-1.given.1 c.split.ensures
+  joined c = subst (Parted c.args.tree) c.in-Node.is c.split.ensures
 
   bits : (c : lts.In-Node (split-reads.Asked, split-reads.Learnt, below t, leaves.Post) (given t) leaves.Post)
-      → (let told = c.x-1.given.0 in
+      → (let told = c.in-Node.given.0 in
       Counted (tree_of c.args.tree) (tree_of told.0) (tree_of told.1.0) (tree_of told.1.1.0))
   bits c = counted _ _ _ (joined c).is
 

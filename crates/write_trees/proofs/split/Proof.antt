@@ -20,8 +20,8 @@ returns-3 : tie.Need-returns-then-height-eq0-2
 returns-3 c = rw (c.in-Spine.is, c.if-height-eq0-2.true) (spine-leaf _)
 
 -- The step and the height of a spine.
-steps : (c : tie.In-Spine) → c.tree-in-Spine-1.given.0.0 + c.tree-in-Spine-1.given.0.1.0 ≤ 100
-steps c = subst Sound c.tree-in-Spine-1.given.1 c.requires
+steps : (c : tie.In-Spine) → c.in-Spine.step + c.in-Spine.height ≤ 100
+steps c = subst Sound c.in-Spine.is c.requires
 
 returns-4 : tie.Need-returns-else-height-eq0
 returns-4 c =

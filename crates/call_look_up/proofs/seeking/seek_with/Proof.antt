@@ -10,17 +10,17 @@ use Rattle.call_look_up.proofs.seeking.seek_with.Tie as tie
 
 -- Back from where the file's modules are noted to the noting, and to the function's entry.
 abbrev noted : tie.In-Modules → tie.After-note
-noted k = k.before.before.before.before.before.before.before
+noted k = k.before.before.before.before.before
 
 abbrev entered : tie.After-note → tie.Start
 entered n = n.before.before.before.before.before.before
 
 shelf :
     (k : tie.In-Modules)
-    → (Shelved k.args.file.now k.modules-1.given.0.0 k.note.new.names k.note.new.places)
+    → (Shelved k.args.file.now k.in-Modules.modules k.note.new.names k.note.new.places)
 shelf k =
     noted-shelved k.args.file.now k.note.new.names k.note.new.places k.note.result k.note.ensures
-    k.modules-1.given.0.0 k.modules-1.given.1
+    k.in-Modules.modules k.in-Modules.is
 
 -- From the search to where the modules are noted.
 abbrev known : tie.After-find → tie.In-Modules
@@ -31,12 +31,12 @@ finds :
     → Finds f.find.result (shelf f.before.before).ms f.args.number
 finds f = f.find.ensures (searchable (shelf f.before.before))
 
-abbrev found : tie.In-At → tie.After-find
-found c = c.before.before.before
+abbrev found : tie.In-At-unread → tie.After-find
+found c = c.before
 
-index : (c : tie.In-At) → c.k-1.given.0.0 < 128
+index : (c : tie.In-At-unread) → c.in-At.k < 128
 index c =
-    sought_index (shelf c.before.before.before.before.before) c.args.number c.find.result (finds c.before.before.before) c.k-1.given.0.0 c.k-1.given.1
+    sought_index (shelf c.before.before.before) c.args.number c.find.result (finds c.before) c.in-At.k c.in-At.is
 
 returns : tie.Need-returns-in-Refused
 returns c =

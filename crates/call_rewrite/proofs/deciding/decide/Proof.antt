@@ -36,10 +36,10 @@ module _ (n : tie.After-count_fours) (g : Given (entered n.before)) where
   counted = n.count-fours.ensures (growable g long)
 
 -- What the first test says.
-tells : (f : tie.After-few_occurrences) (g : Given f.before.before.before.before.before.before.before.before.before.before.before.before.before.before.before) → occurrences_ok (rewrite_file g.ms) ≡ f.few_occurrences.result
-tells f g = f.few_occurrences.ensures (peopled g (wide f.before.before.before.before.before.before.before.before.before g) (counted f.before.before.before.before.before.before.before.before.before g))
+tells : (f : tie.After-few_occurrences) (g : Given f.before.before.before.before.before.before.before.before.before.before.before.before.before.before) → occurrences_ok (rewrite_file g.ms) ≡ f.few_occurrences.result
+tells f g = f.few_occurrences.ensures (peopled g (wide f.before.before.before.before.before.before.before.before g) (counted f.before.before.before.before.before.before.before.before g))
 
-few : (l : tie.After-first_crowded) (g : Given l.before.before.before.before.before.before.before.before.before.before.before.before.before.before.before.before.before) → occurrences_ok (rewrite_file g.ms) ≡ true
+few : (l : tie.After-first_crowded) (g : Given l.before.before.before.before.before.before.before.before.before.before.before.before.before.before.before.before) → occurrences_ok (rewrite_file g.ms) ≡ true
 few l g = tells l.before.before g ∙ not-false l.few_occurrences.result l.if-not-few_occurrences.false
 
 first-user-requires : tie.Need-first_user-requires
@@ -55,12 +55,12 @@ few-occurrences-requires c κs =
 first-crowded-requires : tie.Need-first_crowded-requires
 first-crowded-requires c κs =
     let g = c.requires in
-    netted g (wide c.before.before.before.before.before.before.before.before.before.before.before g) (counted c.before.before.before.before.before.before.before.before.before.before.before g)
+    netted g (wide c.before.before.before.before.before.before.before.before.before.before g) (counted c.before.before.before.before.before.before.before.before.before.before g)
 
 last-large-requires : tie.Need-last_large-requires
 last-large-requires c κs =
     let g = c.requires in
-    sized g (wide c.before.before.before.before.before.before.before.before.before.before.before.before.before.before.before g) (counted c.before.before.before.before.before.before.before.before.before.before.before.before.before.before.before g)
+    sized g (wide c.before.before.before.before.before.before.before.before.before.before.before.before.before g) (counted c.before.before.before.before.before.before.before.before.before.before.before.before.before g)
 
 returns : tie.Need-returns-in-All
 returns c g =
@@ -73,42 +73,42 @@ returns-2 : tie.Need-returns-then-not-few_occurrences
 returns-2 c g =
     record {
       says = λ out. too_many (rewrite_file g.ms) out (tells c.before g ∙ not-true c.few_occurrences.result c.if-not-few_occurrences.true);
-      owned = owns (stood g) (counted c.before.before.before.before.before.before.before.before.before.before g);
+      owned = owns (stood g) (counted c.before.before.before.before.before.before.before.before.before g);
     }
 
 returns-3 : tie.Need-returns-in-Broken
 returns-3 c g =
     record {
       says = λ out.
-          crowded (rewrite_file g.ms) out (few c.before g) (c.first_crowded.ensures (netted g (wide c.before.before.before.before.before.before.before.before.before.before.before.before.before g) (counted c.before.before.before.before.before.before.before.before.before.before.before.before.before g))) c.in-Broken.is;
-      owned = owns (stood g) (counted c.before.before.before.before.before.before.before.before.before.before.before.before.before g);
+          crowded (rewrite_file g.ms) out (few c.before g) (c.first_crowded.ensures (netted g (wide c.before.before.before.before.before.before.before.before.before.before.before.before g) (counted c.before.before.before.before.before.before.before.before.before.before.before.before g))) c.in-Broken.is;
+      owned = owns (stood g) (counted c.before.before.before.before.before.before.before.before.before.before.before.before g);
     }
 
 returns-4 : tie.Need-returns-in-Broken-last_large
 returns-4 c g =
     record {
       says = λ out.
-          large (rewrite_file g.ms) out (few c.before.before.before.before.before g)
-          (c.first_crowded.ensures (netted g (wide c.before.before.before.before.before.before.before.before.before.before.before.before.before.before.before.before.before g) (counted c.before.before.before.before.before.before.before.before.before.before.before.before.before.before.before.before.before g)))
+          large (rewrite_file g.ms) out (few c.before.before.before.before g)
+          (c.first_crowded.ensures (netted g (wide c.before.before.before.before.before.before.before.before.before.before.before.before.before.before.before g) (counted c.before.before.before.before.before.before.before.before.before.before.before.before.before.before.before g)))
           c.in-All-first_crowded.is
-          (c.last_large.ensures (sized g (wide c.before.before.before.before.before.before.before.before.before.before.before.before.before.before.before.before.before g) (counted c.before.before.before.before.before.before.before.before.before.before.before.before.before.before.before.before.before g)))
+          (c.last_large.ensures (sized g (wide c.before.before.before.before.before.before.before.before.before.before.before.before.before.before.before g) (counted c.before.before.before.before.before.before.before.before.before.before.before.before.before.before.before g)))
           c.in-Broken-last_large.is;
-      owned = owns (stood g) (counted c.before.before.before.before.before.before.before.before.before.before.before.before.before.before.before.before.before g);
+      owned = owns (stood g) (counted c.before.before.before.before.before.before.before.before.before.before.before.before.before.before.before g);
     }
 
 returns-5 : tie.Need-returns-in-All-last_large
 returns-5 c g =
     record {
       says = (
-        few c.before.before.before.before.before g,
+        few c.before.before.before.before g,
         λ out.
-            kept-all (rewrite_file g.ms) out (few c.before.before.before.before.before g)
-            (c.first_crowded.ensures (netted g (wide c.before.before.before.before.before.before.before.before.before.before.before.before.before.before.before.before.before g) (counted c.before.before.before.before.before.before.before.before.before.before.before.before.before.before.before.before.before g)))
+            kept-all (rewrite_file g.ms) out (few c.before.before.before.before g)
+            (c.first_crowded.ensures (netted g (wide c.before.before.before.before.before.before.before.before.before.before.before.before.before.before.before g) (counted c.before.before.before.before.before.before.before.before.before.before.before.before.before.before.before g)))
             c.in-All-first_crowded.is
-            (c.last_large.ensures (sized g (wide c.before.before.before.before.before.before.before.before.before.before.before.before.before.before.before.before.before g) (counted c.before.before.before.before.before.before.before.before.before.before.before.before.before.before.before.before.before g)))
+            (c.last_large.ensures (sized g (wide c.before.before.before.before.before.before.before.before.before.before.before.before.before.before.before g) (counted c.before.before.before.before.before.before.before.before.before.before.before.before.before.before.before g)))
             c.in-All-last_large.is,
       );
-      owned = owns (stood g) (counted c.before.before.before.before.before.before.before.before.before.before.before.before.before.before.before.before.before g);
+      owned = owns (stood g) (counted c.before.before.before.before.before.before.before.before.before.before.before.before.before.before.before g);
     }
 
 pub decide_spec : {M : Type 1} → statement M

@@ -17,7 +17,7 @@ entered p =
     p.before.before.before.before.before.before.before.before.before.before.before.before.before.before.before.before.before
 
 -- From where all is lent on to where the file is known to be ready.
-abbrev ready : tie.After-rewrite-ready-arg3 → tie.In-Ready-2
+abbrev ready : tie.After-rewrite-ready-arg3 → tie.In-Ready
 ready c = c.before.before.before.before.before.before.before.before
 
 rewrite-ready-requires : tie.Need-rewrite_ready-requires

@@ -42,9 +42,9 @@ returns c =
 returns-2 : tie.Need-returns-in-Stays
 unfolding decide-requires
 returns-2 c =
-    same-written c.requires.beside.opened (c.decide.ensures (decide-requires c.before.before.before.before.before.before.before.before c.decide.lifetimes))
+    same-written c.requires.beside.opened (c.decide.ensures (decide-requires c.before.before.before.before.before.before.before c.decide.lifetimes))
     (length c.args.out.now)
-    (bytes c.before.before.before.before.before.before.before.before)
+    (bytes c.before.before.before.before.before.before.before)
     c.in-Stays.is
     c.answer.ensures
 
@@ -53,7 +53,7 @@ unfolding decide-requires
 write-new-requires c κs =
     let r = c.requires in
     let o = r.beside.opened in
-    let says = c.decide.ensures (decide-requires c.before.before.before.before.before.before.before c.decide.lifetimes) in
+    let says = c.decide.ensures (decide-requires c.before.before.before.before.before.before c.decide.lifetimes) in
     record {
       ms = o.ms;
       reads = o.reads;
@@ -72,7 +72,7 @@ write-new-requires c κs =
 returns-3 : tie.Need-returns-in-Go
 unfolding write-new-requires decide-requires
 returns-3 c =
-    new-written c.requires.beside.opened (c.decide.ensures (decide-requires c.before.before.before.before.before.before.before.before.before.before.before.before c.decide.lifetimes)) (length c.args.out.now)
+    new-written c.requires.beside.opened (c.decide.ensures (decide-requires c.before.before.before.before.before.before.before.before.before.before.before c.decide.lifetimes)) (length c.args.out.now)
     c.in-Go.is
     (c.write_new.ensures (write-new-requires c.before.before.before.before.before c.write_new.lifetimes))
 

@@ -13,7 +13,7 @@ prepared c = c.before.before.before.before.before.before.before.before.before.be
 
 judge-requires : tie.Need-judge-requires
 judge-requires c κs =
-    let p = (prepared c.before.before.before.before).prepare in
+    let p = (prepared c.before.before).prepare in
     let o = opened _ _ _ _ _ _ _ p.result p.ensures _ c.in-Ready.is in
     record { ms = o.ms; nets = _; held = o.held; all = o.all }
 
@@ -24,7 +24,7 @@ returns c =
 
 returns-2 : tie.Need-returns-in-Ready
 returns-2 c =
-    let p = (prepared c.before.before.before.before.before).prepare in
+    let p = (prepared c.before.before.before).prepare in
     let o = opened _ _ _ _ _ _ _ p.result p.ensures _ c.in-Ready.is in
     c.judge.ensures (record { ms = o.ms; nets = _; held = o.held; all = o.all })
     ∙ sym (ap check_of (strict_accepted _ o.ms o.reads o.held.good))

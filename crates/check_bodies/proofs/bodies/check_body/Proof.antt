@@ -27,10 +27,10 @@ abbrev turn : tie.After-check_occurrence invariant-loop decreases-loop → tie.I
 turn s = s.before.before.before
 
 abbrev broken : tie.In-Broken invariant-loop decreases-loop → tie.After-check_occurrence invariant-loop decreases-loop
-broken c = c.before.before.before.before.before.before.before
+broken c = c.before.before.before.before.before
 
 abbrev fine : tie.In-Fine invariant-loop decreases-loop → tie.After-check_occurrence invariant-loop decreases-loop
-fine c = c.before.before.before.before.before.before.before
+fine c = c.before.before.before.before.before
 
 loop-holds : tie.Need-loop-i-init invariant-loop decreases-loop
 loop-holds c = walk_begins (begun c).requires c.nothing-so_far.ensures

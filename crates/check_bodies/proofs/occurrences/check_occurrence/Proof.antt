@@ -116,10 +116,10 @@ judge-reference-requires c κs =
 -- A module that is meant has its position in the file.
 inside :
     (c : tie.In-Module)
-    → c.j-1.given.0.0 < length (started c.before.before.before.before.before).requires.scene.ms
+    → c.in-Module.j < length (started c.before.before.before).requires.scene.ms
 inside c =
-    let p = (started c.before.before.before.before.before).requires in
-    (judged (writing c.before.before.before.before.before) c.judge_reference.ensures c.j-1.given.1 p.scene p.o p.nets p.nets p.stands
+    let p = (started c.before.before.before).requires in
+    (judged (writing c.before.before.before) c.judge_reference.ensures c.in-Module.is p.scene p.o p.nets p.nets p.stands
     p.knows p.wide (record { same = λ x. refl })).2
 
 with-module-requires : tie.Need-with_module-requires
@@ -180,7 +180,7 @@ check_occurrence_spec =
     (λ c.
     let j = c.before.before.before in
     step-gate (writing (known j)) j.judge-reference.ensures c.before.enum_told.given.1 c.with-gate.ensures)
-    (λ c. simp length-set (sized c.before.before.before.before.before.before))
+    (λ c. simp length-set (sized c.before.before.before.before))
     (λ c. search rules)
     (λ c.
     let j = c.before.before.before.before in

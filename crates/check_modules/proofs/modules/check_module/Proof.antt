@@ -106,11 +106,11 @@ check-body-requires c κs =
 abbrev counted : tie.After-check_body → tie.After-entry-count
 counted c = c.before.before.before
 
-abbrev refused : tie.In-Broken-2 → tie.After-check_body
-refused c = c.before.before.before.before.before.before
+abbrev refused : tie.In-Broken → tie.After-check_body
+refused c = c.before.before.before.before.before
 
-abbrev walked : tie.In-Fine-2 → tie.After-check_body
-walked c = c.before.before.before.before.before.before
+abbrev walked : tie.In-Fine → tie.After-check_body
+walked c = c.before.before.before.before.before
 
 -- The table is as long as it was, and its entries are low.
 kept : (b : tie.After-check_body) → length b.check_body.new.slots ≡ length (entered (head b.before.before.before)).args.slots.now
@@ -121,14 +121,14 @@ low b = b.check_body.ensures.low (head b.before.before.before).judge-head.ensure
 
 finish-module-requires : tie.Need-finish_module-broken-requires
 finish-module-requires c κs =
-    let b = walked c.before.before in
+    let b = walked c.before in
     let p = (entered (head b.before.before.before)).requires in
     ready-end p.scene (opened b.before.before.before) p.own b.check-body.ensures c.in-Fine.is
     (below-sized (kept b) p.indexes.in_slots) p.based p.short b.check-body.kept.0
 
 returns-2 : tie.Need-returns-in-Broken
 returns-2 c =
-    let b = refused c.before in
+    let b = refused c in
     record {
       checks = λ s own. body-broken s (opened b.before.before.before) own b.check-body.ensures c.in-Broken.is;
       low = low b;
@@ -136,7 +136,7 @@ returns-2 c =
 
 returns-3 : tie.Need-returns-then-broken-eq0
 returns-3 c =
-    let b = walked c.before.before.before.before.before.before in
+    let b = walked c.before.before.before.before.before in
     record {
       checks = λ s own.
           settled s (opened b.before.before.before) own b.check-body.ensures c.in-Fine.is c.finish_module-broken.ensures c.if-broken-eq0.true;
@@ -145,7 +145,7 @@ returns-3 c =
 
 returns-4 : tie.Need-returns-else-broken-eq0
 returns-4 c =
-    let b = walked c.before.before.before.before.before.before in
+    let b = walked c.before.before.before.before.before in
     record {
       checks = λ s own.
           end-broken s (opened b.before.before.before) own b.check-body.ensures c.in-Fine.is c.finish_module-broken.ensures c.if-broken-eq0.false;
@@ -173,8 +173,8 @@ check_module_spec =
     (λ c. search rules)
     returns-2
     (λ c. search rules)
-    (λ c. kept (walked c.before.before.before.before.before.before))
+    (λ c. kept (walked c.before.before.before.before.before))
     returns-3
     (λ c. search rules)
-    (λ c. kept (walked c.before.before.before.before.before.before))
+    (λ c. kept (walked c.before.before.before.before.before))
     returns-4)

@@ -38,7 +38,7 @@ check-module-requires : tie.Need-check_module-requires
 check-module-requires c κs = ready (entered c.before.before).requires c.end_before-end.ensures
 
 abbrev fine : tie.In-Fine → tie.After-check_module
-fine c = c.before.before.before.before.before.before.before
+fine c = c.before.before.before.before.before
 
 abbrev keeping : tie.After-slice_known-in-Fine-2-1 → tie.After-keep
 keeping c = c.before.before.before.before
@@ -51,7 +51,7 @@ slice-write-nets c = let d = ended c.before.before.before.before.before in nets-
 
 keep-requires : tie.Need-keep-requires
 keep-requires c κs =
-    let d = ended c.before.before.before.before.before.before.before.before.before in
+    let d = ended c.before.before.before.before.before.before.before in
     let kept = c.check_module.kept in
     may_keep (entered d).requires d.end_Before.ensures c.check_module.ensures kept.0 kept.1.1.1.1.1.0 _ _ c.in-Fine.is
 
@@ -63,14 +63,14 @@ returns c b =
 returns-2 : tie.Need-returns-then-keep
 returns-2 c b =
     let kept = c.check_module.kept in
-    gone-kept b (ended c.before.before.before.before.before.before.before.before.before.before.before.before.before.before.before).end_Before.ensures c.check_module.ensures kept.0 kept.1.1.1.1.1.0 _ _ c.in-Fine.is
+    gone-kept b (ended c.before.before.before.before.before.before.before.before.before.before.before.before.before).end_Before.ensures c.check_module.ensures kept.0 kept.1.1.1.1.1.0 _ _ c.in-Fine.is
     c.keep.ensures c.if-keep.true
 
 returns-3 : tie.Need-returns-else-keep
 returns-3 c b =
     let kept = c.check_module.kept in
     rw c.over.ensures
-    (gone-over b (ended c.before.before.before.before.before.before.before.before.before.before.before.before.before.before.before.before).end_Before.ensures c.check_module.ensures kept.0 kept.1.1.1.1.1.0 _ _ c.in-Fine.is
+    (gone-over b (ended c.before.before.before.before.before.before.before.before.before.before.before.before.before.before).end_Before.ensures c.check_module.ensures kept.0 kept.1.1.1.1.1.0 _ _ c.in-Fine.is
     c.keep.ensures c.if-keep.false)
 
 pub check_at_spec : {M : Type 1} → statement M

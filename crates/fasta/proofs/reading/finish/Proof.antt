@@ -8,8 +8,8 @@ use Rattle.fasta.proofs.reading.finish.Tie as tie
 abbrev filed : tie.After-slice_known-in-Counted-1 → tie.After-file_record
 filed c = c.before.before
 
-abbrev taken : tie.After-file_record-arg-1 → tie.In-Counted-2
-taken c = c.before.before
+abbrev taken : tie.After-file_record-arg-1 → tie.In-Counted
+taken c = c.before
 
 slice-aggregate-file-record : tie.Need-slice_bounds-file_record-end
 slice-aggregate-file-record c =

@@ -50,13 +50,13 @@ module _ (t : ℕ) where
   -- The slot that a gate fills is one of scratch.
   slot-there :
       (c : walk-lts.After-set_gate-end (walk-claims t) (walk_at t) walk.Post Inv-loop μ-loop)
-      → let l = (gate-read t c.before.before.before).before.before.loop in
+      → let l = (gate-read t c.before.before).before.before.loop in
       l.filled < length l.scratch
-  slot-there c = gate-room (own t (gate-read t c.before.before.before)) (is-gate t c.before.before.before)
+  slot-there c = gate-room (own t (gate-read t c.before.before)) (is-gate t c.before.before)
 
   loop-again : walk-lts.Need-loop-left-preserved-in-Gate (walk-claims t) (walk_at t) walk.Post Inv-loop μ-loop
   loop-again c p ready ahead =
-      turn-gate (here t (gate-read t c.before.before.before.before.before) p ready ahead) (is-gate t c.before.before.before.before.before) c.set_gate-end.ensures
+      turn-gate (here t (gate-read t c.before.before.before.before) p ready ahead) (is-gate t c.before.before.before.before) c.set_gate-end.ensures
 
   -- At a module, once its arguments are passed: its part of scratch begins within it.
   lent-inside : walk-lts.Need-slice_bounds-place_module-count (walk-claims t) (walk_at t) walk.Post Inv-loop μ-loop

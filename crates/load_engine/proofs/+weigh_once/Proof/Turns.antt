@@ -25,28 +25,28 @@ module _ (t : ℕ) where
 
   pub gate-places : lts.Need-add_loads-requires (claims t) (Given t) reads.Post Inv-loop μ-loop
   gate-places c κs =
-      let read = gate-read t c.before.before.before.before in
+      let read = gate-read t c.before.before.before in
       let w = working t read.before.before in
       let sofar = (read.before.before.loop.inv.3 w).0 in
       let now = turn read.before.loop-test.taken sofar.ahead read.occurrence-at.ensures in
-      (at-gate w.loadable sofar now (is-gate t c.before.before.before.before) _).placed
+      (at-gate w.loadable sofar now (is-gate t c.before.before.before) _).placed
 
   pub again-at-gate : lts.Need-loop-left-preserved-in-Gate (claims t) (Given t) reads.Post Inv-loop μ-loop
   again-at-gate c =
-      let read = gate-read t c.before.before.before.before.before.before.before in (
+      let read = gate-read t c.before.before.before.before.before.before in (
         read.before.before.loop.inv.0,
         read.before.before.loop.inv.1,
         read.before.before.loop.inv.2,
         λ w.
             let sofar = read.before.before.loop.inv.3 w in
             let now = turn read.before.loop-test.taken sofar.0.ahead read.occurrence-at.ensures in (
-              (at-gate w.loadable sofar.0 now (is-gate t c.before.before.before.before.before.before.before) _).next c.add_loads.auto.1.1.1.1.1.1.0 c.add_loads.ensures,
+              (at-gate w.loadable sofar.0 now (is-gate t c.before.before.before.before.before.before) _).next c.add_loads.auto.1.1.1.1.1.1.0 c.add_loads.ensures,
               sofar.1,
             ),
         λ s.
             let sofar = read.before.before.loop.inv.4 s in
             let now = turn read.before.loop-test.taken sofar.0.ahead read.occurrence-at.ensures in
-            ((counting.at-gate s.countable sofar.0 now (is-gate t c.before.before.before.before.before.before.before)).step.next c.with_gate-tally.ensures, sofar.1),
+            ((counting.at-gate s.countable sofar.0 now (is-gate t c.before.before.before.before.before.before)).step.next c.with_gate-tally.ensures, sofar.1),
       )
 
   -- At a module the part behind the frame is lent on; its tally is added, and each argument place adds the load of its input, and

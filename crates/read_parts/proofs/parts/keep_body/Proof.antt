@@ -7,21 +7,21 @@ use Rattle.read_parts.proofs.parts.keep_body.Statement.{statement}
 use Rattle.read_parts.proofs.parts.keep_body.Tie as tie
 
 -- The count is laid out, and reading stands behind it.
-there : (c : tie.In-On-2)
+there : (c : tie.In-On)
     → CountTaken most_occurrences c.args.bytes.now c.args.spot c.args.numbers.now
-    c.way-1.given.0.0 c.keep_count-way.new.numbers
-there c = counted most_occurrences c.requires c.way-1.given.1 c.keep_count-way.ensures
+    c.in-On.next c.keep_count-way.new.numbers
+there c = counted most_occurrences c.requires c.in-On.is c.keep_count-way.ensures
 
 returns : tie.Need-returns-in_default
 returns c =
     takes-ended (read_many read_occurrence) c.in_default.is c.keep_count-way.ensures
 
 keep-occurrences-requires : tie.Need-keep_occurrences-requires
-keep-occurrences-requires c κs = (there c.before.before.before).there.stands
+keep-occurrences-requires c κs = (there c.before.before).there.stands
 
 returns-2 : tie.Need-returns
 returns-2 c =
-    takes-list read_occurrence (there c.before.before.before.before.before.before) c.last_kept-count.ensures c.keep_occurrences.ensures
+    takes-list read_occurrence (there c.before.before.before.before.before) c.last_kept-count.ensures c.keep_occurrences.ensures
 
 pub keep_body_spec : {M : Type 1} → statement M
 keep_body_spec =
@@ -32,7 +32,7 @@ keep_body_spec =
     (λ c. search rules)
     (λ c. search rules)
     returns
-    (λ c κs. (there c.before.before).some)
+    (λ c κs. (there c).some)
     keep-occurrences-requires
     (λ c. search rules)
     returns-2)

@@ -7,10 +7,10 @@ use Rattle.read_parts.proofs.parts.keep_nets.Statement.{statement}
 use Rattle.read_parts.proofs.parts.keep_nets.Tie as tie
 
 -- The count is laid out, and reading stands behind it.
-there : (c : tie.In-On-2)
+there : (c : tie.In-On)
     → CountTaken most_nets c.args.bytes.now c.args.spot c.args.numbers.now
-    c.way-1.given.0.0 c.keep_count-way.new.numbers
-there c = counted most_nets c.requires c.way-1.given.1 c.keep_count-way.ensures
+    c.in-On.next c.keep_count-way.new.numbers
+there c = counted most_nets c.requires c.in-On.is c.keep_count-way.ensures
 
 returns : tie.Need-returns-in_default
 unfolding read_nets
@@ -18,12 +18,12 @@ returns c =
     takes-ended (read_many read_number) c.in_default.is c.keep_count-way.ensures
 
 keep-numbers-requires : tie.Need-keep_numbers-requires
-keep-numbers-requires c κs = (there c.before.before.before).there.stands
+keep-numbers-requires c κs = (there c.before.before).there.stands
 
 returns-2 : tie.Need-returns
 unfolding read_nets
 returns-2 c =
-    takes-list read_number (there c.before.before.before.before.before.before) c.last_kept-count.ensures c.keep_numbers.ensures
+    takes-list read_number (there c.before.before.before.before.before) c.last_kept-count.ensures c.keep_numbers.ensures
 
 pub keep_nets_spec : {M : Type 1} → statement M
 keep_nets_spec =
@@ -34,7 +34,7 @@ keep_nets_spec =
     (λ c. search rules)
     (λ c. search rules)
     returns
-    (λ c κs. (there c.before.before).some)
+    (λ c κs. (there c).some)
     keep-numbers-requires
     (λ c. search rules)
     returns-2)

@@ -10,23 +10,23 @@ use Rattle.read_parts.proofs.parts.keep_occurrence.Statement.{statement}
 use Rattle.read_parts.proofs.parts.keep_occurrence.Tie as tie
 
 -- The driven nets are read: the call that reads them, and the function's start.
-abbrev nets : tie.In-On-2 → tie.After-keep_nets-driven
-nets c = c.before.before.before.before
+abbrev nets : tie.In-On → tie.After-keep_nets-driven
+nets c = c.before.before.before
 
-driven : (c : tie.In-On-2)
+driven : (c : tie.In-On)
     → Reached list_numbers read_nets c.args.bytes.now c.args.spot c.args.numbers.now
-    c.driven-1.given.0.0 c.keep_nets-driven.new.numbers
-driven c = reached sound-nets c.requires c.driven-1.given.1 c.keep_nets-driven.ensures
+    c.in-On.spot c.keep_nets-driven.new.numbers
+driven c = reached sound-nets c.requires c.in-On.is c.keep_nets-driven.ensures
 
 -- The number is read: the call that reads it, and where reading stood.
-abbrev number : tie.In-On-refers-2 → tie.After-keep_number-refers
-number c = c.before.before.before.before
+abbrev number : tie.In-On-refers → tie.After-keep_number-refers
+number c = c.before.before.before
 
-refers : (c : tie.In-On-refers-2)
+refers : (c : tie.In-On-refers)
     → Reached one read_number c.args.bytes.now
-    c.driven-1.given.0.0 c.keep_nets-driven.new.numbers
-    c.refers-1.given.0.0 c.keep_number-refers.new.numbers
-refers c = reached sound-number (driven c.before.before.before.before.before.before.before).stands c.refers-1.given.1 c.keep_number-refers.ensures
+    c.in-On.spot c.keep_nets-driven.new.numbers
+    c.in-On-refers.spot c.keep_number-refers.new.numbers
+refers c = reached sound-number (driven c.before.before.before.before.before).stands c.in-On-refers.is c.keep_number-refers.ensures
 
 returns : tie.Need-returns-in_default
 returns c =
@@ -34,21 +34,21 @@ returns c =
     (takes-ended (λ _. skip read_number read_nets) c.in_default.is c.keep_nets-driven.ensures)
 
 keep-number-requires : tie.Need-keep_number-refers-requires
-keep-number-requires c κs = (driven c.before.before).stands
+keep-number-requires c κs = (driven c.before).stands
 
 returns-2 : tie.Need-returns-in_default-refers
 returns-2 c =
     takes-alike alike-occurrence
-    (takes_skip (driven c.before.before.before.before.before.before)
+    (takes_skip (driven c.before.before.before.before.before)
     (takes-ended (λ _. read_nets) c.in_default-refers.is c.keep_number-refers.ensures))
 
 keep-nets-requires-2 : tie.Need-keep_nets-requires
-keep-nets-requires-2 c κs = (refers c.before.before).stands
+keep-nets-requires-2 c κs = (refers c.before).stands
 
 returns-3 : tie.Need-returns
 returns-3 c =
     takes-alike alike-occurrence
-    (takes_skip (driven c.before.before.before.before.before.before.before.before.before.before.before.before) (takes_skip (refers c.before.before.before.before.before) c.keep_nets.ensures))
+    (takes_skip (driven c.before.before.before.before.before.before.before.before.before) (takes_skip (refers c.before.before.before.before) c.keep_nets.ensures))
 
 pub keep_occurrence_spec : {M : Type 1} → statement M
 keep_occurrence_spec =

@@ -11,12 +11,12 @@ use Rattle.read_parts.proofs.way.keep_count.Tie as tie
 
 -- The function's start, from where a number is found.
 abbrev entry : tie.In-Is → tie.Start
-entry c = c.before.before.before.before.before.before
+entry c = c.before.before.before.before
 
 is : (c : tie.In-Is)
-    → Is c.value-1.given.0.0 c.value-1.given.0.1.0
+    → Is c.in-Is.value c.in-Is.next
     ≡ number_read (step_from read_number (entry c).args.bytes.now (entry c).args.spot)
-is c = sym c.value-1.given.1 ∙ c.read_number.ensures
+is c = sym c.in-Is.is ∙ c.read_number.ensures
 
 returns : tie.Need-returns-then-ceiling-value
 returns c = count-over (entry c.before).requires (is c.before) (entry c.before).args.ceiling c.if-ceiling-value.true

@@ -19,7 +19,7 @@ decreases-loop text most inputs values₀ rows₀ given₀ next₀ values rows g
 
 -- Where a line was looked for, and the loop and the entry in front of it.
 abbrev looked : tie.In-Row invariant-loop decreases-loop → tie.After-find_row invariant-loop decreases-loop
-looked c = c.before.before.before
+looked c = c.before
 
 abbrev entry : tie.In-loop-rows invariant-loop decreases-loop → tie.Start invariant-loop decreases-loop
 entry c = c.before.before.before.before
@@ -34,8 +34,8 @@ found_here c =
 
 row : (c : tie.In-Row invariant-loop decreases-loop)
     → let s = c.args in
-    FoundRow s.inputs (drop c.loop-rows.next s.text.now) c.bare-1.given.0.0 c.bare-1.given.0.1.0
-row c = found-row _ _ (sym (found_here c.before.before.before) ∙ c.bare-1.given.1)
+    FoundRow s.inputs (drop c.loop-rows.next s.text.now) c.in-Row.bare c.in-Row.whole
+row c = found-row _ _ (sym (found_here c.before) ∙ c.in-Row.is)
 
 -- The row ends inside the text.
 end-inside : tie.Need-slice_bounds-put_at-end invariant-loop decreases-loop
@@ -45,7 +45,7 @@ end-inside c =
     omega (arith, c.loop-rows.invariant.inside, (row c).inside, (row c).within, length-drop next s.text.now)
 
 next-inside : (c : tie.In-Row invariant-loop decreases-loop)
-    → c.loop-rows.next + c.bare-1.given.0.1.0 ≤ length c.args.text.now
+    → c.loop-rows.next + c.in-Row.whole ≤ length c.args.text.now
 next-inside c =
     let s = c.args in
     omega (arith, c.loop-rows.invariant.inside, (row c).within, length-drop c.loop-rows.next s.text.now)

@@ -54,32 +54,32 @@ module _ (t : ℕ) where
   -- The slot that a gate fills is one of either list.
   in-units :
       (c : walk-lts.After-at_gate-times (walk-claims t) (walk_at t) walk.Post Inv-loop μ-loop)
-      → let l = (gate-read t c.before.before.before).before.before.loop in
+      → let l = (gate-read t c.before.before).before.before.loop in
       l.filled < length l.units
-  in-units c = turns.gate-room (units-own t (gate-read t c.before.before.before)) (gate-kind t c.before.before.before)
+  in-units c = turns.gate-room (units-own t (gate-read t c.before.before)) (gate-kind t c.before.before)
 
   in-others :
       (c : walk-lts.After-at_gate-times (walk-claims t) (walk_at t) walk.Post Inv-loop μ-loop)
-      → let l = (gate-read t c.before.before.before).before.before.loop in
+      → let l = (gate-read t c.before.before).before.before.loop in
       l.filled < length l.others
-  in-others c = turns.gate-room (others-own t (gate-read t c.before.before.before)) (gate-kind t c.before.before.before)
+  in-others c = turns.gate-room (others-own t (gate-read t c.before.before)) (gate-kind t c.before.before)
 
   mul-units : walk-lts.Need-offset_bounds-units-here (walk-claims t) (walk_at t) walk.Post Inv-loop μ-loop
   mul-units c =
-      let read = gate-read t c.before.before.before in
+      let read = gate-read t c.before.before in
       omega (arith, in-units c, (units-own t read).progress.size, (start t read.before.before).good)
 
   mul-others : walk-lts.Need-offset_bounds-others-here (walk-claims t) (walk_at t) walk.Post Inv-loop μ-loop
   mul-others c =
-      let read = gate-read t c.before.before.before in
+      let read = gate-read t c.before.before in
       omega (arith, in-others c, (others-own t read).progress.size, (start t read.before.before).good)
 
   loop-again : walk-lts.Need-loop-left-preserved-in-Gate (walk-claims t) (walk_at t) walk.Post Inv-loop μ-loop
   loop-again c =
-      let read = gate-read t c.before.before.before in
+      let read = gate-read t c.before.before in
       let inv = read.before.before.loop.inv in (
-        λ s ahead. turns.turn-gate (here t read inv.0 s ahead) (gate-kind t c.before.before.before) c.at_gate-times.ensures.0,
-        λ s ahead. turns.turn-gate (here t read inv.1 s ahead) (gate-kind t c.before.before.before) c.at_gate-times.ensures.1,
+        λ s ahead. turns.turn-gate (here t read inv.0 s ahead) (gate-kind t c.before.before) c.at_gate-times.ensures.0,
+        λ s ahead. turns.turn-gate (here t read inv.1 s ahead) (gate-kind t c.before.before) c.at_gate-times.ensures.1,
       )
 
   -- At a module, once its arguments are passed: its parts of the lists begin within them.

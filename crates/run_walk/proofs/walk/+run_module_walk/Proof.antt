@@ -51,18 +51,18 @@ module _ (t : ℕ) where
   -- The slot that a gate fills is one of scratch.
   slot-there :
       (c : walk-lts.After-result (walk-claims t) (walk_at t) walk.Post Inv-loop μ-loop)
-      → let l = (gate-read t c.before.before.before).before.before.loop in
+      → let l = (gate-read t c.before).before.before.loop in
       l.filled < length l.scratch
-  slot-there c = turns.gate-room (own t (gate-read t c.before.before.before)) (gate-kind t c.before.before.before)
+  slot-there c = turns.gate-room (own t (gate-read t c.before)) (gate-kind t c.before)
 
   mul-scratch : walk-lts.Need-offset_bounds-scratch-here (walk-claims t) (walk_at t) walk.Post Inv-loop μ-loop
   mul-scratch c =
-      let read = gate-read t c.before.before.before in
+      let read = gate-read t c.before in
       omega (arith, slot-there c, (own t read).progress.size, (start t read.before.before).good)
 
   loop-again : walk-lts.Need-loop-left-preserved-in-Gate (walk-claims t) (walk_at t) walk.Post Inv-loop μ-loop
   loop-again c s ahead =
-      turns.turn-gate (here t (gate-read t c.before.before.before) s ahead) (gate-kind t c.before.before.before) c.result.ensures
+      turns.turn-gate (here t (gate-read t c.before) s ahead) (gate-kind t c.before) c.result.ensures
 
   -- At a module, once its arguments are passed: its part of scratch begins within it.
   lent-inside : walk-lts.Need-slice_bounds-run_module-count (walk-claims t) (walk_at t) walk.Post Inv-loop μ-loop

@@ -79,9 +79,9 @@ module _ (t : ℕ) where
   pub is-gate :
       (c : lts.In-Gate (claims t) (Given t) reads.Post Inv-loop μ-loop)
       → is_gate c.occurrence_at-o.result.refers ≡ true
-  is-gate c = gate-told _ (sym c.kind_of.ensures ∙ c.enum_told-1.given.1)
+  is-gate c = gate-told _ (sym c.kind_of.ensures ∙ c.in-Gate.is)
 
   pub is_module :
       (c : lts.In-Module (claims t) (Given t) reads.Post Inv-loop μ-loop)
       → is_gate c.occurrence_at-o.result.refers ≡ false
-  is_module c = module_told _ (sym c.kind_of.ensures ∙ c.enum_told-in-Module-1.given.1)
+  is_module c = module_told _ (sym c.kind_of.ensures ∙ c.in-Module.is)

@@ -47,7 +47,7 @@ module _ (t : ℕ) where
 
   -- The start, from where a node is told; the places behind the pieces, each from the one behind the next.
   abbrev entry : lts.In-Node claims (Given t) reads.Post → lts.Start claims (Given t) reads.Post
-  entry c = c.before.before.before.before.before
+  entry c = c.before.before.before
 
   abbrev told : lts.After-ahead-x claims (Given t) reads.Post → lts.In-Node claims (Given t) reads.Post
   told c = c.before.before
@@ -56,8 +56,8 @@ module _ (t : ℕ) where
   one c = c.before.before.before.before
 
   joined : (c : lts.In-Node claims (Given t) reads.Post)
-      → (let parts = c.x-1.given.0 in Joined (entry c).args.tree parts.0 parts.1.0 parts.1.1.0)
-  joined c = subst (Parted (entry c).args.tree) c.x-1.given.1 c.split.ensures
+      → (let parts = c.in-Node.given.0 in Joined (entry c).args.tree parts.0 parts.1.0 parts.1.1.0)
+  joined c = subst (Parted (entry c).args.tree) c.in-Node.is c.split.ensures
 
   ahead-requires : lts.Need-ahead-x-requires claims (Given t) reads.Post
   ahead-requires c κs =

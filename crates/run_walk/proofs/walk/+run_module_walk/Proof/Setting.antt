@@ -89,7 +89,7 @@ module _ (t : ℕ) where
   Reading = walk-lts.After-occurrence_at-o (walk-claims t) (walk_at t) walk.Post Inv-loop μ-loop
 
   abbrev pub AtGate : Type 0
-  AtGate = walk-lts.In-Gate-2 (walk-claims t) (walk_at t) walk.Post Inv-loop μ-loop
+  AtGate = walk-lts.In-Gate (walk-claims t) (walk_at t) walk.Post Inv-loop μ-loop
 
   abbrev pub AtModule : Type 0
   AtModule = walk-lts.In-Module (walk-claims t) (walk_at t) walk.Post Inv-loop μ-loop

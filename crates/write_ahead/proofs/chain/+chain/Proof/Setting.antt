@@ -45,7 +45,7 @@ module _ (t : ℕ) where
 
   -- The start, from where a node is told; the places behind the pieces, each from the one behind the next.
   abbrev pub entry : lts.In-Node claims (Given t) reads.Post → lts.Start claims (Given t) reads.Post
-  entry c = c.before.before.before.before.before
+  entry c = c.before.before.before
 
   abbrev pub told : lts.After-leaves claims (Given t) reads.Post → lts.In-Node claims (Given t) reads.Post
   told c = c.before.before.before
@@ -57,26 +57,26 @@ module _ (t : ℕ) where
   middle c = c.before.before.before.before
 
   pub joined : (c : lts.In-Node claims (Given t) reads.Post)
-      → (let parts = c.x-1.given.0 in Joined (entry c).args.tree parts.0 parts.1.0 parts.1.1.0)
-  joined c = subst (Parted (entry c).args.tree) c.x-1.given.1 c.split.ensures
+      → (let parts = c.in-Node.given.0 in Joined (entry c).args.tree parts.0 parts.1.0 parts.1.1.0)
+  joined c = subst (Parted (entry c).args.tree) c.in-Node.is c.split.ensures
 
   -- The steps are past the lowest tree.
   pub past : (c : lts.After-leaves claims (Given t) reads.Post)
-      → leaves (tree_of c.x-1.given.0.0) ≤ (entry c.before.before.before).args.left
+      → leaves (tree_of c.in-Node.x) ≤ (entry c.before.before.before).args.left
   past c = omega (arith, c.if-left-low.false, c.leaves-low.ensures)
 
   pub both : (c : lts.After-leaves claims (Given t) reads.Post)
-      → (let parts = c.x-1.given.0 in
+      → (let parts = c.in-Node.given.0 in
       c.leaves-low.result + c.leaves.result ≡ leaves (tree_of parts.0) + leaves (tree_of parts.1.0))
   both c = omega (arith, c.leaves.ensures, c.leaves-low.ensures)
 
   -- The rest lies inside the middle tree, or past it.
   pub inside : (c : lts.Then-left-both claims (Given t) reads.Post)
-      → (let parts = c.x-1.given.0 in
+      → (let parts = c.in-Node.given.0 in
       (entry c.before.before.before.before.before.before.before.before.before.before.before.before).args.left < leaves (tree_of parts.0) + leaves (tree_of parts.1.0))
   inside c = omega (arith, c.if-left-both.true, both c.before.before.before.before.before.before.before.before.before)
 
   pub outside : (c : lts.Else-left-both claims (Given t) reads.Post)
-      → (let parts = c.x-1.given.0 in
+      → (let parts = c.in-Node.given.0 in
       leaves (tree_of parts.0) + leaves (tree_of parts.1.0) ≤ (entry c.before.before.before.before.before.before.before.before.before.before.before.before).args.left)
   outside c = omega (arith, c.if-left-both.false, both c.before.before.before.before.before.before.before.before.before)
