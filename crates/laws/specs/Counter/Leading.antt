@@ -43,16 +43,16 @@ unfolding lead
 lead-append [] high = go (lead high)
   where
     go : (l : Lead) → l ≡ over (length high) empty l
-    go (found zeros) = refl
+    go (found _) = refl
     go empty = refl
     go unsure = refl
 lead-append (v ∷ low) high = rw (lead-append low high, length-append low high) (go v (lead low) (lead high))
   where
     go : (v : Val) (l h : Lead)
         → under v (length low + length high) (over (length high) l h) ≡ over (length high) (under v (length low) l) h
-    go v l (found zeros) = refl
+    go v l (found _) = refl
     go v l unsure = refl
-    go v (found zeros) empty = refl
+    go v (found _) empty = refl
     go v unsure empty = refl
     go (known true) empty empty = ap found (omega arith)
     go (known false) empty empty = refl
