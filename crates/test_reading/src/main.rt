@@ -65,6 +65,12 @@ fn read(rt: &impl Print, bytes: &[u8], numbers: &mut [u16; 65535]) -> io::Result
     )
 }
 
+// Reads a buffer but for its last byte, and then all of it.
+fn read_both(rt: &impl Print, bytes: &[u8; 65536], numbers: &mut [u16; 65535]) -> io::Result<()> {
+    read(rt, &bytes[..65535], numbers)?;
+    read(rt, bytes, numbers)
+}
+
 fn main(rt: HostRuntime) -> io::Result<()> {
     let mut numbers = [0u16; 65535];
     read(&rt, b"", &mut numbers)?;
@@ -76,6 +82,5 @@ fn main(rt: HostRuntime) -> io::Result<()> {
     let mut bytes = [0u8; 65536];
     let end = put_file(&mut bytes);
     println!(rt; "{end}")?;
-    read(&rt, &bytes[..65535], &mut numbers)?;
-    read(&rt, &bytes, &mut numbers)
+    read_both(&rt, &bytes, &mut numbers)
 }
