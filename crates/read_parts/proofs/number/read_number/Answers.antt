@@ -1,0 +1,44 @@
+-- Each return cites the fact about the bytes that led there.
+use Rattle.std.proofs.Common.{ap, sym, ◌∙◌}
+use Rattle.read_parts.specs.Steps.{number_read}
+use Rattle.read_parts.proofs.Bytes.{no_byte, one_byte, cut_off, second-zero, second-high, second-good}
+use Rattle.read_parts.proofs.number.read_number.Goals as goal
+use Rattle.read_parts.proofs.number.read_number.Goals.{then-second-eq0-via-then-second-eq0, then-second-eq0-via-else-second-eq0+then-second-ge128}
+
+pub returns-then-bytes-at : goal.returns-then-bytes-at
+returns-then-bytes-at c =
+    let a = c.args in
+    c.refuse.ensures ∙ ap number_read (sym (no_byte a.bytes.now a.at c.if-bytes-at.true))
+
+pub returns-then-first-lt128 : goal.returns-then-first-lt128
+returns-then-first-lt128 c =
+    let a = c.args in
+    ap number_read (sym (one_byte a.bytes.now a.at c.if-bytes-at.false c.if-first-lt128.true))
+
+pub returns-then-bytes-at-2 : goal.returns-then-bytes-at-2
+returns-then-bytes-at-2 c =
+    let a = c.args in
+    c.refuse-then-bytes-at-2.ensures
+    ∙ ap number_read
+    (sym (cut_off a.bytes.now a.at c.if-bytes-at.false c.if-first-lt128.false c.if-bytes-at-2.true))
+
+pub returns-then-second-eq0 : goal.returns-then-second-eq0
+returns-then-second-eq0 c =
+    let a = c.args in
+    let two = c.if-bytes-at-2.false in
+    let high = c.if-first-lt128.false in
+    c.refuse-then-second-eq0.ensures
+    ∙ ap number_read
+    (sym
+    (elim c.then-second-eq0.branch [
+      | then-second-eq0-via-then-second-eq0 w ↦ second-zero a.bytes.now a.at two high w.if-second-eq0.true
+      | then-second-eq0-via-else-second-eq0+then-second-ge128 w ↦
+          second-high a.bytes.now a.at two high w.if-second-eq0.false w.if-second-ge128.true
+    ]))
+
+pub returns : goal.returns
+returns c =
+    let a = c.args in
+    ap number_read
+    (sym
+    (second-good a.bytes.now a.at c.if-bytes-at-2.false c.if-first-lt128.false c.if-second-eq0.false c.if-second-ge128.false))
