@@ -4,7 +4,7 @@ use native.Mathlib.Omega.{arith}
 use borrow.Author.Rules.{rules}
 use Rattle.meaning.specs.Values.{value}
 use Rattle.gates.specs.ThreeValues.{is-small}
-use Rattle.gates.specs.Tables.{pair-stands-at}
+use Rattle.gates.specs.Tables.{pair_stands_at}
 use Rattle.gates.proofs.pairs.result.Statement.{statement}
 use Rattle.gates.proofs.pairs.result.Tie as tie
 
@@ -18,7 +18,7 @@ second-small c = is-small (value c.args.b) c.coded-2.ensures
 returns : tie.Need-returns
 returns c =
     let given = c.args in
-    pair-stands-at given.rule (value given.a) (value given.b) c.table.ensures c.coded.ensures c.coded-2.ensures
+    pair_stands_at given.rule (value given.a) (value given.b) c.table.ensures c.coded.ensures c.coded-2.ensures
 
 pub result_spec : {M : Type 1} → statement M
 result_spec =
