@@ -25,7 +25,7 @@ resolve-known-requires c κs = resolvable c.requires (found c.before)
 
 returns : tie.Need-returns
 returns c =
-    list_written c.list_end-e.ensures c.resolve_known.auto.0 c.resolve_known.ensures
+    list_written c.list_end-e.ensures c.resolve_known.auto.list c.resolve_known.ensures
 
 pub write_list_spec : {M : Type 1} → statement M
 write_list_spec =

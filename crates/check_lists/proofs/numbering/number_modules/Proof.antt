@@ -2,7 +2,7 @@
 use Prim.Native.Nat.{ℕ, ◌+◌, ◌-◌, ◌≤◌, ◌<◌}
 use mathlib.Core.Path.{◌≡◌, refl, subst, ◌∙◌}
 use mathlib.Core.List.{List}
-use mathlib.Core.Logic.{inl, inr, ⊎_elim}
+use mathlib.Core.Logic.{inl, inr}
 use native.Mathlib.Omega.{arith}
 use lib.ListN.{length, get_or, length-set}
 use Rattle.meaning.specs.Syntax.{Module}
@@ -15,6 +15,7 @@ use Rattle.check_lists.specs.Places.{inputs-stand}
 use Rattle.check_lists.proofs.Filling.{Known, known-none, known_more, known-all}
 use Rattle.check_lists.proofs.numbering.number_modules.Statement.{statement}
 use Rattle.check_lists.proofs.numbering.number_modules.Tie as tie
+use Rattle.check_lists.proofs.numbering.number_modules.Lts.{then-first-x-ne0, else-first-x-ne0}
 
 -- At each turn the tables know the modules from position k on.
 record From (numbers starts : List ℕ) (modules : ℕ) (first names inputs outputs : List ℕ) (repeated k : ℕ) : Type 0 where
@@ -106,27 +107,30 @@ loop-again c =
     let l = c.loop-k in
     let h = turn c.before.before.before.before.before.before.before.before in
     let back : l.k ≡ l.k - 1 + 1 = omega arith in (
-      rw length-set l.inv.0,
-      rw length-set l.inv.1,
-      rw length-set l.inv.2,
-      rw length-set l.inv.3,
+      rw length-set l.invariant.0,
+      rw length-set l.invariant.1,
+      rw length-set l.invariant.2,
+      rw length-set l.invariant.3,
       record {
-        within = omega (arith, l.inv.4.within);
+        within = omega (arith, l.invariant.4.within);
         known = λ ms f e.
-            let p = here ms (l.k - 1) (omega (arith, l.inv.4.within, e)) in
+            let p = here ms (l.k - 1) (omega (arith, l.invariant.4.within, e)) in
             let s = f.standing (l.k - 1) p.m p.later p.at in
             let q = module_at p.m s in
-            let behind = subst (λ (n : ℕ). Known ms n l.first l.names l.inputs l.outputs l.repeated) back (l.inv.4.known ms f e) in
+            let behind = subst (λ (n : ℕ). Known ms n l.first l.names l.inputs l.outputs l.repeated) back (l.invariant.4.known ms f e) in
             known_more p behind
             (c.entry-x.ensures ∙ q.number)
             q.number
             (q.input_count _ refl)
             (q.output_count _ (c.list_end.ensures p.m.inputs (inputs-stand p.m s) ∙ omega arith))
             (indexed c.before.before.before.before.before.before)
-            (omega (arith, h.in_names, l.inv.1))
-            (omega (arith, h.in_inputs, l.inv.2))
-            (omega (arith, h.in_outputs, l.inv.3))
-            (⊎_elim (λ w. inl (w.0.taken, w.1)) (λ w. inr (w.0.left, w.1)) c.if-first-x-ne0.branch);
+            (omega (arith, h.in_names, l.invariant.1))
+            (omega (arith, h.in_inputs, l.invariant.2))
+            (omega (arith, h.in_outputs, l.invariant.3))
+            (elim c.if-first-x-ne0.branch [
+              | then-first-x-ne0 w ↦ inl (w.if-first-x-ne0.true, w.repeated-is)
+              | else-first-x-ne0 w ↦ inr (w.if-first-x-ne0.false, w.repeated-is)
+            ]);
       },
     )
 
