@@ -60,18 +60,18 @@ module _ (t : ℕ) where
       after-tenth c.args.n c.args.out.now c.args.at c.put_number-next.new.out c.put_number-next.result c.if-n-lt10.false c.requires.1 c.put_number-next.ensures
 
   slice-write-out-2 : put-number-lts.Need-bounds-out-next (put-number-below t, put-number.Post) (put-number-at t) put-number.Post
-  slice-write-out-2 c = let h = inside c.before.before in omega (arith, c.put_number-next.auto.1.0)
+  slice-write-out-2 c = let h = inside c.before.before in omega (arith, c.put_number-next.auto.out)
 
   add-result-2 : put-number-lts.Need-overflow_add-result-2 (put-number-below t, put-number.Post) (put-number-at t) put-number.Post
   add-result-2 c = let h = inside c.before.before in omega arith
 
   same-length-2 : put-number-lts.Need-shape_of-out (put-number-below t, put-number.Post) (put-number-at t) put-number.Post
-  same-length-2 c = length-set c.put_number-next.new.out c.put_number-next.result _ ∙ c.put_number-next.auto.1.0
+  same-length-2 c = length-set c.put_number-next.new.out c.put_number-next.result _ ∙ c.put_number-next.auto.out
 
   returns-2 : put-number-lts.Need-returns (put-number-below t, put-number.Post) (put-number-at t) put-number.Post
   returns-2 c =
       let p = c.put_number-next in
-      digit-more c.args.n c.args.out.now c.args.at p.new.1.0 p.result c.if-n-lt10.false p.ensures
+      digit-more c.args.n c.args.out.now c.args.at p.new.out p.result c.if-n-lt10.false p.ensures
 
 pub +put_number_spec : {M : Type 1} → statement M
 +put_number_spec =

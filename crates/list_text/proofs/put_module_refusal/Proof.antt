@@ -35,14 +35,14 @@ room c =
 
 put-number-requires : tie.Need-put_number-at-requires
 put-number-requires c κs =
-    number_spellable c.before.before.before.before.before.before.before.before.before.before.before.before.fits.refused.fits (omega (arith, room c.before.before.before))
+    number_spellable c.ranges.refused.fits (omega (arith, room c.before.before.before))
 
 -- The refusal's number stands behind them.
 numbered : (c : tie.After-put_number-at)
     → PutDown (decimal c.args.refused) c.put_bytes-at.new.out c.put_bytes-at.result
     c.put_number-at.new.out c.put_number-at.result
 numbered c =
-    number_put c.put_number-at.ensures c.before.before.before.before.before.before.before.before.before.before.before.before.before.fits.refused.fits (omega (arith, room c.before.before.before.before))
+    number_put c.put_number-at.ensures c.ranges.refused.fits (omega (arith, room c.before.before.before.before))
 
 end-line-requires : tie.Need-end_line-requires
 end-line-requires c κs =
@@ -62,7 +62,6 @@ put_module_refusal_spec =
     (tie.spec
     (λ c. search rules)
     (λ c κs. search rules)
-    (λ c. search rules)
     put-bytes-requires
     put-number-requires
     end-line-requires

@@ -15,7 +15,7 @@ put-number-requires c κs = number_spellable c.ranges.first.fits (omega (arith, 
 first : (c : tie.After-put_number-at)
     → PutDown (decimal c.args.first) c.args.out.now c.args.from c.put_number-at.new.out
     c.put_number-at.result
-first c = number_put c.put_number-at.ensures c.before.before.before.before.fits.first.fits (omega (arith, c.requires))
+first c = number_put c.put_number-at.ensures c.ranges.first.fits (omega (arith, c.requires))
 
 put-more-requires : tie.Need-put_more-requires
 put-more-requires c κs =
