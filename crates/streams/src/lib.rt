@@ -29,7 +29,8 @@ impl<I: Read, F: Read> Read for Source<I, F> {
     }
 }
 
-/// Reads until the buffer is full or the input ends, and answers how many bytes stand at the buffer's front.
+/// Reads until the buffer is full or the input ends, and answers how many bytes stand at the buffer's front. After an error nothing is said
+/// of the buffer, nor of how far the source was read.
 pub fn read_full<S: Read>(source: &mut S, buffer: &mut [u8]) -> io::Result<usize>
     ensures in_bounds { IfOk result (λ n. n ≤ length buffer.new) }
     ensures bytes { IfOk result (λ n. Consumes (S.remaining source.old) (S.remaining source.new) (take n buffer.new)) }
@@ -74,5 +75,37 @@ fn text_of(name: &[u8]) -> io::Result<&str> {
     match str::from_utf8(name) {
         Ok(text) => Ok(text),
         Err(_) => Err(Error::from(ErrorKind::InvalidFilename)),
+    }
+}
+
+#[cfg(test)]
+mod tests {
+    use super::*;
+    use std::test::Fail;
+
+    // Gives two bytes a read, and fails after so many reads.
+    #[derive(Drop)]
+    struct Failing {
+        left: u8,
+    }
+
+    impl Read for Failing {
+        fn read(&mut self, buf: &mut [u8]) -> io::Result<usize> {
+            if self.left == 0 {
+                return Err(Error::from(ErrorKind::Other));
+            }
+            self.left -= 1;
+            Ok(buf.len().min(2))
+        }
+    }
+
+    #[test]
+    fn reads_until_full(rt: HostRuntime) -> Result<(), Fail> {
+        let mut four = [0u8; 4];
+        assert_eq!(rt; read_full(&mut Failing { left: 2 }, &mut four)?, 4);
+        assert!(rt; read_full(&mut Failing { left: 1 }, &mut four).is_err());
+        let mut three: &[u8] = b"abc";
+        assert_eq!(rt; read_full(&mut three, &mut four)?, 3);
+        Ok(())
     }
 }
