@@ -1,9 +1,8 @@
 -- Each return cites the fact about the bytes that led there.
-use Rattle.std.proofs.Common.{ap, sym, ◌∙◌}
+use Rattle.std.proofs.Common.{ap, sym, ◌∙◌, ⊎_elim, arith}
 use Rattle.read_parts.specs.Steps.{number_read}
 use Rattle.read_parts.proofs.Bytes.{no_byte, one_byte, cut_off, second-zero, second-high, second-good}
 use Rattle.read_parts.proofs.number.read_number.Goals as goal
-use Rattle.read_parts.proofs.number.read_number.Goals.{then-second-eq0-via-then-second-eq0, then-second-eq0-via-else-second-eq0+then-second-ge128}
 
 pub returns-then-bytes-at : goal.returns-then-bytes-at
 returns-then-bytes-at c =
@@ -30,15 +29,14 @@ returns-then-second-eq0 c =
     c.refuse-then-second-eq0.ensures
     ∙ ap number_read
     (sym
-    (elim c.then-second-eq0.branch [
-      | then-second-eq0-via-then-second-eq0 w ↦ second-zero a.bytes.now a.at two high w.if-second-eq0.true
-      | then-second-eq0-via-else-second-eq0+then-second-ge128 w ↦
-          second-high a.bytes.now a.at two high w.if-second-eq0.false w.if-second-ge128.true
-    ]))
+    (⊎_elim
+    (λ w. second-zero a.bytes.now a.at two high w)
+    (λ w. second-high a.bytes.now a.at two high w.0 w.1)
+    c.then-second-eq0.either))
 
 pub returns : goal.returns
 returns c =
     let a = c.args in
     ap number_read
     (sym
-    (second-good a.bytes.now a.at c.if-bytes-at-2.false c.if-first-lt128.false c.if-second-eq0.false c.if-second-ge128.false))
+    (second-good a.bytes.now a.at c.if-bytes-at-2.false c.if-first-lt128.false c.if-second-eq0.false (omega arith)))
