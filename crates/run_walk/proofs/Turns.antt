@@ -8,6 +8,7 @@ use lib.ListN.{length, take, drop, set, length-set}
 use lib.Seq.{take_all, take-suc-set, drop-set-lt}
 use Rattle.meaning.specs.Syntax.{Occurrence}
 use Rattle.meaning.specs.Evaluation.{apply}
+use Rattle.meaning.specs.Layout.{occurrence_numbers}
 use Rattle.gates.specs.Kind.{kind_of}
 use Rattle.gates.specs.Gates.{gate-of-kind, gate-told}
 use Rattle.gates.specs.declared.Rule.{Rule}
@@ -15,11 +16,14 @@ use Rattle.gates.specs.declared.Kind.TheVariants.{Gate}
 use Rattle.image.specs.Frames.{read_slots, walk_frame}
 use Rattle.image.specs.FrameLengths.{length-of-read_slots, length-of-apply}
 use Rattle.image.specs.Slots.{Readable, values_at}
-use Rattle.image.specs.Walking.{needed, Turn, readable, arguments, AtGate, at-gate}
+use Rattle.image.specs.Walking.{needed, Ahead, all-ahead, Turn, turn, readable, arguments, AtGate, at-gate}
+use Rattle.image.specs.Stands.{Stands}
+use Rattle.image.specs.Places.{PlaceOf}
+use Rattle.image.specs.declared.places.Header.{Header}
 use Rattle.image.specs.declared.places.Place.{Place}
 use Rattle.run_walk.specs.Work.{Work, meaning_of}
-use Rattle.run_walk.specs.Running.{run_of, walk_of, Runnable}
-use Rattle.run_walk.proofs.Progress.{Progress}
+use Rattle.run_walk.specs.Running.{run_of, walk_of, Runnable, Walkable}
+use Rattle.run_walk.proofs.Progress.{Progress, Walking}
 
 -- The walk so far, and the occurrence whose turn it is.
 pub record Here
@@ -27,6 +31,33 @@ pub record Here
     (at left filled : ℕ) (scratch : List A) (place : Place) : Type 0 where
   pub progress : Progress work s at left filled scratch
   pub turn : Turn image s.scene.m s.scene.later at left filled progress.rest place
+
+-- Once its place is read, what is known of any module that can be run from the start,
+pub here :
+    {A : Type 0} {work : Work A} {image starts nets : List ℕ} {k : ℕ} {scratch₀ : List A} {at₀ left₀ filled₀ at left filled : ℕ}
+    {scratch : List A} {place : Place}
+    → Walking work image starts nets k scratch₀ at₀ left₀ filled₀ at left filled scratch
+    → 0 < left
+    → ((o : Occurrence) → Stands image at (occurrence_numbers o) → PlaceOf image at o place)
+    → (s : Runnable image starts nets k scratch₀)
+    → Ahead image s.scene.m s.scene.later at₀ left₀ filled₀ s.scene.m.occurrences
+    → Here work s at left filled scratch place
+here walking more read s ahead = let p = walking s ahead in record { progress = p; turn = turn more p.ahead read }
+
+-- and of the one that the caller spoke of. Its own occurrences are all ahead at first.
+pub enter :
+    {A : Type 0} {image starts nets : List ℕ} {k : ℕ} {h : Header} {scratch : List A} (w : Walkable image starts nets k h scratch)
+    → Ahead image w.runnable.scene.m w.runnable.scene.later (h.to + 1) h.count h.inputs w.runnable.scene.m.occurrences
+enter w = all-ahead w.runnable.scene w.header
+
+pub own :
+    {A : Type 0} {work : Work A} {image starts nets : List ℕ} {k : ℕ} {h : Header} {scratch₀ : List A} {at left filled : ℕ} {scratch : List A}
+    {place : Place} (w : Walkable image starts nets k h scratch₀)
+    → Walking work image starts nets k scratch₀ (h.to + 1) h.count h.inputs at left filled scratch
+    → 0 < left
+    → ((o : Occurrence) → Stands image at (occurrence_numbers o) → PlaceOf image at o place)
+    → Here work w.runnable at left filled scratch place
+own w walking more read = here walking more read w.runnable (enter w)
 
 module _
     {A : Type 0} {work : Work A} {image starts nets : List ℕ} {k : ℕ} {scratch₀ : List A} {s : Runnable image starts nets k scratch₀}

@@ -1,5 +1,5 @@
 -- What a run of values works out for each net: the code of its value.
-use Rattle.std.specs.Prelude.{ℕ, List, map}
+use Rattle.std.specs.Prelude.{ℕ, map}
 use Rattle.meaning.specs.Values.{value, code}
 use Rattle.meaning.specs.Gates.{gate_code}
 use Rattle.gates.specs.Folds.{result_of}

@@ -1,6 +1,6 @@
 -- `run_walk::gate::folded` meets its contract. The loop's invariant: folding on over the values that are left gives what folding gives to
 -- all. It holds behind the first value, since what a fold begins with changes no value. Assumes nothing.
-use Prim.Native.Nat.{ℕ, ◌+◌, ◌-◌, ◌≤◌, ◌<◌}
+use Prim.Native.Nat.{ℕ, ◌-◌, ◌≤◌, ◌<◌}
 use mathlib.Core.List.{List, map}
 use mathlib.Core.Path.{◌≡◌, refl, sym, ap, ◌∙◌}
 use native.Mathlib.Omega.{arith}
