@@ -28,7 +28,7 @@ loop-again c =
     let a = c.args in
     let l = c.loop-i in
     rw (← add_assoc a.from l.i 1)
-    (row_more l.inv c.loop-i-test.true (put_byte _ l.out (a.from + l.i) (inside c)))
+    (row_more l.invariant c.loop-i-test.true (put_byte _ l.out (a.from + l.i) (inside c)))
 
 end-inside : tie.Need-bounds-out-end invariant-loop decreases-loop
 end-inside c = omega (arith, c.requires, put-length c.loop-i.invariant.down, c.loop-i.invariant.passed)

@@ -26,7 +26,7 @@ room : (c : tie.After-put_line-arg-in-loop-row-1 invariant-loop decreases-loop)
 room c =
     let l = c.loop-row in
     let s = c.args in
-    omega (arith, c.if-out-at.false, l.inv.room-is, length-take (l.from + s.outputs - l.from) (drop l.from s.values.now))
+    omega (arith, c.if-out-at.false, l.invariant.room-is, length-take (l.from + s.outputs - l.from) (drop l.from s.values.now))
 
 loop-again : tie.Need-loop-row-preserved invariant-loop decreases-loop
 loop-again c =

@@ -68,7 +68,7 @@ inside c = omega (arith, put-length c.loop-i.invariant.1)
 loop-again : tie.Need-loop-i-preserved invariant-loop decreases-loop
 loop-again c =
     let l = c.loop-i in
-    (omega arith, moved_more c.args.text.now l.text c.args.from l.i (omega (arith, inside c, put-length l.inv.1)) l.inv.1)
+    (omega arith, moved_more c.args.text.now l.text c.args.from l.i (omega (arith, inside c, put-length l.invariant.1)) l.invariant.1)
 
 returns-3 : tie.Need-returns invariant-loop decreases-loop
 returns-3 c =

@@ -1,13 +1,13 @@
 -- The values counted and those that are left are all.
 use Prim.Native.Nat.{◌+◌, ◌-◌, ◌≤◌}
 use mathlib.Core.Path.{◌≡◌, sym, ap}
-use mathlib.Core.Logic.{⊎_elim}
 use native.Mathlib.Omega.{arith}
 use lib.ListN.{length, drop}
 use borrow.Author.Rules.{rules}
 use Rattle.row_lines.specs.Words.{values_of}
 use Rattle.row_lines.proofs.Values.{value-here, no_value-here, no_values}
 use Rattle.row_lines.proofs.words.count_values.Statement.{statement}
+use Rattle.row_lines.proofs.words.count_values.Lts.{then-mark_of-lt-GAP, else-mark_of-lt-GAP}
 use Rattle.row_lines.proofs.words.count_values.Tie as tie
 
 abbrev invariant-loop : tie.invariant-loop-i
@@ -21,14 +21,14 @@ loop-again : tie.Need-loop-i-preserved invariant-loop decreases-loop
 loop-again c =
     let l = c.loop-i in
     let w = c.args.word.now in
-    ⊎_elim
-    (λ a.
-    let one = value-here w l.i c.loop-i-test.true (omega (arith, c.mark_of.ensures, a.0.taken)) in
-    (omega arith, omega (arith, a.1), omega (arith, a.1, ap length one)))
-    (λ a.
-    let none = no_value-here w l.i c.loop-i-test.true (omega (arith, c.mark_of.ensures, a.0.left)) in
-    (omega arith, omega (arith, a.1), omega (arith, a.1, ap length none)))
-    c.if-mark_of-lt-GAP.branch
+    elim c.if-mark_of-lt-GAP.branch [
+      | then-mark_of-lt-GAP a ↦
+          let one = value-here w l.i c.loop-i-test.true (omega (arith, c.mark_of.ensures, a.if-mark_of-lt-GAP.true)) in
+          (omega arith, omega (arith, a.values-is), omega (arith, a.values-is, ap length one))
+      | else-mark_of-lt-GAP a ↦
+          let none = no_value-here w l.i c.loop-i-test.true (omega (arith, c.mark_of.ensures, a.if-mark_of-lt-GAP.false)) in
+          (omega arith, omega (arith, a.values-is), omega (arith, a.values-is, ap length none))
+    ]
 
 returns : tie.Need-returns invariant-loop decreases-loop
 returns c =

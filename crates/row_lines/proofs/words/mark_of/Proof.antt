@@ -33,7 +33,7 @@ unfolding mark_of
 returns-3 c = rw c.in-95.is
 
 returns-4 : tie.Need-returns-in-48-to-57
-returns-4 c = sym (digit _ c.if-byte-lt48.false c.in-48-to-57.if-byte-lt58-own.true)
+returns-4 c = sym (digit _ c.in-48-to-57.if-byte-lt48-own.false c.in-48-to-57.if-byte-lt58-own.true)
 
 returns-5 : tie.Need-returns-in_default
 returns-5 c =
@@ -43,7 +43,7 @@ returns-5 c =
 returns-6 : tie.Need-returns-in_default-2
 returns-6 c =
     let b = c.args.byte in
-    let r = c.in_default-1.rest in
+    let r = c.in_default.in_default-own.rest in
     none b (rw (lt-leb b 57 c.in_default.if-byte-lt58-own.false) (and-false (leb 48 b)))
     (λ e. r.0.0.1 (inl e))
     (λ e. r.0.0.1 (inr e))

@@ -1,7 +1,6 @@
 -- The values put and those that are left are all of them; the loop ends where none is left, or no room.
 use Prim.Native.Nat.{ℕ, ◌+◌, ◌-◌, ◌≤◌, ◌<◌}
 use mathlib.Core.Path.{◌≡◌, sym, ap, ◌∙◌}
-use mathlib.Core.Logic.{⊎_elim}
 use mathlib.Core.List.{List, [], ◌∷◌}
 use native.Mathlib.Omega.{arith}
 use lib.ListN.{length, drop, set, length-set}
@@ -12,6 +11,7 @@ use Rattle.row_lines.specs.Words.{values_of}
 use Rattle.row_lines.proofs.Values.{value-here, no_value-here, no_values}
 use Rattle.row_lines.proofs.Putting.{Goes, goes-begin, goes-piece, goes_end, fitting, fitting-fits, fitting-none, fitting-full, fitting-more}
 use Rattle.row_lines.proofs.words.put_at.Statement.{statement}
+use Rattle.row_lines.proofs.words.put_at.Lts.{then-mark-lt-GAP+else-at-values, else-mark-lt-GAP}
 use Rattle.row_lines.proofs.words.put_at.Tie as tie
 
 -- How far a word is put.
@@ -68,18 +68,18 @@ loop-again : tie.Need-loop-i-preserved invariant-loop decreases-loop
 loop-again c =
     let l = c.loop-i in
     let w = c.args.word.now in
-    ⊎_elim
-    (λ a.
-    let one = value-here w l.i c.loop-i-test.true (omega (arith, c.mark_of-mark.ensures, a.0.taken)) in
-    puts-value l.inv c.loop-i-test.true
-    (one ∙ ap (λ (m : ℕ). m ∷ values_of (drop (l.i + 1) w)) (sym c.mark_of-mark.ensures))
-    a.1.left
-    a.2
-    a.3)
-    (λ a.
-    let none = no_value-here w l.i c.loop-i-test.true (omega (arith, c.mark_of-mark.ensures, a.0.left)) in
-    puts_none l.inv c.loop-i-test.true none a.1 a.2)
-    c.if-mark-lt-GAP.branch
+    elim c.if-mark-lt-GAP.branch [
+      | then-mark-lt-GAP+else-at-values a ↦
+          let one = value-here w l.i c.loop-i-test.true (omega (arith, c.mark_of-mark.ensures, a.if-mark-lt-GAP.true)) in
+          puts-value l.invariant c.loop-i-test.true
+          (one ∙ ap (λ (m : ℕ). m ∷ values_of (drop (l.i + 1) w)) (sym c.mark_of-mark.ensures))
+          a.if-at-values.false
+          a.values-is
+          a.at-is
+      | else-mark-lt-GAP a ↦
+          let none = no_value-here w l.i c.loop-i-test.true (omega (arith, c.mark_of-mark.ensures, a.if-mark-lt-GAP.false)) in
+          puts_none l.invariant c.loop-i-test.true none a.values-is a.at-is
+    ]
 
 same_length : tie.Need-shape_of-values-then-at-values invariant-loop decreases-loop
 same_length c = c.loop-i.invariant.goes.same
@@ -87,7 +87,7 @@ same_length c = c.loop-i.invariant.goes.same
 returns : tie.Need-returns-then-at-values invariant-loop decreases-loop
 returns c =
     let l = c.loop-i in
-    goes_end (fitting-full l.values l.at _ c.if-at-values.true) l.inv.goes
+    goes_end (fitting-full l.values l.at _ c.if-at-values.true) l.invariant.goes
 
 returns-2 : tie.Need-returns invariant-loop decreases-loop
 returns-2 c =
