@@ -10,19 +10,12 @@ use Rattle.call_join.proofs.join_house.Tie as tie
 abbrev noted : tie.In-Modules → tie.After-note
 noted k = k.before.before.before.before.before
 
-abbrev entered : tie.After-note → tie.Start
-entered n = n.before.before.before.before.before.before.before.before.before
-
 shelf :
     (k : tie.In-Modules)
     → (Shelved k.args.house.now k.in-Modules.modules k.note.new.names k.note.new.places)
 shelf k =
     noted-shelved k.args.house.now k.note.new.names k.note.new.places k.note.result k.note.ensures
     k.in-Modules.modules k.in-Modules.is
-
--- From the gathering, and from the assembling, to where the modules are noted.
-abbrev known : tie.After-gather-all → tie.In-Modules
-known g = g.before.before.before.before
 
 abbrev gathered : tie.After-assemble-arg-in-Modules-1 → tie.After-gather-all
 gathered c = c.before.before.before.before
@@ -52,10 +45,9 @@ join_house_spec =
     (λ c. search rules)
     (λ c κs. gathering c.requires (shelf c.before.before.before))
     (λ c κs.
-    let g = gathered c in
-    let s = shelf (known g) in
-    let b = (entered (noted (known g))).requires in
-    assembled b s (g.gather.ensures (gathering b s)))
+    let s = shelf c.before.before.before.before.before.before.before.before in
+    let b = c.requires in
+    assembled b s (c.gather-all.ensures (gathering b s)))
     (λ c. search rules)
     returns
     (λ c. search rules)

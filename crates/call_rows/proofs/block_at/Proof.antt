@@ -113,9 +113,7 @@ block_at_spec =
     returns-4
     run-requires
     clear-requires
-    (λ c. c.clear.auto.1.0)
+    (λ c. c.clear.auto.scratch)
     (λ c.
-    let cleared = c.before.before in
-    let ran = cleared.before.before.before.before in
-    ran.run.auto.1.1.1.1.1.1.1.0)
+    c.run.auto.out)
     returns-5)

@@ -23,7 +23,7 @@ slice-aggregate-answer-2 : tie.Need-slice_bounds-answer-end-2
 slice-aggregate-answer-2 c = search rules
 
 answer-requires : tie.Need-answer-requires
-answer-requires c κs = ready-long _ _ c.read_long-extent.result c.read_long-extent.ensures c.read_long-extent.auto.1.0
+answer-requires c κs = ready-long _ _ c.read_long-extent.result c.read_long-extent.ensures c.read_long-extent.auto.numbers
 
 same_length : tie.Need-shape_of-out
 same_length c = search rules

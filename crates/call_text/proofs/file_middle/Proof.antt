@@ -23,7 +23,7 @@ slice-aggregate-answer-2 : tie.Need-slice_bounds-answer-end-2
 slice-aggregate-answer-2 c = search rules
 
 answer-requires : tie.Need-answer-requires
-answer-requires c κs = ready-middle _ _ c.read_middle-extent.result c.read_middle-extent.ensures c.read_middle-extent.auto.1.0
+answer-requires c κs = ready-middle _ _ c.read_middle-extent.result c.read_middle-extent.ensures c.read_middle-extent.auto.numbers
 
 same_length : tie.Need-shape_of-out
 same_length c = search rules

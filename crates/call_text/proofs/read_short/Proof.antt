@@ -14,7 +14,7 @@ read-requires : tie.Need-read-requires
 read-requires c κs = let most : _ = c.requires.most in readable _ _ 8704 (omega (arith, most)) c.requires.room (omega (arith, most))
 
 same_length : tie.Need-shape_of-numbers
-same_length c = c.read.auto.1.0
+same_length c = c.read.auto.numbers
 
 returns : tie.Need-returns
 returns c = c.read.ensures

@@ -62,9 +62,8 @@ flatten_spec =
     (λ c. in_starts (scene c.requires))
     (λ c κs. module_there (scene c.requires))
     (λ c κs.
-    let header = c.before in
-    let f = (start header).requires in
-    (inputs-inside f header.module-at.ensures, omega (arith, gates-few f header.module-at.ensures)))
+    let f = (start c.before).requires in
+    (inputs-inside f c.module_at-header.ensures, omega (arith, gates-few f c.module_at-header.ensures)))
     (λ c. omega (arith, gates-few (start c.before.before.before.before).requires c.module_at-header.ensures))
     place-module-requires
     sub-set-front

@@ -7,14 +7,6 @@ use Rattle.join_ending.proofs.Assembles.{end_after, assembled-length, too_many, 
 use Rattle.join_ending.proofs.assemble.Statement.{statement}
 use Rattle.join_ending.proofs.assemble.Tie as tie
 
--- Where neither refusal applies, and the function's entry.
-abbrev entered : tie.Else-end-start-gt65535 → tie.Start
-entered e = e.before.before.before.before
-
--- From behind the count to there.
-abbrev counted : tie.After-put → tie.Else-end-start-gt65535
-counted p = p.before.before
-
 few : (e : tie.Else-end-start-gt65535) → e.args.all.modules ≤ 128
 few e = omega (arith, e.if-modules-gt128.false)
 
@@ -24,11 +16,7 @@ short e = omega (arith, e.if-end-start-gt65535.false)
 ends : (p : tie.After-put) → p.args.all.at ≤ length p.put.new.out
 ends p =
     let a = p.requires in
-    omega (arith, a.room, assembled-length a, p.put.auto.1.0)
-
--- From the delivery to the put.
-abbrev putting : tie.After-deliver-arg-2-1 → tie.After-put
-putting c = c.before.before.before.before
+    omega (arith, a.room, assembled-length a, p.put.auto.out)
 
 returns-3 : tie.Need-returns
 returns-3 c =
@@ -43,17 +31,14 @@ assemble_spec =
     (λ c. omega (arith, c.if-modules-gt128.false))
     (λ c. omega (arith, end_after c.requires))
     (λ c a.
-    let s = c.before.before.before.before in
-    too_long a (omega (arith, c.before.if1.false)) (length s.args.out.now) s.args.out.now c.if2.true)
+    too_long a (omega (arith, c.if-modules-gt128.false)) (length c.args.out.now) c.args.out.now c.if-end-start-gt65535.true)
     (λ c. omega (arith, few c))
     (λ c κs. (omega (arith, few c.before), room_for_count c.requires (few c.before)))
     (λ c. omega (arith, end_after c.requires))
     (λ c. omega (arith, end_after c.requires))
     (λ c. ends c.before.before)
     (λ c κs.
-    let p = putting c in
-    let e = counted p in
-    whole (entered e).requires (few e) (short e) p.put.ensures)
+    whole c.requires (few c.before.before.before.before.before.before) (short c.before.before.before.before.before.before) c.put.ensures)
     (λ c. search rules)
     (λ c. search rules)
     returns-3)

@@ -74,7 +74,7 @@ module _ (t : ℕ) where
   write-row-requires : lts.Need-write_row-requires (claims t) (Given t) reads.Post Inv-loop μ-loop
   write-row-requires c κs =
       let loop = ended t c.before.before.before.before.before.before.before.before.before in
-      omega (arith, rows_fit loop.loop.known (loop.loop.inv.4 (start t loop).requires.1.1).1 c.keep.auto.1.1.1.1.1.1.1.0)
+      omega (arith, rows_fit loop.loop.known (loop.loop.inv.4 (start t loop).requires.1.1).1 c.keep.auto.known)
 
   -- The end of the function: where the row is written, where the loads are kept, and the loop's last test.
   abbrev keeping : lts.After-write_row (claims t) (Given t) reads.Post Inv-loop μ-loop → lts.After-keep (claims t) (Given t) reads.Post Inv-loop μ-loop
@@ -96,7 +96,7 @@ module _ (t : ℕ) where
             let all = all-counted s.countable (omega (arith, kept.before.before.before.before.before.before.before.loop-test.left)) sofar.0 in
             record {
               is = all;
-              kept = row-known loop.loop.known _ sofar.1 kept.keep.ensures.largest c.write_row.ensures all c.write_row.auto.1.1.1.0;
+              kept = row-known loop.loop.known _ sofar.1 kept.keep.ensures.largest c.write_row.ensures all c.write_row.auto.rows;
             },
       )
 

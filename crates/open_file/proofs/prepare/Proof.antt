@@ -38,7 +38,7 @@ bytes k = bytes-all (entered k).args.file.now (λ i. ((lists k.before.before.bef
 room : (k : tie.In-Read) → count k ≤ length k.read.new.numbers
 room k =
     let few = count_long (bytes k) k.read.ensures (modules k) (count k) k.in-Read.is in
-    omega (arith, few.0, few.1, (entered k).requires.image_long, k.read.auto.1.0)
+    omega (arith, few.0, few.1, (entered k).requires.image_long, k.read.auto.numbers)
 
 check-modules-requires : tie.Need-check_modules-found-requires
 check-modules-requires c κs =

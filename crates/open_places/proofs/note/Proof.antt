@@ -54,7 +54,7 @@ returns-2 c =
     shelved (bytes c.before.before.before.before.before) d.ensures (modules c.before.before.before.before.before) (count c.before.before.before.before.before) c.in-Read.is
     (omega (arith, d.kept.1.1.0))
     c.requires.names_fit
-    c.name.auto.1.1.1.0
+    c.name.auto.names
     (omega (arith, c.requires.places_fit, d.kept.1.1.1.0))
     c.name.ensures
 

@@ -61,9 +61,9 @@ latest-requires c κs =
     let fed = answers.zeros-fed given.0 (header both.before.before.before.before.before.before given.0) both.before.before.before.before.clear.ensures in
     let fed' = answers.zeros-fed given.1 (header both.before.before.before.before.before.before given.1) both.clear2.ensures in (
       answers.outputs-readable given.0 fed (times_work one_each) (c.run_module.ensures.0 (answers.runnable given.0 fed))
-          (header both.before.before.before.before.before.before given.0) c.run_module.auto.1.1.1.1.1.0,
+          (header both.before.before.before.before.before.before given.0) c.run_module.auto.units,
       answers.outputs-readable given.1 fed' (times_work (delay_in (began both.before.before.before.before.before.before).args.family.delays))
-          (c.run_module.ensures.1 (answers.runnable given.1 fed')) (header both.before.before.before.before.before.before given.1) c.run_module.auto.1.1.1.1.1.1.0,
+          (c.run_module.ensures.1 (answers.runnable given.1 fed')) (header both.before.before.before.before.before.before given.1) c.run_module.auto.others,
     )
 
 clear-requires-3 : tie.Need-clear-requires-3
@@ -99,8 +99,7 @@ delays_spec =
     tie.close
     (tie.spec
     (λ c.
-    let start = c.before.before.before.before.before in
-    omega (arith, in_starts start.requires.0.scene, start.well-formed))
+    omega (arith, in_starts c.requires.0.scene, c.well-formed))
     (λ c. in_starts c.requires.0.scene)
     (λ c κs. module_there c.requires.0.scene)
     clear-requires

@@ -54,7 +54,7 @@ give-requires c κs =
     let run = c.run_module.ensures (answers.runnable call fed) in
     let header = c.module_at-header.ensures call.scene.m (module_stands call.scene) in
     record {
-      readable = answers.outputs-readable call fed value_work run header c.run_module.auto.1.1.1.1.0;
+      readable = answers.outputs-readable call fed value_work run header c.run_module.auto.scratch;
       bytes =
           subst Bytes (sym (answers.outputs-read call fed value_work run header))
           (answers.answers-bytes call.rs a.k (entries-bytes a.values.now));

@@ -21,18 +21,18 @@ enter-requires c κs = blank_of _ _ _ c.requires
 
 loop-holds : tie.Need-loop-i-init invariant-loop decreases-loop
 loop-holds c =
-    looping_first _ _ _ _ _ c.requires c.enter-count.auto.0 c.enter-count.ensures
+    looping_first _ _ _ _ _ c.requires c.enter-count.auto.tree c.enter-count.ensures
 
 take-requires : tie.Need-take-turn-requires invariant-loop decreases-loop
 take-requires c κs = record { reading = c.loop-i.invariant.reading; inside = omega arith }
 
 same_length : tie.Need-shape_of-numbers-then-turn-ne0 invariant-loop decreases-loop
 same_length c =
-    c.take-turn.auto.1.1.1.0 ∙ c.loop-i.invariant.same_numbers
+    c.take-turn.auto.numbers ∙ c.loop-i.invariant.same_numbers
 
 same-length-2 : tie.Need-shape_of-tree-then-turn-ne0 invariant-loop decreases-loop
 same-length-2 c =
-    c.take-turn.auto.1.1.1.1.0 ∙ c.loop-i.invariant.same_tree ∙ c.enter-count.auto.0
+    c.take-turn.auto.tree ∙ c.loop-i.invariant.same_tree ∙ c.enter-count.auto.tree
 
 returns : tie.Need-returns-then-turn-ne0 invariant-loop decreases-loop
 returns c =
@@ -44,14 +44,14 @@ loop-less c =
 
 loop-again : tie.Need-loop-i-preserved invariant-loop decreases-loop
 loop-again c =
-    record { reading = c.take-turn.ensures.on c.if-turn-ne0.false; same_numbers = c.take-turn.auto.1.1.1.0 ∙ c.loop-i.invariant.same_numbers; same_tree = c.take-turn.auto.1.1.1.1.0 ∙ c.loop-i.invariant.same_tree }
+    record { reading = c.take-turn.ensures.on c.if-turn-ne0.false; same_numbers = c.take-turn.auto.numbers ∙ c.loop-i.invariant.same_numbers; same_tree = c.take-turn.auto.tree ∙ c.loop-i.invariant.same_tree }
 
 same-length-3 : tie.Need-shape_of-numbers-then-state-lt17 invariant-loop decreases-loop
 same-length-3 c = c.loop-i.invariant.same_numbers
 
 same-length-4 : tie.Need-shape_of-tree-then-state-lt17 invariant-loop decreases-loop
 same-length-4 c =
-    c.loop-i.invariant.same_tree ∙ c.enter-count.auto.0
+    c.loop-i.invariant.same_tree ∙ c.enter-count.auto.tree
 
 returns-2 : tie.Need-returns-then-state-lt17 invariant-loop decreases-loop
 returns-2 c = short-reads _ _ _ _ _ _ _ c.loop-i.invariant (omega arith) (omega arith)
@@ -61,7 +61,7 @@ same-length-5 c = c.loop-i.invariant.same_numbers
 
 same-length-6 : tie.Need-shape_of-tree invariant-loop decreases-loop
 same-length-6 c =
-    c.loop-i.invariant.same_tree ∙ c.enter-count.auto.0
+    c.loop-i.invariant.same_tree ∙ c.enter-count.auto.tree
 
 returns-3 : tie.Need-returns invariant-loop decreases-loop
 returns-3 c = whole-reads _ _ _ _ _ _ _ c.loop-i.invariant (omega arith) (omega arith)

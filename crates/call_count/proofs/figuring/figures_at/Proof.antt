@@ -59,8 +59,8 @@ weigh-requires c κs =
       (
         countable given.0,
         (
-          omega (arith, c.delays-delays.auto.1.1.1.1.1.1.0, given.1.0),
-          omega (arith, c.delays-delays.auto.1.1.1.1.1.1.1.0, given.1.1),
+          omega (arith, c.delays-delays.auto.scratch, given.1.0),
+          omega (arith, c.delays-delays.auto.others, given.1.1),
         ),
       ),
     )

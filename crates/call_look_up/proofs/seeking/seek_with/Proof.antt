@@ -12,9 +12,6 @@ use Rattle.call_look_up.proofs.seeking.seek_with.Tie as tie
 abbrev noted : tie.In-Modules → tie.After-note
 noted k = k.before.before.before.before.before
 
-abbrev entered : tie.After-note → tie.Start
-entered n = n.before.before.before.before.before.before
-
 shelf :
     (k : tie.In-Modules)
     → (Shelved k.args.file.now k.in-Modules.modules k.note.new.names k.note.new.places)
@@ -22,17 +19,10 @@ shelf k =
     noted-shelved k.args.file.now k.note.new.names k.note.new.places k.note.result k.note.ensures
     k.in-Modules.modules k.in-Modules.is
 
--- From the search to where the modules are noted.
-abbrev known : tie.After-find → tie.In-Modules
-known f = f.before.before
-
 finds :
     (f : tie.After-find)
     → Finds f.find.result (shelf f.before.before).ms f.args.number
 finds f = f.find.ensures (searchable (shelf f.before.before))
-
-abbrev found : tie.In-At-unread → tie.After-find
-found c = c.before
 
 index : (c : tie.In-At-unread) → c.in-At.k < 128
 index c =
@@ -70,8 +60,7 @@ seek_with_spec =
     (λ c. let h = index c in search rules)
     (λ c. omega (arith, index c))
     (λ c.
-    let f = found c in
-    sought_order (shelf (known f)) (entered (noted (known f))).args.number f.find.result (finds f) c.before.k.given.0.0 c.before.k.given.1)
+    sought_order (shelf c.before.before.before) c.args.number c.find.result (finds c.before) c.in-At.k c.in-At.is)
     (λ c. search rules)
     returns
     (λ c. search rules)

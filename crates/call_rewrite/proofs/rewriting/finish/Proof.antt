@@ -17,7 +17,7 @@ entered p = p.before.before.before.before.before.before.before.before.before
 inside : (p : tie.After-put_file-long) → p.put_file-long.result ≤ length p.put_file-long.new.out
 inside p =
     let s = (entered p).requires in
-    omega (arith, (p.put_file-long.ensures s).place, s.room, p.put_file-long.auto.1.1.1.1.1.1.0)
+    omega (arith, (p.put_file-long.ensures s).place, s.room, p.put_file-long.auto.out)
 
 returns : tie.Need-returns-then-long-gt65535
 returns c s =

@@ -15,9 +15,6 @@ use Rattle.call_rewrite.proofs.strict.judge.Tie as tie
 abbrev start : tie.After-count_fours → tie.Start
 start c = c.before.before.before.before.before
 
-abbrev counted : tie.After-first_user → tie.After-count_fours
-counted c = c.before.before.before.before
-
 long : 128 ≤ length (replicate {A = ℕ} 128 0)
 long = omega (arith, length-replicate {A = ℕ} 128 0)
 
@@ -29,14 +26,10 @@ judge_spec =
     (λ c. search rules)
     (λ c κs. countable c.requires long long)
     (λ c. search rules)
-    (λ c κs. own-table (start c.before.before.before).requires (omega (arith, c.count_fours.auto.1.1.1.0, long)) (c.count_fours.ensures (countable (start c.before.before.before).requires long long)))
+    (λ c κs. own-table (start c.before.before.before).requires (omega (arith, c.count_fours.auto.own, long)) (c.count_fours.ensures (countable (start c.before.before.before).requires long long)))
     (λ c. search rules)
     (λ c. search rules)
     (λ c s.
-    let user = c.before.before in
-    let count = counted user in
-    sym (ap check_of (user.first-user.ensures (own-table s (omega (arith, count.count-fours.kept.1.1.1.0, long)) (count.count-fours.ensures (countable s long long))) ∙ ap (verdict_by 28) c.enum_told.given.1)))
+    sym (ap check_of (c.first_user.ensures (own-table s (omega (arith, c.count_fours.kept.own, long)) (c.count_fours.ensures (countable s long long))) ∙ ap (verdict_by 28) c.in-All.is)))
     (λ c s.
-    let user = c.before.before.before in
-    let count = counted user in
-    sym (ap check_of (user.first-user.ensures (own-table s (omega (arith, count.count-fours.kept.1.1.1.0, long)) (count.count-fours.ensures (countable s long long))) ∙ ap (verdict_by 28) c.before.place.given.1))))
+    sym (ap check_of (c.first_user.ensures (own-table s (omega (arith, c.count_fours.kept.own, long)) (c.count_fours.ensures (countable s long long))) ∙ ap (verdict_by 28) c.in-Broken.is))))

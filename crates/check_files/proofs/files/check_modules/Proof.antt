@@ -55,7 +55,7 @@ returns c ms l =
     let d = ended c.before.before.before.before.before.before.before.before.before.before.before in
     let n = numbered d.before.before in
     file-found (entered n).requires n.number-modules.ensures n.number-modules.kept.1.1.1.0 d.before.before.at-repeat.ensures d.end_Before.ensures ms l
-    c.check_from.auto.0 (walk_ends c.check_from.ensures (omega arith))
+    c.check_from.auto.numbers (walk_ends c.check_from.ensures (omega arith))
 
 pub check_modules_spec : {M : Type 1} → statement M
 check_modules_spec =

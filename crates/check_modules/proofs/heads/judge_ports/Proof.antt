@@ -68,7 +68,7 @@ returns-2 c =
 
 any-known-requires : tie.Need-any_known-requires
 any-known-requires c κs =
-    below-sized c.learn.auto.1.0 c.requires.outputs_index
+    below-sized c.learn.auto.table c.requires.outputs_index
 
 -- A table with entries from before knows no net, and then it knows the inputs.
 known : (c : tie.After-learn) → (Knows c.learn.new.table c.args.base c.args.inputs.now)

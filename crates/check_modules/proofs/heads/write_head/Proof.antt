@@ -20,7 +20,7 @@ outputs :
     → (let a = c.args in
     ListReady c.write_list.new.numbers a.slots.now a.base c.list_end-o.result a.nets)
 outputs c =
-    outputs-ready c.requires c.list_end-o.ensures c.write_list.auto.0 c.write_list.ensures
+    outputs-ready c.requires c.list_end-o.ensures c.write_list.auto.numbers c.write_list.ensures
 
 entry-requires : tie.Need-entry-outputs-requires
 entry-requires c κs = omega (arith, (outputs c.before.before).listed.stands.within)
@@ -30,7 +30,7 @@ write-list-requires-2 c κs = (outputs c.before.before.before.before)
 
 returns : tie.Need-returns
 returns c =
-    head-written c.list_end-o.ensures c.write_list.auto.0 c.write_list.ensures c.entry-outputs.ensures
+    head-written c.list_end-o.ensures c.write_list.auto.numbers c.write_list.ensures c.entry-outputs.ensures
     c.write_list-2.ensures
 
 pub write_head_spec : {M : Type 1} → statement M

@@ -73,7 +73,7 @@ indexes :
     → (let a = (entered c).args in Indexes a.first.now c.judge_head-rule.new.slots a.numbers.now)
 indexes c =
     let p = (entered c).requires in
-    record { in_first = p.indexes.in_first; in_slots = below-sized c.judge_head-rule.auto.1.0 p.indexes.in_slots }
+    record { in_first = p.indexes.in_first; in_slots = below-sized c.judge_head-rule.auto.slots p.indexes.in_slots }
 
 -- The judgement of the head from behind its counts, and what is known there.
 abbrev head : tie.After-entry-count → tie.After-judge_head-rule
@@ -114,7 +114,7 @@ walked c = c.before.before.before.before.before
 
 -- The table is as long as it was, and its entries are low.
 kept : (b : tie.After-check_body) → length b.check_body.new.slots ≡ length (entered (head b.before.before.before)).args.slots.now
-kept b = b.check_body.auto.1.1.1.1.1.1.1.0 ∙ (head b.before.before.before).judge-head.auto.1.0
+kept b = b.check_body.auto.slots ∙ (head b.before.before.before).judge-head.auto.1.0
 
 low : (b : tie.After-check_body) → Below ((entered (head b.before.before.before)).args.base + 65536) b.check_body.new.slots
 low b = b.check_body.ensures.low (head b.before.before.before).judge-head.ensures.low

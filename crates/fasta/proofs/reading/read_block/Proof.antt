@@ -22,9 +22,6 @@ decreases-loop bytes letters bases₀ table₀ now₀ i₀ i-end bases table now
 abbrev turn : tie.After-step-now invariant-loop decreases-loop → tie.In-loop-i invariant-loop decreases-loop
 turn c = c.before.before.before.before
 
-abbrev entry : tie.At-loop-i invariant-loop decreases-loop → tie.Start invariant-loop decreases-loop
-entry c = c.before.before.before.before
-
 loop-holds : tie.Need-loop-i-init invariant-loop decreases-loop
 unfolding steps
 loop-holds c = record { inside = omega arith; same = refl; whole = refl; filled = c.requires.0; holds = λ s h. h }
@@ -63,8 +60,8 @@ read_block_spec =
     loop-holds
     (λ c. omega arith)
     (λ c κs.
-    let l = c.before.before.before.before.loop in
-    (omega (arith, l.invariant.same, l.invariant.filled), l.invariant.whole ∙ (entry c.before.before.before.before).requires.1))
+    let l = c.loop-i in
+    (omega (arith, l.invariant.same, l.invariant.filled), l.invariant.whole ∙ c.requires.1))
     (λ c. omega arith)
     (λ c. omega arith)
     loop-again

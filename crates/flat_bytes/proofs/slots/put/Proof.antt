@@ -16,10 +16,6 @@ invariant-loop image from to scratch bytes₀ at count end₀ i₀ bytes end i =
 abbrev decreases-loop : tie.decreases-loop-i
 decreases-loop image from to scratch bytes₀ at count end₀ i₀ bytes end i = count - i
 
--- Where the count is written, from a turn of the loop, and the start.
-abbrev counted : tie.At-loop-i invariant-loop decreases-loop → tie.After-put-end invariant-loop decreases-loop
-counted c = c.before.before.before
-
 abbrev start : tie.After-put-end invariant-loop decreases-loop → tie.Start invariant-loop decreases-loop
 start c = c.before.before.before.before.before
 
@@ -60,5 +56,4 @@ put_spec =
     loop-again
     (λ c. writing-length c.loop-i.invariant ∙ counted-long (start c.before.before.before.before).requires c.put-end.ensures)
     (λ c.
-    let first = counted c.before in
-    whole (start first).requires first.put.ensures (writing-all c.before.loop.invariant (omega (arith, count-of-nets (start first).requires)))))
+    whole (start c.before.before.before.before).requires c.put-end.ensures (writing-all c.loop-i.invariant (omega (arith, count-of-nets (start c.before.before.before.before).requires)))))

@@ -84,7 +84,7 @@ module _ (t : ℕ) where
       let at = passed-from t passed in
       let now = own t (module-read t at) in
       turns.fetches now (is_module t at) passed.copy.ensures c.place_module-pen.new.scratch
-      c.place_module-pen.auto.1.1.1.1.1.0
+      c.place_module-pen.auto.scratch
       (passed.before.before.module-at.ensures _ (module_stands (turns.sub now (is_module t at))))
 
   loop-again-2 : walk-lts.Need-loop-left-preserved (walk-claims t) (walk_at t) walk.Post Inv-loop μ-loop
@@ -93,7 +93,7 @@ module _ (t : ℕ) where
       let at = passed-from t passed in
       let now = here t (module-read t at) p ready ahead in
       turns.turn_module now (is_module t at) passed.copy.ensures c.place_module-pen.new.scratch
-      c.place_module-pen.auto.1.1.1.1.1.0
+      c.place_module-pen.auto.scratch
       (passed.before.before.module-at.ensures _ (module_stands (turns.sub now (is_module t at))))
       (c.place_module-pen.ensures _ (turns.calls now (is_module t at) passed.copy.ensures))
       c.copy-in-Module.ensures

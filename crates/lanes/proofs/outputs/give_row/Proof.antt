@@ -65,5 +65,5 @@ give_row_spec =
     loop-again
     (λ c. (c.loop-j.invariant.1 c.requires.1).size)
     (λ c g.
-    let done : c.before.loop.j ≡ length c.before.before.args.out.now = omega (arith, c.before.loop.invariant.0) in
-    giving-all g.count (subst (Giving _ _ _) done (c.before.loop.invariant.1 g))))
+    let done : c.loop-j.j ≡ length c.args.out.now = omega (arith, c.loop-j.invariant.0) in
+    giving-all g.count (subst (Giving _ _ _) done (c.loop-j.invariant.1 g))))

@@ -50,9 +50,8 @@ feed_spec =
     (λ c. omega arith)
     (λ c. omega arith)
     (λ c.
-    let turn = c.before.before.before in
-    (omega (arith, turn.loop-test.true), fed-more turn.before.loop.invariant.1 (here turn).inside _ c.wide.ensures.0))
+    (omega (arith, c.loop-i-test.true), fed-more c.loop-i.invariant.1 (here c.before.before.before).inside _ c.wide.ensures.0))
     (λ c. c.loop-i.invariant.1.size)
     (λ c.
-    let done : c.before.loop.i ≡ c.before.before.before.before.args.n = omega (arith, c.before.loop.invariant.0) in
-    subst (Fed _ _ _) done c.before.loop.invariant.1))
+    let done : c.loop-i.i ≡ c.args.n = omega (arith, c.loop-i.invariant.0) in
+    subst (Fed _ _ _) done c.loop-i.invariant.1))

@@ -73,5 +73,5 @@ store_spec =
     (λ c. (omega (arith, c.loop-j-test.true), stored_more c.loop-j.invariant.1 (here c.before.before.before.before.before.before.before.before).inside))
     (λ c. c.loop-j.invariant.1.size)
     (λ c.
-    let done : c.before.loop.j ≡ c.before.before.args.n = omega (arith, c.before.loop.invariant.0) in
-    subst (Stored _ _ _) done c.before.loop.invariant.1))
+    let done : c.loop-j.j ≡ c.args.n = omega (arith, c.loop-j.invariant.0) in
+    subst (Stored _ _ _) done c.loop-j.invariant.1))

@@ -45,12 +45,12 @@ take-rows-requires c κs = (group c.before.before, group c.before.before)
 feed-requires : tie.Need-feed-requires invariant-loop decreases-loop
 feed-requires c κs =
     hungry c.requires.0 c.loop-left.invariant.0 (omega (arith, c.loop-left-test.true)) refl
-    (omega (arith, c.take_rows.auto.1.1.1.1.0, c.requires.0.narrow))
+    (omega (arith, c.take_rows.auto.low, c.requires.0.narrow))
 
 feed-requires-2 : tie.Need-feed-requires-in-loop-left invariant-loop decreases-loop
 feed-requires-2 c κs =
     hungry c.requires.1 c.loop-left.invariant.1 (omega (arith, c.loop-left-test.true)) refl
-    (omega (arith, c.take_rows.auto.1.1.1.1.1.0, c.requires.1.narrow))
+    (omega (arith, c.take_rows.auto.high, c.requires.1.narrow))
 
 loop-again : tie.Need-loop-left-preserved invariant-loop decreases-loop
 loop-again c =
@@ -75,9 +75,9 @@ take_word_spec =
     (λ c. search rules)
     (λ c. search rules)
     take-rows-requires
-    (λ c. sym c.take_rows.auto.1.1.1.1.0)
+    (λ c. sym c.take_rows.auto.low)
     feed-requires
-    (λ c. sym c.take_rows.auto.1.1.1.1.1.0)
+    (λ c. sym c.take_rows.auto.high)
     feed-requires-2
     (λ c. omega arith)
     loop-again

@@ -40,7 +40,7 @@ module _ (t : ℕ) where
         λ w.
             let sofar = read.before.before.loop.inv.3 w in
             let now = turn read.before.loop-test.taken sofar.0.ahead read.occurrence-at.ensures in (
-              (at-gate w.loadable sofar.0 now (is-gate t c.before.before.before.before.before.before) _).next c.add_loads.auto.1.1.1.1.1.1.0 c.add_loads.ensures,
+              (at-gate w.loadable sofar.0 now (is-gate t c.before.before.before.before.before.before) _).next c.add_loads.auto.scratch c.add_loads.ensures,
               sofar.1,
             ),
         λ s.
@@ -131,7 +131,7 @@ module _ (t : ℕ) where
             let now = turn read.before.loop-test.taken sofar.0.ahead read.occurrence-at.ensures in
             let done = called.weigh-once.ensures.0 (loading.workable w.loadable sofar.0 now (is_module t at) sofar.1) in (
               (loading.at_module w.loadable sofar.0 now (is_module t at) _ done called.weigh-once.kept.1.1.1.1.0 c.larger-most.ensures
-                  ).next c.add_inside.auto.1.1.1.1.0 c.add_inside.ensures,
+                  ).next c.add_inside.auto.scratch c.add_inside.ensures,
               done.kept,
             ),
         λ s.

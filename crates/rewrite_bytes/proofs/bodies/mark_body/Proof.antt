@@ -19,12 +19,6 @@ invariant-loop numbers place count table₀ stamp at₀ left₀ table at left =
 abbrev decreases-loop : tie.decreases-loop-left
 decreases-loop numbers place count table₀ stamp at₀ left₀ table at left = left
 
-abbrev begun : tie.At-loop-left invariant-loop decreases-loop → tie.Start invariant-loop decreases-loop
-begun c = c.before.before.before
-
-abbrev head : tie.After-occurrence_at-o invariant-loop decreases-loop → tie.At-loop-left invariant-loop decreases-loop
-head c = c.before.before
-
 abbrev Asked : tie.At-loop-left invariant-loop decreases-loop → Type 0
 Asked c = Markable c.args.numbers.now c.args.place c.args.count (length c.args.table.now)
 
@@ -42,7 +36,7 @@ marked c = c.before.before.before.before.before
 loop-again : tie.Need-loop-left-preserved invariant-loop decreases-loop
 loop-again c =
     let first = marked c.before.before in (
-      c.mark-in-loop-left.auto.1.0 ∙ first.mark.kept.1.0 ∙ first.before.before.before.before.before.loop.inv.0,
+      c.mark-in-loop-left.auto.table ∙ first.mark.kept.1.0 ∙ first.before.before.before.before.before.loop.inv.0,
       λ s.
           let t = now first.before.before.before s in
           let sofar = first.before.before.before.before.before.loop.inv.1 s in (
@@ -75,24 +69,20 @@ mark_body_spec =
     (λ c. omega arith)
     (λ c. let t = now c c.requires in omega (arith, drives-within t))
     (λ c κs.
-    let read = c.before.before in
-    let loop = head read in
-    let at = loop.loop.at in
-    indexed _ (part_small (at + 1 + read.occurrence-at.result.drives - (at + 1)) (at + 1) (begun loop).requires.small) (loop.loop.inv.0 ∙ (begun loop).requires.wide))
+    let at = c.loop-left.at in
+    indexed _ (part_small (at + 1 + c.occurrence_at-o.result.drives - (at + 1)) (at + 1) c.requires.small) (c.loop-left.invariant.0 ∙ c.requires.wide))
     (λ c. let t = now c.before.before.before.before.before c.requires in omega (arith, takes-within t, t.read.to, c.before.before.before.before.before.before.before.before.before.before.good))
     (λ c. let t = now c.before.before.before.before.before c.requires in omega (arith, t.read.to))
     (λ c. let t = now c.before.before.before.before.before c.requires in omega (arith, t.read.to))
     (λ c. let t = now c.before.before.before.before.before c.requires in omega (arith, takes-within t))
     (λ c κs.
-    let first = c.before.before.before.before in
-    let loop = head (seen first) in
-    let place = (seen first).occurrence-at.result in
-    indexed _ (part_small (place.to - place.from) place.from (begun loop).requires.small) (first.mark.auto.1.0 ∙ loop.loop.inv.0 ∙ (begun loop).requires.wide))
+    let place = c.occurrence_at-o.result in
+    indexed _ (part_small (place.to - place.from) place.from c.requires.small) (c.mark.auto.table ∙ c.loop-left.invariant.0 ∙ c.requires.wide))
     (λ c. let read = seen (marked c.before.before) in read.before.loop-test.taken)
     (λ c. let read = seen (marked c.before.before) in omega (arith, read.before.loop-test.taken))
     loop-again
     (λ c. c.loop-left.invariant.0)
     (λ c s used stamped.
-    let sofar = c.before.loop.invariant.1 s in
-    let none = none_left sofar.0 (omega (arith, sofar.1.many, c.loop-test.false)) in
+    let sofar = c.loop-left.invariant.1 s in
+    let none = none_left sofar.0 (omega (arith, sofar.1.many, c.loop-left-test.false)) in
     all-marked none sofar.2 used stamped))

@@ -22,12 +22,6 @@ invariant-loop numbers place count table stamp out₀ to at₀ left₀ from₀ e
 abbrev decreases-loop : tie.decreases-loop-left
 decreases-loop numbers place count table stamp out₀ to at₀ left₀ from₀ end₀ out at left from end = left
 
-abbrev begun : tie.At-loop-left invariant-loop decreases-loop → tie.Start invariant-loop decreases-loop
-begun c = c.before.before.before.before
-
-abbrev head : tie.After-is_withdrawn invariant-loop decreases-loop → tie.At-loop-left invariant-loop decreases-loop
-head c = c.before.before.before
-
 abbrev Asked : tie.At-loop-left invariant-loop decreases-loop → Type 0
 Asked c =
     Roomy c.args.numbers.now c.args.place c.args.count c.args.table.now c.args.stamp (length c.args.out.now) c.args.to
@@ -42,9 +36,6 @@ now c s =
 -- One of the four gates, and the two new nets.
 told : (c : tie.Then-is_withdrawn invariant-loop decreases-loop) → withdrawn c.occurrence_at-o.result.refers ≡ true
 told c = sym c.is_withdrawn.ensures ∙ c.if-is_withdrawn.true
-
-abbrev test : tie.After-seek-first invariant-loop decreases-loop → tie.Then-is_withdrawn invariant-loop decreases-loop
-test c = c.before
 
 found :
     (c : tie.After-seek-first invariant-loop decreases-loop) (s : Asked c.before.before.before.before.before)
@@ -103,13 +94,11 @@ put_body_spec =
     (λ c κs. let s = c.requires in seekable s.w (c.loop-left.invariant s) (now c.before s) (told c))
     (λ c. let s = c.requires in omega (arith, (found c s).low))
     (λ c κs.
-    let seen = (test c).before in
-    let s = (begun (head seen)).requires in
-    seekable-next s.w ((head seen).loop.inv s) (now seen s) (told (test c)) (found c s))
+    let s = c.requires in
+    seekable-next s.w (c.loop-left.invariant s) (now c.before.before s) (told c.before) (found c s))
     (λ c κs.
-    let seen = (test c.before).before in
-    let s = (begun (head seen)).requires in
-    (in_net s.w ((head seen).loop.inv s) (now seen s) (told (test c.before)), in_takes s.w ((head seen).loop.inv s) (now seen s) (told (test c.before))))
+    let s = c.requires in
+    (in_net s.w (c.loop-left.invariant s) (now c.before.before.before s) (told c.before.before), in_takes s.w (c.loop-left.invariant s) (now c.before.before.before s) (told c.before.before)))
     (λ c. let s = c.requires in omega (arith, (found c.before.before s).low))
     (λ c. let s = c.requires in omega (arith, (found-next c.before s).low))
     put-three-requires

@@ -11,9 +11,6 @@ use Rattle.rewrite_bytes.proofs.Modules.{none-stamped, all-stamped, parts, input
 use Rattle.rewrite_bytes.proofs.files.mark_module.Statement.{statement}
 use Rattle.rewrite_bytes.proofs.files.mark_module.Tie as tie
 
-abbrev start : tie.After-module_at-header → tie.Start
-start c = c.before.before.before
-
 abbrev Asked : tie.After-module_at-header → Type 0
 Asked c = ModuleMarkable c.args.numbers.now c.args.start c.args.table.now c.args.stamp
 
@@ -50,26 +47,21 @@ mark_module_spec =
     (λ c. omega arith)
     (λ c. let s = c.requires in omega (arith, (parts s.m s.stands).end, (header c.before s).inputs))
     (λ c κs.
-    let r = c.before.before.before in
-    let s = (start r).requires in
-    indexed _ (part_small ((start r).args.start + 2 + r.module-at.result.inputs - ((start r).args.start + 2)) ((start r).args.start + 2) s.small) s.wide)
+    let s = c.requires in
+    indexed _ (part_small (c.args.start + 2 + c.module_at-header.result.inputs - (c.args.start + 2)) (c.args.start + 2) s.small) s.wide)
     (λ c. let s = c.requires in omega (arith, (parts s.m s.stands).end, (header c.before.before.before.before.before.before s).from, (header c.before.before.before.before.before.before s).to, c.before.before.before.before.before.before.before.before.before.good))
     (λ c. let s = c.requires in omega (arith, (header c.before.before.before.before.before.before s).to))
     (λ c. let s = c.requires in omega (arith, (header c.before.before.before.before.before.before s).to))
     (λ c. let s = c.requires in omega (arith, (parts s.m s.stands).end, (header c.before.before.before.before.before.before s).from, (header c.before.before.before.before.before.before s).to))
     (λ c κs.
-    let one = c.before.before.before.before in
-    let r = read one in
-    let s = (start r).requires in
-    let h = r.module-at.result in
-    indexed _ (part_small (h.to - h.from) h.from s.small) (one.mark.auto.1.0 ∙ s.wide))
+    let s = c.requires in
+    let h = c.module_at-header.result in
+    indexed _ (part_small (h.to - h.from) h.from s.small) (c.mark.auto.table ∙ s.wide))
     (λ c. let r = read (first c.before.before) in let s = r.before.before.before.requires in omega (arith, (parts s.m s.stands).end, (header r s).from, (header r s).to, r.before.before.before.good))
     (λ c κs.
-    let second = c.before.before.before in
-    let one = first second in
-    let r = read one in
-    let s = (start r).requires in
-    let h = header r s in
-    record { os = s.m.occurrences; stands = h.body; many = h.count; small = s.small; wide = second.mark2.auto.1.0 ∙ one.mark.kept.1.0 ∙ s.wide })
+    let one = first c.before.before.before in
+    let s = one.before.before.before.before.before.before.before.requires in
+    let h = header one.before.before.before.before s in
+    record { os = s.m.occurrences; stands = h.body; many = h.count; small = s.small; wide = c.mark-2.auto.table ∙ one.mark.kept.1.0 ∙ s.wide })
     (λ c. search rules)
     returns)

@@ -86,7 +86,7 @@ module _
 
 -- The buffer is as long as it was lent.
 same-long : (c : tie.After-put-at invariant-loop decreases-loop) → length c.put-at.new.out ≡ length (start c).args.out.now
-same-long c = c.put-at.auto.1.0
+same-long c = c.put-at.auto.out
 
 -- At a turn, of what the function was lent.
 module _ (t : tie.In-loop-k invariant-loop decreases-loop) where
@@ -146,7 +146,7 @@ loop-again-2 : tie.Need-loop-k-preserved invariant-loop decreases-loop
 loop-again-2 c =
     let t = putting c.before.before.before in
     let first = writable t _ (lent t) (long t) in (
-      c.put_module-at.auto.1.1.1.0 ∙ t.before.loop.inv.0,
+      c.put_module-at.auto.table ∙ t.before.loop.inv.0,
       older-now _ (c.put_module-at.ensures first).1,
       λ n s e.
           laying-more (t.before.loop.inv.2 n s e) (module_bytes (rewrite_module (here t n s e).m)) _ (next_module (here t n s e))
@@ -162,17 +162,15 @@ put_file_spec =
     decreases-loop
     (λ c. omega (arith, c.requires.all, c.requires.few))
     (λ c κs.
-    let first = let known = c.before.before.before in known.before.before.before.before in
-    let s = first.requires in
-    let long = ap length (file-long s.ms first.args.modules s.all) ∙ length-append (number_bytes first.args.modules) (each module_bytes (rewrite_file s.ms)) in
+    let s = c.requires in
+    let long = ap length (file-long s.ms c.args.modules s.all) ∙ length-append (number_bytes c.args.modules) (each module_bytes (rewrite_file s.ms)) in
     (omega (arith, s.all, s.few), omega (arith, s.room, long)))
-    (λ c.
-    let put = c.before.before in (
+    (λ c. (
       length-replicate {A = ℕ} 16384 0,
       (λ x. omega (arith, all_alike {A = ℕ} 16384 x 0)),
       λ n s e.
-          let long = ap length (file-long s.ms (start put).args.modules s.all) ∙ length-append (number_bytes (start put).args.modules) (each module_bytes (rewrite_file s.ms)) in
-          laying-start (omega (arith, s.room, long, put.put.ensures.place, e)),
+          let long = ap length (file-long s.ms (start c.before.before).args.modules s.all) ∙ length-append (number_bytes (start c.before.before).args.modules) (each module_bytes (rewrite_file s.ms)) in
+          laying-start (omega (arith, s.room, long, c.put-at.ensures.place, e)),
     ))
     (λ c. omega (arith, few c))
     (λ c. omega (arith, in-own c))
@@ -198,8 +196,7 @@ put_file_spec =
     loop-again-2
     (λ c. laying-length (c.loop-k.invariant.2 _ (start c.before.before.before.before).requires (same-long c.before.before.before.before)) ∙ same-long c.before.before.before.before)
     (λ c s.
-    let put = put_of c.before in
-    let none = drop_of_length-le s.ms {i = c.before.loop.k} (omega (arith, c.loop-test.false, s.all)) in
-    rw (file-long s.ms (start put).args.modules s.all)
-    (put-more put.put.ensures zero-le
-    (laying-all (c.before.loop.invariant.2 _ s (same-long put)) (ap (λ (ms : List Module). each module_bytes (rewrite_file ms)) none)))))
+    let none = drop_of_length-le s.ms {i = c.loop-k.k} (omega (arith, c.loop-k-test.false, s.all)) in
+    rw (file-long s.ms (start c.before.before.before.before).args.modules s.all)
+    (put-more c.put-at.ensures zero-le
+    (laying-all (c.loop-k.invariant.2 _ s (same-long c.before.before.before.before)) (ap (λ (ms : List Module). each module_bytes (rewrite_file ms)) none)))))

@@ -123,11 +123,10 @@ put_module_spec =
     (λ c. let s = (start c.before.before.before).requires in omega (arith, (header c s).from, (header c s).to))
     (λ c. let s = (start c.before.before.before).requires in omega (arith, (parts s.there.m s.there.stands).end, (header c s).from, (header c s).to))
     (λ c κs.
-    let r = c.before.before in
-    let s = (start (marked r)).requires in
-    let room = laying-room (begun r s) (each number_bytes (front s.there.m)) (number_bytes (count r s) ++ body r s) (module-bytes s.there.m) in (
-      part_small (r.module-at.result.to - (start (marked r)).args.start) (start (marked r)).args.start s.there.small,
-      record { fits = rw (part r s) (omega (arith, room.1)) },
+    let s = (start c.before.before.before.before.before).requires in
+    let room = laying-room (begun c.before.before s) (each number_bytes (front s.there.m)) (number_bytes (count c.before.before s) ++ body c.before.before s) (module-bytes s.there.m) in (
+      part_small (c.module_at-header.result.to - (start c.before.before.before.before.before).args.start) (start c.before.before.before.before.before).args.start s.there.small,
+      record { fits = rw (part c.before.before s) (omega (arith, room.1)) },
     ))
     (λ c. search rules)
     (λ c. let s = (start c.before.before.before.before.before.before.before.before.before).requires in omega (arith, same_count c.before.before.before.before.before.before s, s.suited.few))

@@ -35,13 +35,12 @@ mark_spec =
     (λ c. omega (arith, c.loop-i-test.true))
     (λ c. omega (arith, c.loop-i-test.true))
     (λ c.
-    let loop = c.before.before in
-    let more = c.before.loop-test.true in (
-      length-set loop.loop.table _ _ ∙ loop.loop.invariant.0,
+    let more = c.loop-i-test.true in (
+      length-set c.loop-i.table _ _ ∙ c.loop-i.invariant.0,
       λ used s.
-          marked_more loop.before.args.list.now loop.loop.i used more
-          (omega (arith, loop.before.requires.below loop.loop.i more, loop.loop.invariant.0)) (loop.loop.invariant.1 used s),
+          marked_more c.args.list.now c.loop-i.i used more
+          (omega (arith, c.requires.below c.loop-i.i more, c.loop-i.invariant.0)) (c.loop-i.invariant.1 used s),
     ))
     (λ c. c.loop-i.invariant.0)
     (λ c used s.
-    rw (take_all c.before.loop.i c.before.before.args.list.now c.loop-test.false) at (c.before.loop.invariant.1 used s)))
+    rw (take_all c.loop-i.i c.args.list.now c.loop-i-test.false) at (c.loop-i.invariant.1 used s)))

@@ -26,7 +26,6 @@ seek_spec =
     (λ c. let s = c.requires in omega (arith, low_of s.used c.loop-i.i (c.loop-i.invariant s)))
     (λ c. let s = c.requires in omega (arith, low_of s.used c.loop-i.i (c.loop-i.invariant s)))
     (λ c s.
-    let loop = c.before.before in
-    let e = loop.loop.invariant s in
-    sym (used-here s.used loop.loop.i (low_of s.used loop.loop.i e) (told-used s.used s.stamped loop.loop.i c.if1.true)) ∙ e)
+    let e = c.loop-i.invariant s in
+    sym (used-here s.used c.loop-i.i (low_of s.used c.loop-i.i e) (told-used s.used s.stamped c.loop-i.i c.loop-i-test.true)) ∙ e)
     (λ c s. found_here s c.loop-i.i (c.loop-i.invariant s) c.loop-i-test.false))

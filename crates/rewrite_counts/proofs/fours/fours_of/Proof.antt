@@ -27,10 +27,6 @@ begun c = start c.before.before
 abbrev Asked : tie.At-loop-left invariant-loop decreases-loop → Type 0
 Asked c = Reaching (begun c).args.image.now (begun c).args.starts.now (begun c).args.k (begun c).args.reached.now
 
--- The occurrence whose turn it is, where it has been looked at.
-abbrev head : tie.After-is_withdrawn invariant-loop decreases-loop → tie.At-loop-left invariant-loop decreases-loop
-head c = c.before.before.before
-
 now :
     (c : tie.After-is_withdrawn invariant-loop decreases-loop) (s : Asked c.before.before.before)
     → Turn (begun c.before.before.before).args.image.now s.scene.m s.scene.later c.loop-left.at c.loop-left.left
@@ -75,7 +71,6 @@ fours_of_spec =
     (λ c s. (module_here c.before s).step.next (omega arith) refl)
     (λ c. omega arith)
     (λ c s.
-    let told = c.before.before.before in
-    (at_other s ((head told).loop.invariant s) (now told s) (sym told.is-withdrawn.ensures ∙ c.before.before.if1.false) c.if2.false).next
+    (at_other s (c.loop-left.invariant s) (now c.before.before.before s) (sym c.is_withdrawn.ensures ∙ c.if-is_withdrawn.false) c.if-o-ge16.false).next
     (omega arith) (omega arith))
     (λ c s. all-walked s (omega (arith, c.loop-left-test.false)) (c.loop-left.invariant s)))

@@ -39,14 +39,14 @@ give-block-requires c κs =
     let b = (start c.before.before.before.before.before.before.before).requires in
     let header = c.module_at-header.ensures (scene b.standing).m (module_stands (scene b.standing)) in
     gives b header refl c.take_block.ensures (c.run_module.ensures (runs b header refl c.take_block.ensures))
-    c.run_module.auto.1.1.1.1.0
+    c.run_module.auto.scratch
 
 returns : tie.Need-returns
 returns c b =
     let header = c.module_at-header.ensures (scene b.standing).m (module_stands (scene b.standing)) in
     c.give_block.ensures
     (gives b header refl c.take_block.ensures (c.run_module.ensures (runs b header refl c.take_block.ensures))
-    c.run_module.auto.1.1.1.1.0)
+    c.run_module.auto.scratch)
 
 pub run_block_spec : {M : Type 1} → statement M
 run_block_spec =
@@ -59,7 +59,6 @@ run_block_spec =
     run-module-requires
     give-block-requires
     (λ c.
-    let ran = c.before.before.before.before.before.before in
-    ran.run-module.auto.1.1.1.1.0 ∙ (packed ran).take-block.ensures.size)
-    (λ c. c.give_block.auto.1.1.1.1.1.1.0)
+    c.run_module.auto.scratch ∙ c.take_block.ensures.size)
+    (λ c. c.give_block.auto.out)
     returns)

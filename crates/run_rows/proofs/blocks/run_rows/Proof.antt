@@ -58,10 +58,6 @@ loop-holds c =
     let a = (began c.before).args in
     record { until = omega arith; same = refl; size = refl; laid_so = λ s. sym (laid-nothing a.out.now 0) }
 
--- A turn once its rows are counted: there are so many, and no more than 256.
-abbrev turned : tie.After-run_block invariant-loop decreases-loop → tie.After-least-some invariant-loop decreases-loop
-turned c = c.before.before.before
-
 upto :
     (c : tie.After-least-some invariant-loop decreases-loop)
     → c.loop-done.done + c.least-some.result ≤ (began c.before.before.before.before).args.rows
@@ -96,8 +92,8 @@ loop-again c =
     let a = (began c.before.before.before.before.before.before.before.before.before.before).args in
     record {
       until = upto c.before.before.before.before.before.before;
-      same = c.run_block.auto.1.1.1.1.1.1.1.0 ∙ l.inv.same;
-      size = c.run_block.auto.1.1.1.1.1.1.1.1.1.0 ∙ l.inv.size;
+      same = c.run_block.auto.entries ∙ l.inv.same;
+      size = c.run_block.auto.out ∙ l.inv.size;
       laid_so = λ s.
           turn_more s l.done c.least-some.result (upto c.before.before.before.before.before.before) (ins c.before.before.before.before.before.before.before.before s) (outs c.before.before.before.before.before.before.before.before s) a.out.now refl (l.inv.laid_so s)
           (c.run_block.ensures
@@ -122,12 +118,11 @@ run_rows_spec =
     run-block-requires
     (λ c. omega (arith, upto c.before.before.before.before.before.before, (began c.before.before.before.before.before.before.before.before.before.before).fits))
     (λ c.
-    let least = turned c.before.before.before in
-    omega (arith, least.least.ensures, least.before.loop-test.taken))
+    omega (arith, c.least-some.ensures, c.loop-done-test.true))
     loop-again
     (λ c. c.loop-done.invariant.same)
     (λ c. c.loop-done.invariant.size)
     (λ c s.
-    let l = c.before.loop in
-    let a = (began (header c.before)).args in
-    all-given s a.out.now (omega (arith, l.invariant.until, c.loop-test.false)) (l.invariant.laid_so s)))
+    let l = c.loop-done in
+    let a = (began c.before.before.before).args in
+    all-given s a.out.now (omega (arith, l.invariant.until, c.loop-done-test.false)) (l.invariant.laid_so s)))

@@ -22,10 +22,6 @@ invariant-loop image from to word shift entries low₀ high₀ count j₀ low hi
 abbrev decreases-loop : tie.decreases-loop-j
 decreases-loop image from to word shift entries low₀ high₀ count j₀ low high j = to - from - j
 
--- Where the function began, from a turn of its loop, and the slot from where both bytes are read.
-abbrev start : tie.At-loop-j invariant-loop decreases-loop → tie.Start invariant-loop decreases-loop
-start c = c.before.before.before.before
-
 abbrev slot : tie.After-byte_of-in-loop-j invariant-loop decreases-loop → tie.After-entry-slot invariant-loop decreases-loop
 slot c = c.before.before.before.before
 
@@ -74,23 +70,20 @@ fetch_spec =
     slot-inside
     (λ c κs. let p = c.requires in (omega (arith, p.one), p.place))
     (λ c.
-    let turn = c.before.before.before in
-    omega (arith, turn.before.loop.invariant.lows.size, (start turn.before).requires.low-long, turn.loop-test.true))
+    omega (arith, c.loop-j.invariant.lows.size, c.requires.low-long, c.loop-j-test.true))
     (λ c. let h = slot-inside c.before.before in omega arith)
     (λ c. slot-inside c.before.before)
     (λ c. omega (arith, c.requires.one))
     (λ c κs.
-    let read = c.before.before.before in
-    let p = (start read.before.before).requires in (omega (arith, p.one), p.place))
+    let p = c.requires in (omega (arith, p.one), p.place))
     (λ c.
-    let turn = (slot c).before in
-    omega (arith, turn.before.loop.inv.highs.size, (start turn.before).requires.high-long, turn.loop-test.taken))
+    omega (arith, c.loop-j.invariant.highs.size, c.requires.high-long, c.loop-j-test.true))
     (λ c. omega (arith, c.loop-j-test.true))
     (λ c. omega (arith, c.loop-j-test.true))
     loop-again
     (λ c. c.loop-j.invariant.lows.size)
     (λ c. c.loop-j.invariant.highs.size)
     (λ c.
-    let l = c.before.loop in
-    let all : l.j ≡ (start c.before).args.to - (start c.before).args.from = omega (arith, l.invariant.until, c.loop-test.false) in
+    let l = c.loop-j in
+    let all : l.j ≡ c.args.to - c.args.from = omega (arith, l.invariant.until, c.loop-j-test.false) in
     (subst (Fetched _ _ _ _ _) all l.invariant.lows, subst (Fetched _ _ _ _ _) all l.invariant.highs)))

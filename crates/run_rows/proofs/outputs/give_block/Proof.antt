@@ -27,10 +27,6 @@ invariant-loop image from to entries count at out₀ outputs done₀ out done = 
 abbrev decreases-loop : tie.decreases-loop-done
 decreases-loop image from to entries count at out₀ outputs done₀ out done = count - done
 
--- Where the function began, from a turn of its loop, and the turn from where its rows are given.
-abbrev start : tie.At-loop-done invariant-loop decreases-loop → tie.Start invariant-loop decreases-loop
-start c = c.before.before.before
-
 abbrev turn : tie.After-give_some invariant-loop decreases-loop → tie.After-least-some invariant-loop decreases-loop
 turn c = c.before.before
 
@@ -65,7 +61,7 @@ loop-again c =
     record {
       until = upto;
       even = λ h. omega (arith, c.least-some.ensures, l.inv.even taken);
-      size = c.give_some.auto.1.1.1.1.1.1.1.0 ∙ l.inv.size;
+      size = c.give_some.auto.out ∙ l.inv.size;
       laid_so = λ g.
           c.give_some.ensures (turn-shown g (l.inv.even taken) taken upto few refl l.inv.size)
           ∙ ap (λ (o : List ℕ). laid o (a.at + l.done * (a.to - a.from)) (given (λ r. g.values (l.done + r)) some)) (l.inv.laid_so g)
@@ -91,7 +87,7 @@ give_block_spec =
     loop-again
     (λ c. c.loop-done.invariant.size)
     (λ c g.
-    let l = c.before.loop in
-    let a = (start c.before).args in
-    let all : l.done ≡ a.count = omega (arith, l.invariant.until, c.loop-test.false) in
+    let l = c.loop-done in
+    let a = c.args in
+    let all : l.done ≡ a.count = omega (arith, l.invariant.until, c.loop-done-test.false) in
     l.invariant.laid_so g ∙ ap (λ (n : ℕ). laid a.out.now a.at (given g.values n)) all))

@@ -25,10 +25,6 @@ invariant-loop count outputs low high at out₀ place₀ r₀ out place r = Goin
 abbrev decreases-loop : tie.decreases-loop-r
 decreases-loop count outputs low high at out₀ place₀ r₀ out place r = count - r
 
--- Where the function began, from a turn of its loop.
-abbrev start : tie.At-loop-r invariant-loop decreases-loop → tie.Start invariant-loop decreases-loop
-start c = c.before.before.before.before
-
 loop-holds : tie.Need-loop-r-init invariant-loop decreases-loop
 unfolding joined
 loop-holds c =
@@ -69,7 +65,7 @@ loop-again c =
       until = omega (arith, taken);
       here = omega (arith, l.invariant.here, ap (λ (n : ℕ). n * a.outputs) (add-one l.r), suc-mul l.r a.outputs);
       size =
-          same_len_mid l.place (l.place + a.outputs - l.place) l.out c.give_row.new.out c.give_row.auto.1.1.1.0
+          same_len_mid l.place (l.place + a.outputs - l.place) l.out c.give_row.new.out c.give_row.auto.out
           ∙ l.invariant.size;
       laid_so = λ g.
           row_more g a.out.now refl (l.invariant.laid_so g) l.invariant.here refl taken
@@ -94,6 +90,6 @@ give_group_spec =
     loop-again
     (λ c. c.loop-r.invariant.size)
     (λ c g.
-    let l = c.before.loop in
-    let all : l.r ≡ (start c.before).args.count = omega (arith, l.invariant.until, c.loop-test.false) in
-    l.invariant.laid_so g ∙ ap (λ (n : ℕ). laid (start c.before).args.out.now (start c.before).args.at (given g.values n)) all))
+    let l = c.loop-r in
+    let all : l.r ≡ c.args.count = omega (arith, l.invariant.until, c.loop-r-test.false) in
+    l.invariant.laid_so g ∙ ap (λ (n : ℕ). laid c.args.out.now c.args.at (given g.values n)) all))

@@ -45,8 +45,8 @@ give_some_spec =
     (λ c. search rules)
     fetch-requires
     (λ c. c.requires.readable.ordered)
-    (λ c. sym c.fetch.auto.1.1.1.1.1.1.0)
-    (λ c. sym c.fetch.auto.1.1.1.1.1.1.1.0)
+    (λ c. sym c.fetch.auto.low)
+    (λ c. sym c.fetch.auto.high)
     give-group-requires
-    (λ c. c.give_group.auto.1.1.1.1.1.0)
+    (λ c. c.give_group.auto.out)
     returns)

@@ -28,13 +28,13 @@ result_spec =
     (λ c κs. search rules)
     (λ c. rw c.in-And.is c.folded.ensures)
     (λ c.
-    rw c.before.before.enum-told2.given.1
-    (c.not.ensures ∙ ap not_of c.before.folded2.ensures))
+    rw c.in-Nand.is
+    (c.not.ensures ∙ ap not_of c.folded-in-Nand.ensures))
     (λ c. rw c.in-Or.is c.folded-in-Or.ensures)
     (λ c.
-    rw c.before.before.enum-told4.given.1
-    (c.not2.ensures ∙ ap not_of c.before.folded4.ensures))
+    rw c.in-Nor.is
+    (c.not-in-Nor.ensures ∙ ap not_of c.folded-in-Nor.ensures))
     (λ c. rw c.in-Xor.is c.folded-in-Xor.ensures)
     (λ c.
-    rw c.before.before.enum-told6.given.1
-    (c.not3.ensures ∙ ap not_of c.before.folded6.ensures)))
+    rw c.in-Eqv.is
+    (c.not-in-Eqv.ensures ∙ ap not_of c.folded-in-Eqv.ensures)))

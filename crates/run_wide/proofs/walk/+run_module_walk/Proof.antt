@@ -90,7 +90,7 @@ module _ (t : ℕ) where
       let now = own t (module-read t told) in
       let kind = module-kind t told in
       modules.fetches now kind c.copy.ensures c.run_module.new.scratch
-      c.run_module.auto.1.1.1.1.0
+      c.run_module.auto.scratch
       (c.module_at-sub.ensures (modules.sub now kind).m (module_stands (modules.sub now kind)))
 
   loop-again-2 : walk-lts.Need-loop-left-preserved-then-o-gt0 (walk-claims t) (walk_at t) walk.Post Inv-loop μ-loop
@@ -99,7 +99,7 @@ module _ (t : ℕ) where
       let now = here t (module-read t told) s ahead in
       let kind = module-kind t told in
       modules.turn_module now kind c.copy.ensures c.run_module.new.scratch
-      c.run_module.auto.1.1.1.1.0
+      c.run_module.auto.scratch
       (c.module_at-sub.ensures (modules.sub now kind).m (module_stands (modules.sub now kind)))
       (c.run_module.ensures (modules.calls now kind c.copy.ensures))
       c.copy-then-o-gt0.ensures

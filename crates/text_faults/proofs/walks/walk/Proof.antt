@@ -55,7 +55,7 @@ add-if1-2 c =
     omega (arith, place.drives, place.from, place.to, place.takes.within, c.before.before.before.before.before.before.before.before.before.before.before.before.good)
 
 same_length : tie.Need-shape_of-marks-then-atom-o invariant-loop decreases-loop
-same_length c = c.fault_in-atom.auto.1.1.1.1.1.0 ∙ c.loop-i.invariant.0
+same_length c = c.fault_in-atom.auto.marks ∙ c.loop-i.invariant.0
 
 returns : tie.Need-returns-then-atom-o invariant-loop decreases-loop
 returns c p b =

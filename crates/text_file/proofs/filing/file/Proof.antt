@@ -25,7 +25,7 @@ put-list-requires c κs =
 
 slice-reshare-prefix-deliver : tie.Need-slice_bounds-deliver-end
 slice-reshare-prefix-deliver c =
-    let p : _ = c.put_list-end.ensures.place in let k : _ = c.put_list-end.auto.1.0 in let f : _ = (puttable c.requires c.size.result c.size.ensures (omega arith)).1.fits in omega (arith, p, k, f)
+    let p : _ = c.put_list-end.ensures.place in let k : _ = c.put_list-end.auto.bytes in let f : _ = (puttable c.requires c.size.result c.size.ensures (omega arith)).1.fits in omega (arith, p, k, f)
 
 slice-aggregate-deliver : tie.Need-slice_bounds-deliver-end-2
 slice-aggregate-deliver c = sym (length-take-le _ _ (slice-reshare-prefix-deliver c))

@@ -59,7 +59,7 @@ loop-less c = omega arith
 loop-again : tie.Need-loop-g-preserved invariant-loop decreases-loop
 unfolding gate_starts
 loop-again c =
-    gating_next _ _ _ c.loop-g.g _ _ _ _ (omega arith) (cut-gate c.args.names.now c.loop-g.g c.requires.0) c.number-given.auto.1.0 c.number-given.ensures c.loop-g.invariant
+    gating_next _ _ _ c.loop-g.g _ _ _ _ (omega arith) (cut-gate c.args.names.now c.loop-g.g c.requires.0) c.number-given.auto.tree c.number-given.ensures c.loop-g.invariant
 
 same_length : tie.Need-shape_of-tree invariant-loop decreases-loop
 same_length c = c.loop-g.invariant.same

@@ -49,7 +49,7 @@ same-length-3 c = search rules
 
 returns-2 : tie.Need-returns
 returns-2 c =
-    name-turned _ _ _ _ _ _ _ c.requires.short _ refl c.requires.named _ _ _ c.number-given.ensures (omega arith) _ _ _ c.put_name-put.auto.1.0 c.put_name-put.ensures c.grown.ensures
+    name-turned _ _ _ _ _ _ _ c.requires.short _ refl c.requires.named _ _ _ c.number-given.ensures (omega arith) _ _ _ c.put_name-put.auto.numbers c.put_name-put.ensures c.grown.ensures
 
 pub turn_name_spec : {M : Type 1} → statement M
 turn_name_spec =

@@ -63,7 +63,7 @@ same-length-3 c = search rules
 
 returns-3 : tie.Need-returns
 returns-3 c =
-    net-turned _ _ _ _ _ _ _ c.requires.short _ refl c.requires.netted _ _ _ c.number-given.ensures (omega arith) (omega arith) _ _ _ c.put_net-put.auto.1.0 c.put_net-put.ensures c.grown.ensures
+    net-turned _ _ _ _ _ _ _ c.requires.short _ refl c.requires.netted _ _ _ c.number-given.ensures (omega arith) (omega arith) _ _ _ c.put_net-put.auto.numbers c.put_net-put.ensures c.grown.ensures
 
 pub turn_net_spec : {M : Type 1} → statement M
 turn_net_spec =

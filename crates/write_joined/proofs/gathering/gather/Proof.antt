@@ -66,11 +66,10 @@ gather_spec =
     (tie.spec
     invariant-loop
     decreases-loop
-    (λ c.
-    let s = c.before.before.before.before.before in (
+    (λ c. (
       refl,
       omega arith,
-      λ g. going-none g.own g.shelved.ms s.args.bytes.now s.args.done g.room,
+      λ g. going-none g.own g.shelved.ms c.args.bytes.now c.args.done g.room,
     ))
     (λ c κs. at c.before c.requires)
     (λ c. omega (arith, c.loop-k-test.true))

@@ -45,11 +45,10 @@ mark_spec =
     (tie.spec
     invariant-loop
     decreases-loop
-    (λ c.
-    let s = c.before.before in (
+    (λ c. (
       refl,
       omega arith,
-      λ m. subst (Marks _) (sym (drop_of_length-le m.ms {i = s.args.modules} (omega (arith, m.all)))) (marks-none s.requires.clear),
+      λ m. subst (Marks _) (sym (drop_of_length-le m.ms {i = c.args.modules} (omega (arith, m.all)))) (marks-none c.requires.clear),
     ))
     (λ c. omega (arith, c.loop-k-test.true))
     (λ c κs. listed c)
