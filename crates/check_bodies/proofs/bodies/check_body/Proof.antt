@@ -16,56 +16,35 @@ abbrev decreases-loop : tie.decreases-loop-i
 decreases-loop numbers₀ from count k first inputs outputs slots₀ base width sizes rooms at₀ filled₀ so-far₀ i₀ numbers slots at filled so_far i =
     count - i
 
--- Back to the function's entry from before the loop and from the loop, from the call to its turn, and from an arm of the match to the call.
-abbrev begun : tie.After-nothing-so_far invariant-loop decreases-loop → tie.Start invariant-loop decreases-loop
-begun c = c.before.before.before.before.before.before.before.before
-
-abbrev entered : tie.At-loop-i invariant-loop decreases-loop → tie.Start invariant-loop decreases-loop
-entered l = begun l.before
-
-abbrev turn : tie.After-check_occurrence invariant-loop decreases-loop → tie.In-loop-i invariant-loop decreases-loop
-turn s = s.before.before.before
-
-abbrev broken : tie.In-Broken invariant-loop decreases-loop → tie.After-check_occurrence invariant-loop decreases-loop
-broken c = c.before.before.before.before.before
-
-abbrev fine : tie.In-Fine invariant-loop decreases-loop → tie.After-check_occurrence invariant-loop decreases-loop
-fine c = c.before.before.before.before.before
-
 loop-holds : tie.Need-loop-i-init invariant-loop decreases-loop
-loop-holds c = walk_begins (begun c).requires c.nothing-so_far.ensures
+loop-holds c = walk_begins c.requires c.nothing-so_far.ensures
 
 check-occurrence-requires : tie.Need-check_occurrence-requires invariant-loop decreases-loop
 check-occurrence-requires c κs =
-    step-ready (entered c.before.before.before).requires c.loop-i.invariant c.loop-i-test.true
+    step-ready c.requires c.loop-i.invariant c.loop-i-test.true
 
 same_length : tie.Need-shape_of-numbers-in-Broken invariant-loop decreases-loop
-same_length c = let s = broken c in s.check-occurrence.kept.0 ∙ s.before.before.before.before.loop.inv.numbers_long
+same_length c = c.check_occurrence.auto.numbers ∙ c.loop-i.invariant.numbers_long
 
 same-length-2 : tie.Need-shape_of-slots-in-Broken invariant-loop decreases-loop
-same-length-2 c = let s = broken c in s.check-occurrence.kept.1.1.1.1.1.1.0 ∙ s.before.before.before.before.loop.inv.slots_long
+same-length-2 c = c.check_occurrence.auto.slots ∙ c.loop-i.invariant.slots_long
 
 returns : tie.Need-returns-in-Broken invariant-loop decreases-loop
-returns c =
-    let s = broken c in
-    walk-stops (entered s.before.before.before.before).requires s.before.before.before.before.loop.inv s.before.before.before.loop-test.taken s.check-occurrence.ensures c.in-Broken.is
+returns c = walk-stops c.requires c.loop-i.invariant c.loop-i-test.true c.check_occurrence.ensures c.in-Broken.is
 
 add-i : tie.Need-overflow_add-i invariant-loop decreases-loop
-add-i c =
-    let t = turn (fine c) in
-    omega (arith, t.loop-test.taken, (entered t.before).fits.count)
+add-i c = omega (arith, c.ranges.count)
 
 loop-less : tie.Need-loop-i-smaller invariant-loop decreases-loop
-loop-less c = omega (arith, (turn (fine c)).loop-test.taken)
+loop-less c = omega arith
 
 loop-again : tie.Need-loop-i-preserved invariant-loop decreases-loop
 loop-again c =
-    let s = fine c in
-    walk-goes-on (entered s.before.before.before.before).requires s.before.before.before.before.loop.inv s.before.before.before.loop-test.taken s.check-occurrence.ensures
-    c.in-Fine.is s.check-occurrence.kept.0 s.check-occurrence.kept.1.1.1.1.1.1.0
+    walk-goes-on c.requires c.loop-i.invariant c.loop-i-test.true c.check_occurrence.ensures
+    c.in-Fine.is c.check_occurrence.auto.numbers c.check_occurrence.auto.slots
 
 returns-2 : tie.Need-returns invariant-loop decreases-loop
-returns-2 c = walk_ends (entered c.before).requires c.loop-i.invariant c.loop-i-test.false
+returns-2 c = walk_ends c.requires c.loop-i.invariant c.loop-i-test.false
 
 pub check_body_spec : {M : Type 1} → statement M
 check_body_spec =
