@@ -1,7 +1,7 @@
 -- `run_times::gate::latest` meets its contract. The loop's invariant, in each list: the latest so far and the latest of the arrivals that are
 -- left give the latest of all. Assumes nothing.
 use Prim.Native.Nat.{ℕ, ◌-◌, ◌<◌, max}
-use mathlib.Core.Path.{◌≡◌, ap, ◌∙◌}
+use mathlib.Core.Path.{◌≡◌, ap}
 use mathlib.Core.List.{List, ◌∷◌}
 use native.Mathlib.Omega.{arith}
 use lib.ListN.{length, get_or}
