@@ -2,14 +2,14 @@
 use Prim.Native.Nat.{ℕ, ◌+◌, ◌*◌, ◌-◌, ◌<◌, ◌≤◌}
 use native.Mathlib.Numerals.{add-one}
 use native.Mathlib.Omega.{arith}
-use mathlib.Core.Path.{◌≡◌, refl, sym, subst}
+use mathlib.Core.Path.{◌≡◌}
 use mathlib.Core.List.{List, [], ◌∷◌, ◌++◌, append_assoc}
 use lib.ListN.{length, take, drop, get_or, set}
 use lib.Seq.{take-suc, set_at, length-take-le}
 use borrow.Author.Tests.{lt-ltb}
 use Rattle.meaning.specs.Layout.{each, list_numbers, occurrence_numbers, module_numbers, number_bytes}
 use Rattle.meaning.specs.Adder.{up_from}
-use Rattle.meaning.specs.FastAdder.{leaves, spine, chain, cut, height, steps, lookahead}
+use Rattle.meaning.specs.FastAdder.{spine, chain, cut, height, steps, lookahead}
 use Rattle.laws.specs.Lists.{each_append}
 use Rattle.laws.specs.FastAdder.Shape.{height_tall, steps-width}
 use Rattle.laws.specs.FastAdder.Counting.{ones, twos}

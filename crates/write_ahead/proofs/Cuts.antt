@@ -1,12 +1,12 @@
 -- The steps over the lowest bits of a node, by the part that the last of them lies in.
 use Prim.Native.Nat.{ℕ, ◌+◌, ◌*◌, ◌-◌, ◌<◌, ◌≤◌}
 use native.Mathlib.Omega.{arith}
-use mathlib.Core.Path.{◌≡◌, refl}
+use mathlib.Core.Path.{◌≡◌}
 use mathlib.Core.Bool.{Bool, true, false, cond}
 use mathlib.Core.List.{List, [], ◌∷◌, ◌++◌}
 use lib.Dec.{ltb}
 use borrow.Author.Tests.{lt-ltb, le-ltb}
-use Rattle.meaning.specs.Layout.{each, occurrence_numbers}
+use Rattle.meaning.specs.Layout.{each}
 use Rattle.meaning.specs.FastAdder.{Tree, leaf, node, leaves, over_one, over_two, p_net, ahead, chain, cut}
 use Rattle.laws.specs.Lists.{each_append}
 use Rattle.laws.specs.FastAdder.Shape.{cut-width}

@@ -2,10 +2,10 @@
 -- decide.
 use Prim.Native.Nat.{ℕ, ◌+◌, ◌*◌, ◌≤◌}
 use native.Mathlib.Omega.{arith}
-use mathlib.Core.Path.{◌≡◌, refl, sym}
-use mathlib.Core.List.{List, [], ◌++◌}
+use mathlib.Core.Path.{◌≡◌}
+use mathlib.Core.List.{List, ◌++◌}
 use lib.ListN.{length}
-use Rattle.meaning.specs.Layout.{each, occurrence_numbers}
+use Rattle.meaning.specs.Layout.{each}
 use Rattle.meaning.specs.FastAdder.{Tree, leaf, node, leaves, p_net, ahead}
 use Rattle.laws.specs.Lists.{each_append}
 use Rattle.laws.specs.FastAdder.Signals.{some-leaves}

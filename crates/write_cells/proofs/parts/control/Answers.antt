@@ -1,47 +1,30 @@
 -- `parts::control` meets its contract: pieces put one behind the other are the module's numbers. Assumes nothing.
 use Prim.Native.Nat.{◌≤◌}
 use native.Mathlib.Omega.{arith}
-use borrow.Author.Rules.{rules}
 use lib.ListN.{length}
 use Rattle.meaning.specs.Layout.{each, occurrence_numbers, module_numbers}
 use Rattle.bytes_out.specs.Puts.{put-more}
-use Rattle.write_cells.proofs.parts.control.Statement.{statement}
-use Rattle.write_cells.proofs.parts.control.Tie as tie
+use Rattle.write_cells.proofs.parts.control.Goals as goal
 
-copy-requires : tie.Need-copy-generate-requires
+pub copy-generate-requires : goal.copy-generate-requires
 unfolding module_numbers occurrence_numbers each
-copy-requires c κs = omega arith
+copy-generate-requires c = omega arith
 
-copy-requires-2 : tie.Need-copy-pass_and-requires
+pub copy-pass_and-requires : goal.copy-pass_and-requires
 unfolding module_numbers occurrence_numbers each
-copy-requires-2 c κs = omega arith
+copy-pass_and-requires c = omega arith
 
-copy-requires-3 : tie.Need-copy-shifted_in-requires
+pub copy-shifted_in-requires : goal.copy-shifted_in-requires
 unfolding module_numbers occurrence_numbers each
-copy-requires-3 c κs = omega arith
+copy-shifted_in-requires c = omega arith
 
-copy-requires-4 : tie.Need-copy-requires
+pub copy-requires : goal.copy-requires
 unfolding module_numbers occurrence_numbers each
-copy-requires-4 c κs = omega arith
+copy-requires c = omega arith
 
-returns : tie.Need-returns
+pub returns : goal.returns
 unfolding module_numbers occurrence_numbers each
 returns c =
     let fits : c.args.at ≤ length c.args.bytes.now = omega (arith, c.requires) in
     let two = put-more c.copy-generate.ensures fits c.copy-pass_and.ensures in
     put-more (put-more two fits c.copy-shifted_in.ensures) fits c.copy.ensures
-
-pub control_spec : {M : Type 1} → statement M
-control_spec =
-    tie.close
-    (tie.spec
-    (λ c. search rules)
-    copy-requires
-    (λ c. search rules)
-    copy-requires-2
-    (λ c. search rules)
-    copy-requires-3
-    (λ c. search rules)
-    copy-requires-4
-    (λ c. search rules)
-    returns)

@@ -1,40 +1,25 @@
 -- `parts::cell` meets its contract: pieces put one behind the other are the module's numbers. Assumes nothing.
 use Prim.Native.Nat.{◌≤◌}
 use native.Mathlib.Omega.{arith}
-use borrow.Author.Rules.{rules}
 use lib.ListN.{length}
 use Rattle.meaning.specs.Layout.{each, occurrence_numbers, module_numbers}
 use Rattle.bytes_out.specs.Puts.{put-more}
-use Rattle.write_cells.proofs.parts.cell.Statement.{statement}
-use Rattle.write_cells.proofs.parts.cell.Tie as tie
+use Rattle.write_cells.proofs.parts.cell.Goals as goal
 
-copy-requires : tie.Need-copy-carries-requires
+pub copy-carries-requires : goal.copy-carries-requires
 unfolding module_numbers occurrence_numbers each
-copy-requires c κs = omega arith
+copy-carries-requires c = omega arith
 
-copy-requires-2 : tie.Need-copy-either-requires
+pub copy-either-requires : goal.copy-either-requires
 unfolding module_numbers occurrence_numbers each
-copy-requires-2 c κs = omega arith
+copy-either-requires c = omega arith
 
-copy-requires-3 : tie.Need-copy-requires
+pub copy-requires : goal.copy-requires
 unfolding module_numbers occurrence_numbers each
-copy-requires-3 c κs = omega arith
+copy-requires c = omega arith
 
-returns : tie.Need-returns
+pub returns : goal.returns
 unfolding module_numbers occurrence_numbers each
 returns c =
     let fits : c.args.at ≤ length c.args.bytes.now = omega (arith, c.requires) in
     put-more (put-more c.copy-carries.ensures fits c.copy-either.ensures) fits c.copy.ensures
-
-pub cell_spec : {M : Type 1} → statement M
-cell_spec =
-    tie.close
-    (tie.spec
-    (λ c. search rules)
-    copy-requires
-    (λ c. search rules)
-    copy-requires-2
-    (λ c. search rules)
-    copy-requires-3
-    (λ c. search rules)
-    returns)
