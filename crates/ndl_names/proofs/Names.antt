@@ -8,7 +8,7 @@ use native.Mathlib.Numerals.{add-one}
 use lib.Dec.{eqb}
 use lib.ListN.{length, get_or, take, drop, length-take, drop_of_length-le}
 use lib.Seq.{drop-cons}
-use borrow.Author.Tests.{eq-eqb, ne_eqb, not-true, not-false}
+use borrow.Author.Tests.{eq-eqb, ne_eqb}
 use Rattle.meaning.specs.Listing.{space}
 use Rattle.meaning.specs.Ndl.{name_at, letters, every, is_digit, like_module, same_name, used_in, first_bad_from, good_name}
 
@@ -28,14 +28,14 @@ module _ (name : List ℕ) (i : ℕ) where
   unfolding letters
   letters-none h = rw (drop_of_length-le name h)
 
-  pub letters-end : i < length name → not (eqb (get_or name i 0) space) ≡ false → length (letters (drop i name)) ≡ 0
+  pub letters-end : i < length name → get_or name i 0 ≡ space → length (letters (drop i name)) ≡ 0
   unfolding letters
-  letters-end h e = rw (drop-cons name i 0 h, not-false (eqb (get_or name i 0) space) e)
+  letters-end h e = rw (drop-cons name i 0 h, eq-eqb (get_or name i 0) space e)
 
-  pub letters-next : i < length name → not (eqb (get_or name i 0) space) ≡ true
+  pub letters-next : i < length name → (get_or name i 0 ≡ space → ⊥)
       → length (letters (drop i name)) ≡ suc (length (letters (drop (i + 1) name)))
   unfolding letters
-  letters-next h e = rw (add-one i, drop-cons name i 0 h, not-true (eqb (get_or name i 0) space) e)
+  letters-next h e = rw (add-one i, drop-cons name i 0 h, ne_eqb (get_or name i 0) space e)
 
 -- A comparison.
 module _ (one other : List ℕ) (i : ℕ) (same : length one ≡ length other) where

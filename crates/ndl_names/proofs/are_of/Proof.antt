@@ -1,11 +1,10 @@
 -- `are_of` meets its contract. The loop's invariant: what is left decides. Assumes nothing.
 use Prim.Native.Nat.{ℕ, ◌+◌, ◌-◌, ◌<◌}
 use mathlib.Core.Path.{◌≡◌, refl, sym, ap, ◌∙◌}
-use mathlib.Core.Bool.{Bool, true, false, not, ◌&&◌}
+use mathlib.Core.Bool.{Bool, true, false, ◌&&◌}
 use mathlib.Core.List.{List}
 use native.Mathlib.Omega.{arith}
 use borrow.Author.Rules.{rules}
-use borrow.Author.Tests.{not-true, not-false}
 use lib.ListN.{length, get_or, drop}
 use Rattle.meaning.specs.Ndl.{every}
 use Rattle.ndl_names.specs.Kinds.{belongs}
@@ -22,11 +21,11 @@ decreases-loop kind bytes i₀ i-end i = i-end - i
 -- The next byte and those behind it decide.
 module _ (p : ℕ → Bool) (bytes : List ℕ) (i : ℕ) (r : Bool) (inv : every p bytes ≡ every p (drop i bytes)) (h : i < length bytes)
     (e : r ≡ p (get_or bytes i 0)) where
-  ends : not r ≡ true → false ≡ every p bytes
-  ends off = sym (inv ∙ every-next p bytes i h ∙ ap (λ (b : Bool). b && every p (drop (i + 1) bytes)) (sym e ∙ not-true r off))
+  ends : r ≡ false → false ≡ every p bytes
+  ends off = sym (inv ∙ every-next p bytes i h ∙ ap (λ (b : Bool). b && every p (drop (i + 1) bytes)) (sym e ∙ off))
 
-  goes_on : not r ≡ false → every p bytes ≡ every p (drop (i + 1) bytes)
-  goes_on on = inv ∙ every-next p bytes i h ∙ ap (λ (b : Bool). b && every p (drop (i + 1) bytes)) (sym e ∙ not-false r on)
+  goes_on : r ≡ true → every p bytes ≡ every p (drop (i + 1) bytes)
+  goes_on on = inv ∙ every-next p bytes i h ∙ ap (λ (b : Bool). b && every p (drop (i + 1) bytes)) (sym e ∙ on)
 
 returns : tie.Need-returns-then-not-is_of invariant-loop decreases-loop
 returns c =

@@ -1,11 +1,10 @@
 -- `first_bad` meets its contract. The loop's invariant: the first bad name is the first from here on. Assumes nothing.
 use Prim.Native.Nat.{ℕ, ◌+◌, ◌*◌, ◌-◌, ◌≤◌, ◌<◌}
 use mathlib.Core.Path.{◌≡◌, refl, sym, ap, ◌∙◌}
-use mathlib.Core.Bool.{Bool, true, false, not}
+use mathlib.Core.Bool.{Bool, true, false}
 use mathlib.Core.List.{List}
 use native.Mathlib.Omega.{arith}
 use borrow.Author.Rules.{rules}
-use borrow.Author.Tests.{not-true, not-false}
 use lib.ListN.{take, drop}
 use Rattle.meaning.specs.Ndl.{name_at, good_name, used_in, first_bad_from, first_bad}
 use Rattle.ndl_names.proofs.Names.{part-of-names, bad-next}
@@ -24,14 +23,14 @@ module _ (names : List ℕ) (k : ℕ) (r : Bool) (more : k < 16) (inv : first_ba
   good : r ≡ good_name (name_at names k)
   good = e ∙ ap good_name (part-of-names names k)
 
-  bad : not r ≡ true → k ≡ first_bad names
+  bad : r ≡ false → k ≡ first_bad names
   bad h =
-      let here : good_name (name_at names k) ≡ false = sym good ∙ not-true r h in
+      let here : good_name (name_at names k) ≡ false = sym good ∙ h in
       sym (inv ∙ bad-next names k more ∙ rw here)
 
-  module _ (u : Bool) (h : not r ≡ false) (f : u ≡ used_in names k (name_at names k)) where
+  module _ (u : Bool) (h : r ≡ true) (f : u ≡ used_in names k (name_at names k)) where
     fine : good_name (name_at names k) ≡ true
-    fine = sym good ∙ not-false r h
+    fine = sym good ∙ h
 
     used : u ≡ true → k ≡ first_bad names
     used t =

@@ -2,7 +2,7 @@
 use mathlib.Core.Path.{◌≡◌, sym, ap, ◌∙◌}
 use mathlib.Core.Bool.{Bool, true, false, not, ◌&&◌}
 use borrow.Author.Rules.{rules}
-use borrow.Author.Tests.{le-leb, lt-leb, not-true, not-false}
+use borrow.Author.Tests.{le-leb, lt-leb}
 use lib.ListN.{length}
 use Rattle.ndl_names.proofs.is_spelled.Statement.{statement}
 use Rattle.ndl_names.proofs.is_spelled.Tie as tie
@@ -21,11 +21,11 @@ four-decides : {a b c d r : Bool} → a ≡ true → b ≡ true → c ≡ true �
 four-decides e f g h = rw (e, f, g) h
 
 -- What a test that is met, or not, says of what it answers.
-met : {r x : Bool} → r ≡ x → not r ≡ false → x ≡ true
-met {r} e h = sym e ∙ not-false r h
+met : {r x : Bool} → r ≡ x → r ≡ true → x ≡ true
+met e h = sym e ∙ h
 
-unmet : {r x : Bool} → r ≡ x → not r ≡ true → x ≡ false
-unmet {r} e h = sym e ∙ not-true r h
+unmet : {r x : Bool} → r ≡ x → r ≡ false → x ≡ false
+unmet e h = sym e ∙ h
 
 returns : tie.Need-returns-then-word-lt1
 returns c = one-fails _ _ _ (lt-leb 1 (length c.args.word.now) c.if-word-lt1.true)

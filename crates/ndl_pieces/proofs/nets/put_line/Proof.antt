@@ -81,14 +81,11 @@ put_line_spec =
     tie.close
     (tie.spec
     copy-requires
-    (λ c. search rules)
     copy-requires-2
     (λ c. search rules)
     returns
-    (λ c. search rules)
     copy-requires-3
     put-requires
-    (λ c. search rules)
     copy-requires-4
     (λ c. search rules)
     returns-2)

@@ -21,5 +21,5 @@ put_signed_spec =
     (λ c. omega (arith, c.requires.1.fits))
     (λ c. omega (arith, c.requires.1.fits))
     put-named-requires
-    (λ c. c.put_named.auto.1.1.0 ∙ length-set c.args.out.now _ _)
+    (λ c. c.put_named.auto.out ∙ length-set c.args.out.now _ _)
     returns)

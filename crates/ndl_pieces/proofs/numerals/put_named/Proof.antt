@@ -21,5 +21,5 @@ put_named_spec =
     (λ c. omega (arith, c.requires.1.fits))
     (λ c. omega (arith, c.requires.1.fits))
     put-requires
-    (λ c. c.put.auto.1.0 ∙ length-set c.args.out.now _ _)
+    (λ c. c.put.auto.out ∙ length-set c.args.out.now _ _)
     returns)
