@@ -79,6 +79,6 @@ pub atom-found : {ps : List Part} {text : List ℕ} (before : List Name) (a : Na
     → atoms_in ps ≡ before ++ (a ∷ rest) → word (atom_from (length before) text) ≡ a
 unfolding atom_from
 atom-found [] a rest w e = (to-first a rest w e).is
-atom-found (x ∷ before) a rest w e =
-    let b : Begins x (before ++ (a ∷ rest)) (to_atom _) = to-first x (before ++ (a ∷ rest)) w e in
-    atom-found before a rest b.written b.left
+atom-found {ps = ps} {text = text} (x ∷ before) a rest w e =
+    let b : Begins x (before ++ (a ∷ rest)) (to_atom text) = to-first x (before ++ (a ∷ rest)) w e in
+    atom-found {ps = b.parts} {text = past_atom (to_atom text)} before a rest b.written b.left

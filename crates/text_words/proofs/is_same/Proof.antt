@@ -2,7 +2,6 @@ use Prim.Native.Nat.{◌-◌}
 use native.Mathlib.Omega.{arith}
 use mathlib.Core.Path.{refl, sym, ◌∙◌}
 use borrow.Author.Rules.{rules}
-use borrow.Author.Tests.{not-true, not-false}
 use Rattle.text_words.proofs.Steps.{Left, same-apart, same-on, same_none, same_length}
 use Rattle.text_words.proofs.is_same.Statement.{statement}
 use Rattle.text_words.proofs.is_same.Tie as tie
@@ -40,7 +39,7 @@ is-alike-requires c κs = search rules
 returns-2 : tie.Need-returns-then-not-is_alike invariant-loop decreases-loop
 returns-2 c =
     let asked = c.args in
-    same-apart asked.one.now asked.other.now c.loop-i.i c.if-one-other.false c.loop-i-test.true c.loop-i.invariant _ c.is_alike.ensures (not-true _ c.if-not-is_alike.true)
+    same-apart asked.one.now asked.other.now c.loop-i.i c.if-one-other.false c.loop-i-test.true c.loop-i.invariant _ c.is_alike.ensures c.if-not-is_alike.true
 
 -- src/lib.rt:171:9
 add-i : tie.Need-overflow_step-i invariant-loop decreases-loop
@@ -54,7 +53,7 @@ loop-less c = omega arith
 loop-again : tie.Need-loop-i-preserved invariant-loop decreases-loop
 loop-again c =
     let asked = c.args in
-    same-on asked.one.now asked.other.now c.loop-i.i c.if-one-other.false c.loop-i-test.true c.loop-i.invariant _ c.is_alike.ensures (not-false _ c.if-not-is_alike.false)
+    same-on asked.one.now asked.other.now c.loop-i.i c.if-one-other.false c.loop-i-test.true c.loop-i.invariant _ c.is_alike.ensures c.if-not-is_alike.false
 
 -- src/lib.rt:165:1
 returns-3 : tie.Need-returns invariant-loop decreases-loop

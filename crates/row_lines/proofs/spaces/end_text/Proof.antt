@@ -38,7 +38,7 @@ returns-4 : tie.Need-returns
 returns-4 c =
     let f = c.args.filled in
     let t = c.args.text.now in
-    let e = open-ended f t c.if-filled-eq0.false c.if-text-filled.false c.if-text-last-eq10.false in
+    let e = open-ended f t c.if-filled-eq0.false c.if-text-filled.false (λ e. omega arith) in
     (omega (arith, ap length e), set-laid t f line_feed c.if-text-filled.false ∙ ap (laid t f) (sym e))
 
 pub end_text_spec : {M : Type 1} → statement M
@@ -49,7 +49,7 @@ end_text_spec =
     (λ c. as_it_was _ _ (full _ _ c.if-text-filled.true))
     (λ c. search rules)
     (λ c. search rules)
-    (λ c. as_it_was _ _ (ended _ _ c.if-text-last-eq10.true))
+    (λ c. as_it_was _ _ (ended c.args.filled c.args.text.now (omega arith)))
     (λ c. search rules)
     (λ c. search rules)
     (λ c. search rules)

@@ -8,9 +8,6 @@ use Rattle.text_reader.proofs.gates.enter.Reads as reads
 use Rattle.text_reader.proofs.gates.enter.Lts as lts
 use Rattle.text_reader.proofs.gates.enter_all.Reads as enter-all-reads
 
-slice-aggregate-enter-all : tie.Need-??slice-aggregate-enter-all
-slice-aggregate-enter-all c = search rules
-
 enter-all-requires : tie.Need-enter_all-requires
 unfolding gate_bytes spelling
 enter-all-requires c κs = (refl, search rules)
@@ -22,4 +19,4 @@ returns : tie.Need-returns
 returns c = search rules
 
 pub enter_spec : {M : Type 1} → statement M
-enter_spec = tie.close (tie.spec slice-aggregate-enter-all enter-all-requires same_length returns)
+enter_spec = tie.close (tie.spec enter-all-requires same_length returns)

@@ -32,7 +32,7 @@ same-length-2 c = search rules
 
 returns-2 : tie.Need-returns
 returns-2 c =
-    open_turned _ _ _ _ _ _ c.requires (sym c.is_full.ensures ∙ c.if-is_full.false) _ _ c.before.before.«open».auto.1.0 c.before.before.«open».ensures
+    open_turned _ _ _ _ _ _ c.requires (sym c.is_full.ensures ∙ c.if-is_full.false) _ _ c.open-opened.auto.numbers c.open-opened.ensures
 
 pub turn_open_spec : {M : Type 1} → statement M
 turn_open_spec =
