@@ -6,7 +6,7 @@ use mathlib.Core.Bool.{Bool, true, false}
 use mathlib.Core.List.{List}
 use native.Mathlib.Omega.{arith}
 use borrow.Author.Rules.{rules}
-use borrow.Author.Tests.{le-leb, lt-leb, not-true, not-false}
+use borrow.Author.Tests.{le-leb, lt-leb}
 use Rattle.check_modules.specs.Heads.{HeadWritten}
 use Rattle.check_modules.specs.Modules.{end_rule, Ended}
 use Rattle.check_modules.proofs.modules.finish_module.Statement.{statement}
@@ -44,15 +44,15 @@ module _
 
 returns : tie.Need-returns-then-not-write_head
 returns c =
-    unanswered c.write_head.ensures (not-true c.write_head.result c.if-not-write_head.true)
+    unanswered c.write_head.ensures c.if-not-write_head.true
 
 returns-2 : tie.Need-returns-then-nets-gt4096
 returns-2 c =
-    many c.write_head.ensures (not-false c.write_head.result c.if-not-write_head.false) c.if-nets-gt4096.true
+    many c.write_head.ensures c.if-not-write_head.false c.if-nets-gt4096.true
 
 returns-3 : tie.Need-returns-else-nets-gt4096
 returns-3 c =
-    fine c.write_head.ensures (not-false c.write_head.result c.if-not-write_head.false) c.if-nets-gt4096.false
+    fine c.write_head.ensures c.if-not-write_head.false c.if-nets-gt4096.false
 
 pub finish_module_spec : {M : Type 1} → statement M
 finish_module_spec =
