@@ -21,7 +21,7 @@ began c = c.before.before.before.before.before.before.before.before
 mul-module-at : tie.Need-offset_bounds-starts-k
 mul-module-at c =
     let e = c.requires.callable in
-    omega (arith, in_starts e.scene, c.well-formed)
+    omega (arith, in_starts e.scene)
 
 shared-slice-read-module-at : tie.Need-bounds-starts-k
 shared-slice-read-module-at c =

@@ -1,4 +1,4 @@
--- `runner::buffers::give` meets its contract. The loop's invariant: the values passed stand at the front of the buffer. Assumes nothing.
+-- `run_engine::buffers::give` meets its contract. The loop's invariant: the values passed stand at the front of the buffer. Assumes nothing.
 use Prim.Native.Nat.{ℕ, ◌+◌, ◌-◌, ◌<◌}
 use mathlib.Core.Path.{◌≡◌, sym, ap, ◌∙◌}
 use native.Mathlib.Omega.{arith}
@@ -75,7 +75,7 @@ give_spec =
     decreases-loop
     (λ c. c.requires.readable.ordered)
     loop-holds
-    (λ c. omega (arith, c.before.before.before.before.before.fits))
+    (λ c. omega (arith, c.ranges.from.fits))
     entry-requires
     (λ c. let h = slot-inside c in omega arith)
     (λ c. slot-inside c.before)

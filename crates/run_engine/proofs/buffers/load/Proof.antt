@@ -1,4 +1,4 @@
--- `runner::buffers::load` meets its contract. The loop's invariant: what the values passed entered as stands at the front of scratch.
+-- `run_engine::buffers::load` meets its contract. The loop's invariant: what the values passed entered as stands at the front of scratch.
 -- Assumes nothing.
 use Prim.Native.Nat.{ℕ, ◌-◌, ◌<◌}
 use mathlib.Core.Path.{sym, ap, ◌∙◌}
