@@ -9,18 +9,12 @@ use Rattle.load_steps.proofs.add_inside.Tie as tie
 abbrev began : tie.After-add_loads → tie.Start
 began c = c.before.before.before.before.before
 
--- To where they have added, from where the driven nets are to add.
-abbrev added : tie.After-add_loads-2 → tie.After-add_loads
-added c = c.before.before.before.before.before.before.before
-
 add-loads-requires-2 : tie.Need-add_loads-requires-2
 add-loads-requires-2 c κs =
-    driven (began c.before.before.before.before.before.before).requires c.add_loads.auto.1.1.1.1.1.1.0 c.add_loads.ensures
+    driven (began c.before.before.before.before.before.before).requires c.add_loads.auto.scratch c.add_loads.ensures
 
 returns : tie.Need-returns
-returns c p =
-    let first = added c.before.before in
-    both p first.add-loads.kept.1.1.1.1.1.1.0 first.add-loads.ensures c.add_loads-2.ensures
+returns c p = both p c.add_loads.auto.scratch c.add_loads.ensures c.add_loads-2.ensures
 
 pub add_inside_spec : {M : Type 1} → statement M
 add_inside_spec =
@@ -34,7 +28,5 @@ add_inside_spec =
     (λ c. (began c.before.before.before.before.before).requires.takes.ordered)
     (λ c. omega (arith, (began c.before.before.before.before.before).requires.given))
     add-loads-requires-2
-    (λ c.
-    let second = c.before.before in
-    second.add-loads2.auto.1.1.1.1.1.1.0 ∙ (added second).add-loads.auto.1.1.1.1.1.1.0)
+    (λ c. c.add_loads-2.auto.scratch ∙ c.add_loads.auto.scratch)
     returns)

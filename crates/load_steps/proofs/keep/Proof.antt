@@ -14,7 +14,7 @@ began c = c.before.before.before.before.before.before
 keep-slots-requires : tie.Need-keep_slots-requires
 keep-slots-requires c κs =
     let able = (began c.before.before.before).requires in
-    (able.outputs, omega (arith, able.outputs_there, c.copy.auto.1.1.1.0))
+    (able.outputs, omega (arith, able.outputs_there, c.copy.auto.target))
 
 returns : tie.Need-returns-then-k-known
 returns c =

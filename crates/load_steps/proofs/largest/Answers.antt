@@ -1,5 +1,4 @@
--- `load_steps::largest` meets its contract. The loop's invariant: the larger of what was met and of what is ahead is the largest of
--- all. Assumes nothing.
+-- What `load_steps::largest` meets: a larger entry is taken at each turn, and none is ahead at the end. Assumes nothing.
 use Prim.Native.Nat.{ℕ, ◌+◌, ◌-◌, ◌≤◌, ◌<◌, max}
 use mathlib.Core.Path.{◌≡◌, sym, ap, ◌∙◌}
 use mathlib.Core.List.{List, ◌∷◌}
@@ -8,8 +7,7 @@ use native.Mathlib.Numerals.{add-one}
 use lib.ListN.{length, get_or, take, drop}
 use lib.Seq.{drop-cons, drop-length, get_or-take, length-take-le}
 use Rattle.meaning.specs.Figures.{largest}
-use Rattle.load_steps.proofs.largest.Statement.{statement}
-use Rattle.load_steps.proofs.largest.Tie as tie
+use Rattle.load_steps.proofs.largest.Goals as goal
 
 module _ (scratch : List ℕ) (count : ℕ) (fits : count ≤ length scratch) where
   ahead : (i : ℕ) → i < count → drop i (take count scratch) ≡ get_or scratch i 0 ∷ drop (i + 1) (take count scratch)
@@ -34,25 +32,9 @@ module _ (scratch : List ℕ) (count : ℕ) (fits : count ≤ length scratch) wh
   unfolding largest
   over i most e inv = omega (arith, rw (e, past, drop-length) at inv)
 
-abbrev invariant-loop : tie.invariant-loop-i
-invariant-loop scratch count most₀ i₀ most i = (i ≤ count) × (max most (largest (drop i (take count scratch))) ≡ largest (take count scratch))
+pub loop-i-preserved : goal.loop-i-preserved
+loop-i-preserved c =
+    next _ _ c.requires c.loop-i.i c.loop-i.most _ c.loop-i-test.true c.larger-most.ensures c.loop-i.invariant
 
-abbrev decreases-loop : tie.decreases-loop-i
-decreases-loop scratch count most₀ i₀ most i = count - i
-
-pub largest_spec : {M : Type 1} → statement M
-largest_spec =
-    tie.close
-    (tie.spec
-    invariant-loop
-    decreases-loop
-    (λ c. (omega arith, omega arith))
-    (λ c. omega arith)
-    (λ c. omega arith)
-    (λ c κs. tt)
-    (λ c. omega arith)
-    (λ c. omega arith)
-    (λ c.
-    let head = c.before.before.before.loop in
-    (omega arith, next _ _ (omega arith) head.i head.most _ c.before.before.loop-test.true c.larger.ensures head.invariant.1))
-    (λ c. over _ _ c.requires c.loop-i.i _ (omega arith) c.loop-i.invariant.1))
+pub returns : goal.returns
+returns c = over _ _ c.requires c.loop-i.i _ (omega arith) c.loop-i.invariant
