@@ -42,7 +42,7 @@ open-file k = let p = (preparing k).prepare in opened-beside _ _ _ _ _ _ _ _ _ p
 
 returns : tie.Need-returns-in-Refused
 returns c =
-    let q = prepared c.before in
+    let q = prepared c.before.before.before in
     let p = q.prepare in
     let args = (entered q).args in
     file-refused args.file.now args.names.now args.out.now (broken-beside _ _ _ _ _ _ _ _ _ p.result p.ensures _ _ c.in-Refused.is)

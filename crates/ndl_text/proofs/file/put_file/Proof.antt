@@ -8,7 +8,7 @@ use Rattle.ndl_text.proofs.file.put_file.Tie as tie
 -- The places behind the first lines and behind the blocks.
 abbrev start : tie.After-copy-first → tie.Start
 start c =
-    c.before.before.before.before.before.before
+    c.before.before.before.before.before.before.before
 
 abbrev fronted : tie.After-put_blocks-last → tie.After-copy-first
 fronted c =
@@ -26,23 +26,21 @@ copy-requires-2 : tie.Need-copy-requires
 copy-requires-2 c κs =
     let p = fronted c.before.before.before.before.before in
     let t = (start p).requires in
-    omega (arith, last-room t p.copy.ensures (c.put_blocks-last.ensures (blocks-told t p.copy.ensures)))
+    omega (arith, last-room t p.copy-first.ensures (c.put_blocks-last.ensures (blocks-told t p.copy-first.ensures)))
 
 returns : tie.Need-returns
 returns c t =
     let p = fronted c.before.before.before.before.before.before.before.before in
-    all_told t p.copy.ensures (c.put_blocks-last.ensures (blocks-told t p.copy.ensures)) c.copy.ensures
+    all_told t p.copy-first.ensures (c.put_blocks-last.ensures (blocks-told t p.copy-first.ensures)) c.copy.ensures
 
 pub put_file_spec : {M : Type 1} → statement M
 put_file_spec =
     tie.close
     (tie.spec
-    (λ c. search rules)
     copy-requires
     (λ c. omega (arith, some_number (start c.before.before.before).requires))
     (λ c. omega (arith, c.shared_slice_known-3-1.given 0))
     put-blocks-requires
-    (λ c. search rules)
     copy-requires-2
     (λ c. search rules)
     returns)

@@ -42,22 +42,22 @@ room-of-parts : {names numbers : List ℕ} {from : ℕ} {out : List ℕ} {at : �
 room-of-parts {names} {out = out} {at = at} t = subst (λ (text : List ℕ). Room text out at) (module_of-parts names t.m) t.room
 
 module _ (c : tie.After-module_at-header) (t : Told c) where
-  placed : HeaderOf (start c).args.numbers.now (start c).args.from t.m c.module-at.result
-  placed = c.module-at.ensures t.m t.stands
+  placed : HeaderOf (start c).args.numbers.now (start c).args.from t.m c.module_at-header.result
+  placed = c.module_at-header.ensures t.m t.stands
 
   inputs : Stands (start c).args.numbers.now ((start c).args.from + 2) t.m.inputs
-  inputs = (module_at t.m t.stands).inputs (c.before.before.before.before.args.from + 2) refl
+  inputs = (module_at t.m t.stands).inputs (c.args.from + 2) refl
 
   inputs-part :
-      take ((start c).args.from + 2 + c.module-at.result.inputs - ((start c).args.from + 2)) (drop ((start c).args.from + 2) (start c).args.numbers.now)
+      take ((start c).args.from + 2 + c.module_at-header.result.inputs - ((start c).args.from + 2)) (drop ((start c).args.from + 2) (start c).args.numbers.now)
       ≡ t.m.inputs
   inputs-part =
-      part-between (c.before.before.before.before.args.from + 2) (c.before.before.before.before.args.from + 2 + c.module-at.result.inputs) inputs
-      (ap (λ (n : ℕ). c.before.before.before.before.args.from + 2 + n) placed.inputs)
+      part-between (c.args.from + 2) (c.args.from + 2 + c.module_at-header.result.inputs) inputs
+      (ap (λ (n : ℕ). c.args.from + 2 + n) placed.inputs)
 
   outputs-part :
-      take (c.module-at.result.to - c.module-at.result.from) (drop c.module-at.result.from (start c).args.numbers.now) ≡ t.m.outputs
-  outputs-part = part-between c.module-at.result.from c.module-at.result.to placed.outputs placed.to
+      take (c.module_at-header.result.to - c.module_at-header.result.from) (drop c.module_at-header.result.from (start c).args.numbers.now) ≡ t.m.outputs
+  outputs-part = part-between c.module_at-header.result.from c.module_at-header.result.to placed.outputs placed.to
 
 -- The head's number and lists, as they stand in the numbers.
 headable : (out : List ℕ) (at : ℕ) {n m : ℕ} {is js os ps : List ℕ} → n ≡ m → is ≡ js → os ≡ ps
@@ -81,7 +81,7 @@ begun c t =
 -- Its occurrences stand behind the head's numbers.
 abbrev occurrences : (c : tie.After-put_head-body) (t : Told (parts c))
     → let a = (start (parts c)).args in
-    let h = (parts c).module-at.result in
+    let h = (parts c).module_at-header.result in
     OccurrencesTold a.names.now a.numbers.now (h.to + 1) h.count c.put_head-body.new.out c.put_head-body.result
 occurrences c t =
     record {
@@ -127,7 +127,7 @@ pub put_spec : {M : Type 1} → statement M
 put_spec =
     tie.close
     (tie.spec
-    (λ c κs. let t = c.before.before.before.requires in record { m = t.m; stands = t.stands })
+    (λ c κs. let t = c.requires in record { m = t.m; stands = t.stands })
     (λ c. omega (arith, (inputs c c.requires).within))
     (λ c. omega (arith, (inputs c.before c.requires).within, (placed c.before c.requires).inputs))
     (λ c. omega (arith, (inputs c.before c.requires).within))
@@ -143,7 +143,6 @@ put_spec =
     put-head-requires
     (λ c. let p = parts c.before.before in omega (arith, (placed p p.before.before.before.before.requires).body.within))
     put-all-requires
-    (λ c. search rules)
     copy-requires
     (λ c. search rules)
     returns)

@@ -24,11 +24,11 @@ start c =
 
 abbrev behind-title : tie.After-put_line-second → tie.After-put_title-first
 behind-title c =
-    c.before.before.before.before.before
+    c.before.before.before.before.before.before
 
 abbrev behind-inputs : tie.After-put_line-third → tie.After-put_line-second
 behind-inputs c =
-    c.before.before.before.before.before
+    c.before.before.before.before.before.before
 
 titled : (c : tie.After-put_title-first)
     → let a = (start c).args in
@@ -76,11 +76,8 @@ put_head_spec =
     tie.close
     (tie.spec
     put-title-requires
-    (λ c. search rules)
     put-line-requires
-    (λ c. search rules)
     put-line-requires-2
-    (λ c. search rules)
     copy-requires
     (λ c. search rules)
     returns)

@@ -31,23 +31,23 @@ Told c =
     OccurrenceTold a.names.now a.numbers.now a.from a.position a.out.now a.at
 
 module _ (c : tie.After-occurrence_at-place) (t : Told c) where
-  placed : PlaceOf (start c).args.numbers.now (start c).args.from t.o c.occurrence-at.result
-  placed = c.occurrence-at.ensures t.o t.stands
+  placed : PlaceOf (start c).args.numbers.now (start c).args.from t.o c.occurrence_at-place.result
+  placed = c.occurrence_at-place.ensures t.o t.stands
 
   drives : Stands (start c).args.numbers.now ((start c).args.from + 1) t.o.drives
   drives = drives-stand t.o t.stands
 
   driven-part :
-      take ((start c).args.from + 1 + c.occurrence-at.result.drives - ((start c).args.from + 1)) (drop ((start c).args.from + 1) (start c).args.numbers.now)
+      take ((start c).args.from + 1 + c.occurrence_at-place.result.drives - ((start c).args.from + 1)) (drop ((start c).args.from + 1) (start c).args.numbers.now)
       ≡ t.o.drives
   driven-part =
-      part-between (c.before.before.before.before.args.from + 1) (c.before.before.before.before.args.from + 1 + c.occurrence-at.result.drives) drives
-      (ap (λ (n : ℕ). c.before.before.before.before.args.from + 1 + n) placed.drives)
+      part-between (c.args.from + 1) (c.args.from + 1 + c.occurrence_at-place.result.drives) drives
+      (ap (λ (n : ℕ). c.args.from + 1 + n) placed.drives)
 
   taken-part :
-      take (c.occurrence-at.result.to - c.occurrence-at.result.from) (drop c.occurrence-at.result.from (start c).args.numbers.now)
+      take (c.occurrence_at-place.result.to - c.occurrence_at-place.result.from) (drop c.occurrence_at-place.result.from (start c).args.numbers.now)
       ≡ t.o.takes
-  taken-part = part-between c.occurrence-at.result.from c.occurrence-at.result.to placed.takes placed.to
+  taken-part = part-between c.occurrence_at-place.result.from c.occurrence_at-place.result.to placed.takes placed.to
 
 begun : (c : tie.After-put_driven-refers) (t : Told c.before.before.before.before)
     → let a = c.args in

@@ -24,7 +24,7 @@ start c = c.before.before.before.before
 
 abbrev behind-name : tie.After-copy-list → tie.After-put_named-open
 behind-name c =
-    c.before.before.before.before.before
+    c.before.before.before.before.before.before
 
 named : (c : tie.After-put_named-open)
     → let a = c.args in
@@ -66,10 +66,8 @@ put_driven_spec =
     tie.close
     (tie.spec
     put-named-requires
-    (λ c. search rules)
     copy-requires
     put-requires
-    (λ c. search rules)
     copy-requires-2
     (λ c. search rules)
     returns)

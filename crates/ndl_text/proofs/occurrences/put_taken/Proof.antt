@@ -24,7 +24,7 @@ start c =
 
 abbrev behind-name : tie.After-copy-list → tie.After-put-open
 behind-name c =
-    c.before.before.before.before.before
+    c.before.before.before.before.before.before
 
 named : (c : tie.After-put-open)
     → let a = (start c).args in
@@ -66,10 +66,8 @@ put_taken_spec =
     tie.close
     (tie.spec
     put-requires
-    (λ c. search rules)
     copy-requires
     put-requires-2
-    (λ c. search rules)
     copy-requires-2
     (λ c. search rules)
     returns)

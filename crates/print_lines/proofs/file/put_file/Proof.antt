@@ -25,12 +25,10 @@ pub put_file_spec : {M : Type 1} → statement M
 put_file_spec =
     tie.close
     (tie.spec
-    (λ c. search rules)
     copy-requires
     (λ c. omega (arith, some_number c.requires))
     (λ c. omega (arith, c.shared_slice_known-2-1.given 0))
     put-all-requires
-    (λ c. search rules)
     copy-requires-2
     (λ c. search rules)
     returns)

@@ -50,22 +50,22 @@ room-of-parts {position = position} {out = out} {at = at} t =
     subst (λ (l : List ℕ). Room (leading module_break position ++ l) out at) (module_of-parts t.entry) t.room
 
 module _ (c : tie.After-module_at-header) (t : Told c) where
-  placed : HeaderOf (start c).args.numbers.now (start c).args.from t.entry c.module-at.result
-  placed = c.module-at.ensures t.entry t.stands
+  placed : HeaderOf (start c).args.numbers.now (start c).args.from t.entry c.module_at-header.result
+  placed = c.module_at-header.ensures t.entry t.stands
 
   inputs : Stands (start c).args.numbers.now ((start c).args.from + 2) t.entry.inputs
-  inputs = (module_at t.entry t.stands).inputs (c.before.before.before.args.from + 2) refl
+  inputs = (module_at t.entry t.stands).inputs (c.args.from + 2) refl
 
   inputs-part :
-      take ((start c).args.from + 2 + c.module-at.result.inputs - ((start c).args.from + 2)) (drop ((start c).args.from + 2) (start c).args.numbers.now)
+      take ((start c).args.from + 2 + c.module_at-header.result.inputs - ((start c).args.from + 2)) (drop ((start c).args.from + 2) (start c).args.numbers.now)
       ≡ t.entry.inputs
   inputs-part =
-      part-between (c.before.before.before.args.from + 2) (c.before.before.before.args.from + 2 + c.module-at.result.inputs) inputs
-      (ap (λ (n : ℕ). c.before.before.before.args.from + 2 + n) placed.inputs)
+      part-between (c.args.from + 2) (c.args.from + 2 + c.module_at-header.result.inputs) inputs
+      (ap (λ (n : ℕ). c.args.from + 2 + n) placed.inputs)
 
   outputs-part :
-      take (c.module-at.result.to - c.module-at.result.from) (drop c.module-at.result.from (start c).args.numbers.now) ≡ t.entry.outputs
-  outputs-part = part-between c.module-at.result.from c.module-at.result.to placed.outputs placed.to
+      take (c.module_at-header.result.to - c.module_at-header.result.from) (drop c.module_at-header.result.from (start c).args.numbers.now) ≡ t.entry.outputs
+  outputs-part = part-between c.module_at-header.result.from c.module_at-header.result.to placed.outputs placed.to
 
 -- The head's number and lists, as they stand in the numbers.
 headable : (out : List ℕ) (at : ℕ) {n m : ℕ} {is js os ps : List ℕ} → n ≡ m → is ≡ js → os ≡ ps
@@ -89,7 +89,7 @@ begun : (c : tie.After-put_head-body) (t : Told c.before.before.before.before.be
     a.out.now a.at c.put_head-body.new.out c.put_head-body.result
 begun c t =
     laying-put
-    (headed _ _ _ _ (module_at t.entry t.stands).number (inputs-part c.before.before.before.before.before.before.before.before.before.before.before t) (outputs-part c.before.before.before.before.before.before.before.before.before.before.before t) c.put_head-body.ensures)
+    (headed _ _ _ _ (module_at t.entry t.stands).number (inputs-part c.before.before.before.before.before.before.before.before.before.before.before.before t) (outputs-part c.before.before.before.before.before.before.before.before.before.before.before.before t) c.put_head-body.ensures)
     (divided c.before.before.before.before.before.before.before t)
 
 -- Its occurrences stand behind the head's numbers.
@@ -100,8 +100,8 @@ abbrev occurrences : (c : tie.After-put_head-body) (t : Told c.before.before.bef
 occurrences c t =
     record {
       entries = t.entry.occurrences;
-      all = (placed c.before.before.before.before.before.before.before.before.before.before.before t).count;
-      stands = (placed c.before.before.before.before.before.before.before.before.before.before.before t).body;
+      all = (placed c.before.before.before.before.before.before.before.before.before.before.before.before t).count;
+      stands = (placed c.before.before.before.before.before.before.before.before.before.before.before.before t).body;
       within = t.within.occurrences;
       room = room-first close (laying-left (begun c t));
     }
@@ -120,7 +120,7 @@ put-break-requires c κs =
 put-head-requires : tie.Need-put_head-body-requires
 put-head-requires c κs =
     let t = c.requires in
-    headable _ _ (module_at t.entry t.stands).number (inputs-part c.before.before.before.before.before.before.before.before.before.before t) (outputs-part c.before.before.before.before.before.before.before.before.before.before t)
+    headable _ _ (module_at t.entry t.stands).number (inputs-part c.before.before.before.before.before.before.before.before.before.before.before t) (outputs-part c.before.before.before.before.before.before.before.before.before.before.before t)
     (t.within.number, t.within.inputs.numbers, t.within.outputs.numbers, room-first (rest t.entry) (laying-left (divided c.before.before.before.before.before.before t)))
 
 put-all-requires : tie.Need-put_all-pen-requires
@@ -132,7 +132,7 @@ copy-requires c κs =
 
 returns : tie.Need-returns
 returns c t =
-    let header = placed c.before.before.before.before.before.before.before.before.before.before.before.before.before.before.before.before.before.before.before.before.before.before t in
+    let header = placed c.before.before.before.before.before.before.before.before.before.before.before.before.before.before.before.before.before.before.before.before.before.before.before.before t in
     record {
       put = rw (module_of-parts t.entry) (laying-last c.copy-end.ensures (told c.before.before.before.before.before.before.before.before t));
       next = omega (arith, (c.put_all-pen.ensures (occurrences c.before.before.before.before.before.before.before.before.before.before.before.before t)).next, header.to, header.from, length-of_module t.entry);
@@ -142,25 +142,23 @@ pub put_spec : {M : Type 1} → statement M
 put_spec =
     tie.close
     (tie.spec
-    (λ c κs. let t = c.before.before.requires in record { m = t.entry; stands = t.stands })
+    (λ c κs. let t = c.requires in record { m = t.entry; stands = t.stands })
     (λ c. omega (arith, (inputs c (start c).requires).within))
     (λ c. omega (arith, (inputs c.before c.requires).within, (placed c.before c.requires).inputs))
-    (λ c. search rules)
     put-break-requires
-    (λ c. omega (arith, (inputs c.before.before.before.before.before.before c.requires).within))
+    (λ c. omega (arith, (inputs c.before.before.before.before.before.before.before.before c.requires).within))
+    (λ c. omega (arith, (inputs c.before.before.before.before.before.before.before.before c.requires).within))
+    (λ c. omega (arith, (inputs c.before.before.before.before.before.before.before.before c.requires).within))
+    (λ c. omega (arith, (inputs c.before.before.before.before.before.before.before.before c.requires).within))
     (λ c. omega (arith, (inputs c.before.before.before.before.before.before.before c.requires).within))
-    (λ c. omega (arith, (inputs c.before.before.before.before.before.before.before c.requires).within))
-    (λ c. omega (arith, (inputs c.before.before.before.before.before.before.before c.requires).within))
-    (λ c. omega (arith, (inputs c.before.before.before.before.before.before.before c.requires).within))
-    (λ c. omega (arith, (inputs c.before.before.before.before.before.before.before c.requires).within, (placed c.before.before.before.before.before.before.before c.requires).inputs))
-    (λ c. omega (arith, (placed c.before.before.before.before.before.before.before.before c.requires).outputs.within))
-    (λ c. omega (arith, (placed c.before.before.before.before.before.before.before.before c.requires).to))
-    (λ c. omega (arith, (placed c.before.before.before.before.before.before.before.before c.requires).to))
-    (λ c. omega (arith, (placed c.before.before.before.before.before.before.before.before c.requires).outputs.within, (placed c.before.before.before.before.before.before.before.before c.requires).to))
+    (λ c. omega (arith, (inputs c.before.before.before.before.before.before.before.before c.requires).within, (placed c.before.before.before.before.before.before.before.before c.requires).inputs))
+    (λ c. omega (arith, (placed c.before.before.before.before.before.before.before.before.before c.requires).outputs.within))
+    (λ c. omega (arith, (placed c.before.before.before.before.before.before.before.before.before c.requires).to))
+    (λ c. omega (arith, (placed c.before.before.before.before.before.before.before.before.before c.requires).to))
+    (λ c. omega (arith, (placed c.before.before.before.before.before.before.before.before.before c.requires).outputs.within, (placed c.before.before.before.before.before.before.before.before.before c.requires).to))
     put-head-requires
-    (λ c. omega (arith, (placed c.before.before.before.before.before.before.before.before.before.before.before.before.before c.requires).body.within))
+    (λ c. omega (arith, (placed c.before.before.before.before.before.before.before.before.before.before.before.before.before.before c.requires).body.within))
     put-all-requires
-    (λ c. search rules)
     copy-requires
     (λ c. search rules)
     returns)

@@ -76,10 +76,8 @@ put_head_spec =
     (tie.spec
     put-title-requires
     put-apart-requires
-    (λ c. search rules)
     copy-requires
     put-apart-requires-2
-    (λ c. search rules)
     copy-requires-2
     (λ c. search rules)
     returns)

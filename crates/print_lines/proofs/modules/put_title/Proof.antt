@@ -46,10 +46,8 @@ pub put_title_spec : {M : Type 1} → statement M
 put_title_spec =
     tie.close
     (tie.spec
-    (λ c. search rules)
     copy-requires
     put-named-requires
-    (λ c. search rules)
     copy-requires-2
     (λ c. search rules)
     returns)

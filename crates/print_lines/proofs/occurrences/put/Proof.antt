@@ -36,20 +36,20 @@ abbrev line : Occurrence → List ℕ
 line o = driven_part o.drives ++ taken_part o.refers o.takes
 
 module _ (c : tie.After-occurrence_at-place) (t : Told c) where
-  placed : PlaceOf (start c).args.numbers.now (start c).args.from t.entry c.occurrence-at.result
-  placed = c.occurrence-at.ensures t.entry t.stands
+  placed : PlaceOf (start c).args.numbers.now (start c).args.from t.entry c.occurrence_at-place.result
+  placed = c.occurrence_at-place.ensures t.entry t.stands
 
   driven-part :
-      take ((start c).args.from + 1 + c.occurrence-at.result.drives - ((start c).args.from + 1)) (drop ((start c).args.from + 1) (start c).args.numbers.now)
+      take ((start c).args.from + 1 + c.occurrence_at-place.result.drives - ((start c).args.from + 1)) (drop ((start c).args.from + 1) (start c).args.numbers.now)
       ≡ t.entry.drives
   driven-part =
-      part-between (c.before.before.before.args.from + 1) (c.before.before.before.args.from + 1 + c.occurrence-at.result.drives) placed.driven
-      (ap (λ (n : ℕ). c.before.before.before.args.from + 1 + n) placed.drives)
+      part-between (c.args.from + 1) (c.args.from + 1 + c.occurrence_at-place.result.drives) placed.driven
+      (ap (λ (n : ℕ). c.args.from + 1 + n) placed.drives)
 
   taken-part :
-      take (c.occurrence-at.result.to - c.occurrence-at.result.from) (drop c.occurrence-at.result.from (start c).args.numbers.now)
+      take (c.occurrence_at-place.result.to - c.occurrence_at-place.result.from) (drop c.occurrence_at-place.result.from (start c).args.numbers.now)
       ≡ t.entry.takes
-  taken-part = part-between c.occurrence-at.result.from c.occurrence-at.result.to placed.takes placed.to
+  taken-part = part-between c.occurrence_at-place.result.from c.occurrence_at-place.result.to placed.takes placed.to
 
 room-of-parts : {numbers : List ℕ} {from position : ℕ} {out : List ℕ} {at : ℕ} (t : OccurrenceTold numbers from position out at)
     → Room (leading occurrence_break position ++ line t.entry) out at
@@ -66,7 +66,7 @@ begun : (c : tie.After-put_driven-refers) (t : Told c.before.before.before.befor
     → let a = c.args in
     Laying (leading occurrence_break a.position ++ line t.entry) (taken_part t.entry.refers t.entry.takes)
     a.out.now a.at c.put_driven-refers.new.out c.put_driven-refers.result
-begun c t = laying-put (rw (driven-part c.before.before.before.before.before.before.before.before.before t) at c.put_driven-refers.ensures) (parted c.before.before.before.before.before t)
+begun c t = laying-put (rw (driven-part c.before.before.before.before.before.before.before.before.before.before t) at c.put_driven-refers.ensures) (parted c.before.before.before.before.before t)
 
 put-break-requires : tie.Need-put_break-driven-requires
 put-break-requires c κs =
@@ -75,7 +75,7 @@ put-break-requires c κs =
 put-driven-requires : tie.Need-put_driven-refers-requires
 put-driven-requires c κs =
     let t = c.requires in
-    rw (driven-part c.before.before.before.before.before.before.before.before t)
+    rw (driven-part c.before.before.before.before.before.before.before.before.before t)
     (t.within.drives.numbers, room-first (taken_part t.entry.refers t.entry.takes) (laying-left (parted c.before.before.before.before t)))
 
 -- What is asked of a reference and its arguments, as they stand in the numbers.
@@ -87,35 +87,34 @@ takeable out at e f h = rw (e, f) h
 put-taken-requires : tie.Need-put_taken-end-requires
 put-taken-requires c κs =
     let t = c.requires in
-    takeable _ _ (placed c.before.before.before.before.before.before.before.before.before.before.before.before.before t).refers (taken-part c.before.before.before.before.before.before.before.before.before.before.before.before.before t) (t.within.refers, t.within.takes.numbers, laying-left (begun c.before.before.before.before t))
+    takeable _ _ (placed c.before.before.before.before.before.before.before.before.before.before.before.before.before.before t).refers (taken-part c.before.before.before.before.before.before.before.before.before.before.before.before.before.before t) (t.within.refers, t.within.takes.numbers, laying-left (begun c.before.before.before.before t))
 
 returns : tie.Need-returns
 returns c t =
     record {
       put =
           rw (occurrence-of-parts t.entry)
-          (laying-last (rw (taken-part c.before.before.before.before.before.before.before.before.before.before.before.before.before.before.before.before t, (placed c.before.before.before.before.before.before.before.before.before.before.before.before.before.before.before.before t).refers) at c.put_taken-end.ensures) (begun c.before.before.before.before.before.before.before t));
-      next = (placed c.before.before.before.before.before.before.before.before.before.before.before.before.before.before.before.before t).next;
+          (laying-last (rw (taken-part c.before.before.before.before.before.before.before.before.before.before.before.before.before.before.before.before.before t, (placed c.before.before.before.before.before.before.before.before.before.before.before.before.before.before.before.before.before t).refers) at c.put_taken-end.ensures) (begun c.before.before.before.before.before.before.before t));
+      next = (placed c.before.before.before.before.before.before.before.before.before.before.before.before.before.before.before.before.before t).next;
     }
 
 pub put_spec : {M : Type 1} → statement M
 put_spec =
     tie.close
     (tie.spec
-    (λ c κs. let t = c.before.before.requires in record { o = t.entry; stands = t.stands })
+    (λ c κs. let t = c.requires in record { o = t.entry; stands = t.stands })
     (λ c. omega (arith, (placed c c.requires).driven.within))
     (λ c. omega (arith, (placed c.before c.requires).driven.within, (placed c.before c.requires).drives))
-    (λ c. search rules)
     put-break-requires
-    (λ c. omega (arith, (placed c.before.before.before.before.before.before c.requires).driven.within))
-    (λ c. omega (arith, (placed c.before.before.before.before.before.before c.requires).driven.within))
-    (λ c. omega (arith, (placed c.before.before.before.before.before.before c.requires).driven.within))
-    (λ c. omega (arith, (placed c.before.before.before.before.before.before c.requires).driven.within, (placed c.before.before.before.before.before.before c.requires).drives))
+    (λ c. omega (arith, (placed c.before.before.before.before.before.before.before c.requires).driven.within))
+    (λ c. omega (arith, (placed c.before.before.before.before.before.before.before c.requires).driven.within))
+    (λ c. omega (arith, (placed c.before.before.before.before.before.before.before c.requires).driven.within))
+    (λ c. omega (arith, (placed c.before.before.before.before.before.before.before c.requires).driven.within, (placed c.before.before.before.before.before.before.before c.requires).drives))
     put-driven-requires
-    (λ c. omega (arith, (placed c.before.before.before.before.before.before.before.before.before.before.before c.requires).takes.within))
-    (λ c. omega (arith, (placed c.before.before.before.before.before.before.before.before.before.before.before c.requires).takes.within, (placed c.before.before.before.before.before.before.before.before.before.before.before c.requires).to))
-    (λ c. omega (arith, (placed c.before.before.before.before.before.before.before.before.before.before.before c.requires).takes.within, (placed c.before.before.before.before.before.before.before.before.before.before.before c.requires).to))
-    (λ c. omega (arith, (placed c.before.before.before.before.before.before.before.before.before.before.before c.requires).takes.within, (placed c.before.before.before.before.before.before.before.before.before.before.before c.requires).to))
+    (λ c. omega (arith, (placed c.before.before.before.before.before.before.before.before.before.before.before.before c.requires).takes.within))
+    (λ c. omega (arith, (placed c.before.before.before.before.before.before.before.before.before.before.before.before c.requires).takes.within, (placed c.before.before.before.before.before.before.before.before.before.before.before.before c.requires).to))
+    (λ c. omega (arith, (placed c.before.before.before.before.before.before.before.before.before.before.before.before c.requires).takes.within, (placed c.before.before.before.before.before.before.before.before.before.before.before.before c.requires).to))
+    (λ c. omega (arith, (placed c.before.before.before.before.before.before.before.before.before.before.before.before c.requires).takes.within, (placed c.before.before.before.before.before.before.before.before.before.before.before.before c.requires).to))
     put-taken-requires
     (λ c. search rules)
     returns)

@@ -43,10 +43,8 @@ pub put_driven_spec : {M : Type 1} → statement M
 put_driven_spec =
     tie.close
     (tie.spec
-    (λ c. search rules)
     copy-requires
     put-apart-requires
-    (λ c. search rules)
     copy-requires-2
     (λ c. search rules)
     returns)

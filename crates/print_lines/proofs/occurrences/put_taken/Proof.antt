@@ -50,7 +50,6 @@ put_taken_spec =
     (tie.spec
     put-name-requires
     put-more-requires
-    (λ c. search rules)
     copy-requires
     (λ c. search rules)
     returns)
