@@ -1,6 +1,6 @@
 -- Up to 256 rows packed into entries, 64 to a word: row r stands in word r / 64 at place r % 64.
-use Rattle.std.specs.Prelude.{ℕ, zero, suc, ◌+◌, ◌-◌, ◌*◌, ◌/◌, ◌%◌, ◌≤◌, ◌<◌, min, Bool, List, [], ◌≡◌, refl, length, get_or, take, drop, replicate}
-use Rattle.std.proofs.Common.{sym, ap, subst, subst₂, ◌∙◌, suc-mul, zero-mul, add-mul, mul-le-mul_right, arith, drop-drop, get_or-take, get_or-drop}
+use Rattle.std.specs.Prelude.{ℕ, zero, suc, ◌+◌, ◌-◌, ◌*◌, ◌/◌, ◌%◌, ◌≤◌, ◌<◌, min, Bool, List, [], ◌≡◌, refl, length, get_or, drop, replicate}
+use Rattle.std.proofs.Common.{ap, subst, subst₂, ◌∙◌, suc-mul, zero-mul, add-mul, mul-le-mul_right, arith, get_or-take, get_or-drop}
 use Rattle.std.proofs.lemmas.List.{length-replicate}
 use Rattle.meaning.specs.Values.{Val, value}
 use Rattle.meaning.specs.Rows.{rows_of}

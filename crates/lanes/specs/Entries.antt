@@ -1,14 +1,14 @@
 -- An entry of eight words: the rows of four words, 64 in each, and for each of these words another, whether the value may be 1.
-use Prim.Native.Nat.{ℕ, zero, suc, ◌+◌, ◌-◌, ◌^◌, ◌<◌}
+use Prim.Native.Nat.{ℕ, zero, suc, ◌+◌, ◌<◌}
 use Rattle.std.specs.Prelude.{true, false, List, [], ◌∷◌, ◌≡◌, refl, get_or}
-use Rattle.std.proofs.Common.{sym, ap₂, ◌∙◌, arith}
+use Rattle.std.proofs.Common.{sym, ◌∙◌, arith}
 use Rattle.std.proofs.Math.Path.{ap, subst, subst₂}
 use Rattle.std.specs.Int.Bits.{bit_and, bit_or, bit_xor}
 use Rattle.meaning.specs.Values.{Val, known}
 use Rattle.gates.specs.Folds.{neutral, step, negation}
 use Rattle.gates.specs.declared.folds.Fold.{Fold}
 use Rattle.gates.specs.declared.folds.Fold.TheVariants.{All, Any, Odd}
-use Rattle.lanes.specs.Bits.{bit, bit-ones, bit-zero}
+use Rattle.lanes.specs.Bits.{bit-ones, bit-zero}
 use Rattle.lanes.specs.Lanes.{Lane, lane_and, lane_or, lane_not, odd_is}
 
 -- A list by its entries.

@@ -1,6 +1,6 @@
 -- Eight rows more, in front of those that words hold: the bytes of the new rows become the lowest digits.
 use Rattle.std.specs.Prelude.{ℕ, ◌+◌, ◌*◌, ◌≤◌, ◌<◌, List, ◌≡◌, refl, length, get_or, set}
-use Rattle.std.proofs.Common.{sym, ap, ◌∙◌, arith, length-set, get_or-set_same, get_or-set_other}
+use Rattle.std.proofs.Common.{◌∙◌, arith, length-set, get_or-set_same, get_or-set_other}
 use Rattle.lanes.specs.Rows.{split}
 
 -- The first n words have place for eight rows more.

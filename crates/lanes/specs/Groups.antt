@@ -1,15 +1,15 @@
 -- Rows laid end to end in one buffer, packed from the last of a group to its first.
-use Prim.Native.Nat.{ℕ, zero, suc, ◌+◌, ◌-◌, ◌*◌, ◌^◌, ◌≤◌, ◌<◌}
+use Prim.Native.Nat.{ℕ, zero, suc, ◌+◌, ◌-◌, ◌*◌, ◌≤◌, ◌<◌}
 use Rattle.std.specs.Prelude.{Bool, ◌≡◌, refl, get_or, take}
 use mathlib.Core.List.{List, [], ◌∷◌}
-use Rattle.std.proofs.Common.{sym, ap₂, subst₂, ◌∙◌, suc-mul, add-mul, lt_of_lt_of_le, length-drop, length-take-le, pow_mono}
+use Rattle.std.proofs.Common.{sym, subst₂, ◌∙◌, suc-mul, add-mul, lt_of_lt_of_le, length-drop, length-take-le, pow_mono}
 use Rattle.std.proofs.Math.Path.{ap, subst}
 use native.Mathlib.Omega.{arith}
 use Rattle.std.proofs.Math.ListN.{length, drop}
 use Rattle.std.proofs.Math.Seq.{drop-drop}
 use Rattle.meaning.specs.Values.{Val}
 use Rattle.meaning.specs.Rows.{rows_of}
-use Rattle.lanes.specs.Words.{word, word_small}
+use Rattle.lanes.specs.Words.{word_small}
 use Rattle.lanes.specs.Rows.{column, Packed, Light, Added, packed_more}
 
 pub length-column : (i : ℕ) (rows : List (List ℕ)) → length (column i rows) ≡ length rows

@@ -1,11 +1,10 @@
 -- A lane of two words: the value of one row.
-use Rattle.std.specs.Prelude.{ℕ, ◌-◌, ◌^◌, ◌<◌, Bool, true, false, not, ◌&&◌, ◌||◌, ◌≡◌, refl}
-use Rattle.std.proofs.Common.{sym, ap, ap₂, ◌∙◌, rules}
+use Rattle.std.specs.Prelude.{ℕ, ◌-◌, ◌^◌, ◌<◌, Bool, true, false, not, ◌&&◌, ◌||◌, ◌≡◌}
+use Rattle.std.proofs.Common.{ap, ap₂, ◌∙◌, rules}
 use Rattle.std.specs.Int.Bits.{bit_and, bit_or, bit_xor}
 use Rattle.meaning.specs.Values.{Val, known, un, by_fillings}
 use Rattle.gates.specs.ThreeValues.{Each, each}
 use Rattle.gates.specs.Folds.{step, negation}
-use Rattle.gates.specs.declared.folds.Fold.{Fold}
 use Rattle.gates.specs.declared.folds.Fold.TheVariants.{All, Any, Odd}
 use Rattle.lanes.specs.Bits.{bit, bit-and, bit-or, bit-flip}
 

@@ -1,6 +1,6 @@
 -- What is packed stands in the lanes, and a byte of a word has the lanes of eight rows.
-use Rattle.std.specs.Prelude.{ℕ, zero, suc, ◌+◌, ◌-◌, ◌*◌, ◌/◌, ◌%◌, ◌^◌, ◌≤◌, ◌<◌, List, [], ◌∷◌, ◌≡◌, refl, length, get_or}
-use Rattle.std.proofs.Common.{sym, ap, ◌∙◌, arith, add-one, shr-shr}
+use Rattle.std.specs.Prelude.{ℕ, zero, suc, ◌+◌, ◌-◌, ◌/◌, ◌%◌, ◌^◌, ◌<◌, List, [], ◌∷◌, ◌≡◌, refl, length, get_or}
+use Rattle.std.proofs.Common.{sym, ap, ◌∙◌, arith, shr-shr}
 use Rattle.std.proofs.Math.Pow.{field, mod-mod-pow}
 use Rattle.meaning.specs.Values.{Val, un, value}
 use Rattle.lanes.specs.Bits.{set, bit}

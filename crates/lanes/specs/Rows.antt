@@ -1,8 +1,7 @@
 -- Rows of values packed into words, and given back: a list holds one word for each net, its digits the rows.
-use Rattle.std.specs.Prelude.{ℕ, zero, suc, ◌+◌, ◌-◌, ◌*◌, ◌/◌, ◌%◌, ◌≤◌, ◌<◌, Bool, List, [], ◌∷◌, ◌≡◌, refl, length, get_or, set}
-use Rattle.std.proofs.Common.{sym, ap, subst, ◌∙◌, arith, length-set, get_or-set_same, get_or-set_other}
-use Rattle.meaning.specs.Values.{Val, value, code}
-use Rattle.lanes.specs.Lanes.{surely, maybe, Lane}
+use Rattle.std.specs.Prelude.{ℕ, zero, suc, ◌+◌, ◌-◌, ◌*◌, ◌≤◌, ◌<◌, Bool, List, [], ◌∷◌, ◌≡◌, refl, length, get_or, set}
+use Rattle.std.proofs.Common.{subst, ◌∙◌, arith, length-set, get_or-set_same, get_or-set_other}
+use Rattle.meaning.specs.Values.{Val, value}
 use Rattle.lanes.specs.Words.{digit, word}
 
 -- The values of a net in each row.

@@ -1,8 +1,8 @@
 -- Up to 64 rows packed into words, in groups of eight from the last to the first.
-use Rattle.std.specs.Prelude.{ℕ, zero, suc, ◌+◌, ◌-◌, ◌*◌, ◌%◌, ◌^◌, ◌≤◌, ◌<◌, Bool, ◌⊎◌, ◌≡◌, refl, length, get_or, set, take}
+use Rattle.std.specs.Prelude.{ℕ, zero, suc, ◌+◌, ◌-◌, ◌*◌, ◌%◌, ◌^◌, ◌≤◌, ◌<◌, Bool, ◌⊎◌, ◌≡◌, refl, length, get_or, take}
 use mathlib.Core.List.{List, [], ◌∷◌, ◌++◌}
 use Rattle.std.proofs.Math.Logic.{inl, inr}
-use Rattle.std.proofs.Common.{sym, ap₂, subst₂, ◌∙◌, zero-add, zero-mul, suc-add, suc-mul, add_comm, lt_of_lt_of_le, pow_mono}
+use Rattle.std.proofs.Common.{sym, subst₂, ◌∙◌, zero-add, zero-mul, suc-add, suc-mul, add_comm, lt_of_lt_of_le, pow_mono}
 use Rattle.std.proofs.Math.Path.{ap, subst}
 use Rattle.std.proofs.Math.Nat.{add-mul}
 use native.Mathlib.Omega.{arith}

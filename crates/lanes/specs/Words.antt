@@ -1,6 +1,6 @@
 -- Values of one net in several rows, as a number: the first row is its lowest digit. A row in front doubles what is there.
 use Rattle.std.specs.Prelude.{ℕ, zero, suc, ◌+◌, ◌*◌, ◌/◌, ◌%◌, ◌^◌, ◌≤◌, ◌<◌, Bool, true, false, List, [], ◌∷◌, ◌++◌, ◌≡◌, refl, length, get_or}
-use Rattle.std.proofs.Common.{sym, ap, subst, ◌∙◌, pow-suc, div-one, add-one, arith, shr-shr}
+use Rattle.std.proofs.Common.{sym, ap, ◌∙◌, pow-suc, div-one, arith, shr-shr}
 use Rattle.std.proofs.Math.Pow.{high, low}
 use Rattle.meaning.specs.Values.{Val, un}
 use Rattle.lanes.specs.Bits.{set, bit}

@@ -1,11 +1,9 @@
 -- `lanes::outputs::give_row` meets its contract. The loop's invariant: the values passed are given.
-use Prim.Native.Nat.{ℕ, ◌+◌, ◌-◌, ◌*◌, ◌/◌, ◌%◌, ◌^◌, ◌≤◌, ◌<◌}
+use Prim.Native.Nat.{ℕ, ◌-◌, ◌*◌, ◌/◌, ◌%◌, ◌^◌, ◌≤◌, ◌<◌}
 use mathlib.Core.Path.{◌≡◌, subst}
 use native.Mathlib.Omega.{arith}
-use borrow.Author.Rules.{rules}
 use lib.ListN.{length, get_or}
-use Rattle.meaning.specs.Values.{un}
-use Rattle.lanes.specs.Giving.{Given, Digits, digits, Giving, giving-none, giving-more, giving-all}
+use Rattle.lanes.specs.Giving.{Given, digits, Giving, giving-none, giving-more, giving-all}
 use Rattle.lanes.proofs.outputs.give_row.Statement.{statement}
 use Rattle.lanes.proofs.outputs.give_row.Tie as tie
 

@@ -4,7 +4,7 @@ use mathlib.Core.Path.{◌≡◌, subst}
 use native.Mathlib.Omega.{arith}
 use borrow.Author.Rules.{rules}
 use lib.ListN.{length, get_or}
-use Rattle.lanes.specs.Feeding.{Hungry, Fed, fed-none, fed-more}
+use Rattle.lanes.specs.Feeding.{Fed, fed-none, fed-more}
 use Rattle.lanes.proofs.rows.feed.Statement.{statement}
 use Rattle.lanes.proofs.rows.feed.Tie as tie
 

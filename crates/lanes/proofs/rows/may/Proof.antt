@@ -1,5 +1,4 @@
 -- `lanes::rows::may` meets its contract: only 0 cannot be 1.
-use Prim.Native.Nat.{ℕ}
 use mathlib.Core.Bool.{Bool, true, false, cond}
 use mathlib.Core.Path.{◌≡◌, refl}
 use borrow.Author.Tests.{ne_eqb}

@@ -3,7 +3,7 @@ use Prim.Native.Nat.{ℕ, ◌-◌, ◌≤◌, ◌<◌}
 use mathlib.Core.Path.{◌≡◌, subst}
 use native.Mathlib.Omega.{arith}
 use lib.ListN.{length}
-use Rattle.lanes.specs.Storing.{Lists, entry_of, Stored, stored-none, stored_more}
+use Rattle.lanes.specs.Storing.{entry_of, Stored, stored-none, stored_more}
 use Rattle.lanes.proofs.rows.store.Statement.{statement}
 use Rattle.lanes.proofs.rows.store.Tie as tie
 

@@ -1,5 +1,4 @@
 -- `lanes::rows::sure` meets its contract: only 1 is surely 1.
-use Prim.Native.Nat.{ℕ}
 use mathlib.Core.Bool.{Bool, true, false, cond}
 use mathlib.Core.Path.{◌≡◌, refl}
 use borrow.Author.Tests.{ne_eqb}

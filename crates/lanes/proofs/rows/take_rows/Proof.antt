@@ -1,13 +1,11 @@
 -- `lanes::rows::take_rows` meets its contract. The loop's invariant: the rows behind those that are left are packed.
-use Prim.Native.Nat.{ℕ, ◌+◌, ◌-◌, ◌*◌, ◌≤◌, ◌<◌}
-use mathlib.Core.List.{List}
+use Prim.Native.Nat.{ℕ, ◌-◌}
 use mathlib.Core.Path.{◌≡◌, refl, sym, ap, subst, ◌∙◌}
 use native.Mathlib.Omega.{arith}
-use borrow.Author.Rules.{rules}
 use lib.ListN.{length, take, drop}
 use Rattle.lanes.specs.Lanes.{surely, maybe}
 use Rattle.lanes.specs.Rows.{Light}
-use Rattle.lanes.specs.Groups.{Group, Grouping, grouping_start, before-is, end-there, row-long, row-light, grouping_more, grouping_all}
+use Rattle.lanes.specs.Groups.{Grouping, grouping_start, before-is, end-there, row-long, row-light, grouping_more, grouping_all}
 use Rattle.lanes.proofs.rows.take_rows.Statement.{statement}
 use Rattle.lanes.proofs.rows.take_rows.Tie as tie
 

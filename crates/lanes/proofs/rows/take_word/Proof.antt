@@ -1,14 +1,13 @@
 -- `lanes::rows::take_word` meets its contract. The loop's invariant: the rows behind those that are left are packed.
-use Prim.Native.Nat.{ℕ, zero, suc, ◌+◌, ◌-◌, ◌*◌, ◌%◌, ◌≤◌, ◌<◌}
-use mathlib.Core.List.{List}
-use mathlib.Core.Path.{◌≡◌, refl, sym, ap, subst, ◌∙◌}
+use Prim.Native.Nat.{ℕ, ◌+◌, ◌-◌, ◌*◌, ◌%◌, ◌≤◌}
+use mathlib.Core.Path.{refl, sym}
 use native.Mathlib.Omega.{arith}
 use borrow.Author.Rules.{rules}
-use lib.ListN.{length, replicate, length-replicate, get_or}
+use lib.ListN.{length, replicate, length-replicate}
 use Rattle.lanes.specs.Lanes.{surely, maybe}
 use Rattle.lanes.specs.Groups.{Group}
 use Rattle.lanes.specs.Blocks.{zeros-at}
-use Rattle.lanes.specs.Wording.{Whole, Wording, wording_start, some_left, group-there, hungry, wording_more, wording_all}
+use Rattle.lanes.specs.Wording.{Wording, wording_start, group-there, hungry, wording_more, wording_all}
 use Rattle.lanes.proofs.rows.take_word.Statement.{statement}
 use Rattle.lanes.proofs.rows.take_word.Tie as tie
 
