@@ -11,9 +11,9 @@ use Rattle.meaning.specs.Ceilings.{Bytes}
 use Rattle.gates.specs.ThreeValues.{code-of-value, is-small}
 use Rattle.run_engine.specs.Slots.{entered}
 
-pub as_it-is : (input : ℕ) → input < 2 → input ≡ entered input
+pub as_it_is : (input : ℕ) → input < 2 → input ≡ entered input
 unfolding entered
-as_it-is input h = sym (code-of-value input (omega arith))
+as_it_is input h = sym (code-of-value input (omega arith))
 
 pub as_unknown : (input : ℕ) → 2 ≤ input → 2 ≡ entered input
 unfolding entered

@@ -6,6 +6,7 @@ ghost use Rattle.run_engine.specs.Slots.{Givable, entered};
 const UNKNOWN: u32 = 2;
 
 // What an input enters scratch as: only 0 and 1 are known, and one that floats is unknown from here on.
+#[tactic(auto, using(crate::proofs::Entering::as_it_is, crate::proofs::Entering::as_unknown))]
 fn entered(input: u8) -> u32
     ensures { result ≡ entered input }
 {
