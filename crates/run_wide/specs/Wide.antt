@@ -1,5 +1,5 @@
 -- What a run works out for each net in 256 rows at once.
-use Rattle.std.specs.Prelude.{ℕ, ◌≡◌, refl, List, [], ◌∷◌, length}
+use Rattle.std.specs.Prelude.{ℕ, ◌≡◌, List, [], ◌∷◌, length}
 use Rattle.std.proofs.Common.{sym, ap, ◌∙◌}
 use Rattle.laws.specs.Folds.{firsts, firsts-all}
 use Rattle.gates.specs.Kind.{kind_of}

@@ -2,7 +2,7 @@
 use Rattle.std.specs.Prelude.{ℕ, zero, suc, ◌+◌, ◌≤◌, ◌<◌, false, ◌≡◌, refl, length, get_or, drop}
 use mathlib.Core.List.Forall₂.{cons as more}
 use mathlib.Core.List.Forall₂.{nil as none}
-use mathlib.Core.List.{List, [], ◌∷◌, Forall₂}
+use mathlib.Core.List.{List, [], Forall₂}
 use Rattle.std.proofs.Common.{sym, ap, ◌∙◌}
 use Rattle.std.proofs.Math.Path.{subst}
 use Rattle.std.proofs.Math.ListN.{get_or-eq_default}
@@ -16,7 +16,7 @@ use Rattle.laws.specs.WellFormed.{Accepted}
 use Rattle.laws.specs.Related.{Respects, run-related}
 use Rattle.gates.specs.Kind.{kind_of}
 use Rattle.gates.specs.Gates.{gate-of-kind, module_of-kind}
-use Rattle.gates.specs.Folds.{neutral, fold_on, folded, result_of, negation}
+use Rattle.gates.specs.Folds.{fold_on, folded, result_of}
 use Rattle.gates.specs.declared.Rule.{Rule}
 use Rattle.gates.specs.declared.Rule.TheVariants.{And, Nand, Or, Nor, Xor, Eqv}
 use Rattle.gates.specs.declared.Kind.{Kind}
@@ -28,7 +28,7 @@ use Rattle.image.specs.Resolved.{position_of, resolve}
 use Rattle.image.specs.Fitting.{accepted-fits}
 use Rattle.image.specs.Frames.{run_frames}
 use Rattle.image.specs.FramesMean.{frames_mean}
-use Rattle.lanes.specs.Entries.{Holds, holds_not, holds-step, holds-start, holds-none, step_of, start_of}
+use Rattle.lanes.specs.Entries.{Holds, holds_not, holds-step, holds-start, holds-none}
 use Rattle.run_walk.specs.Work.{meaning_of}
 use Rattle.run_wide.specs.Wide.{rows_on, rows_fold, rows_result, rows_kind, rows_work}
 
