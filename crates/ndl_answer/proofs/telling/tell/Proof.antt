@@ -2,7 +2,8 @@
 use Prim.Native.Nat.{ℕ}
 use native.Mathlib.Omega.{arith}
 use borrow.Author.Rules.{rules}
-use lib.ListN.{length-replicate}
+use mathlib.Core.Path.{sym}
+use lib.ListN.{replicate, length-replicate}
 use Rattle.ndl_answer.proofs.Fits.{file-told, told_in_longest, told_straight}
 use Rattle.ndl_answer.proofs.telling.tell.Statement.{statement}
 use Rattle.ndl_answer.proofs.telling.tell.Tie as tie
@@ -28,11 +29,11 @@ returns-2 c t =
 
 tell-through-requires-2 : tie.Need-tell_through-requires-2
 tell-through-requires-2 c κs =
-    told_in_longest c.requires.0 c.args.names.now _ c.requires.1 (length-replicate {A = ℕ} 528934 0)
+    told_in_longest c.requires.0 c.args.names.now (replicate 528934 0) c.requires.1 (length-replicate {A = ℕ} 528934 0)
 
 returns-3 : tie.Need-returns
 returns-3 c t =
-    c.tell_through-2.ensures (told_in_longest t c.args.names.now _ c.requires.1 (length-replicate {A = ℕ} 528934 0))
+    c.tell_through-2.ensures (told_in_longest t c.args.names.now (replicate 528934 0) c.requires.1 (length-replicate {A = ℕ} 528934 0))
 
 pub tell_spec : {M : Type 1} → statement M
 tell_spec =
@@ -47,7 +48,7 @@ tell_spec =
     tell-through-requires
     (λ c. search rules)
     returns-2
-    (λ c. search rules)
+    (λ c. sym (length-replicate {A = ℕ} 528934 0))
     tell-through-requires-2
-    (λ c. search rules)
+    (λ c. c.tell_through-2.auto.out)
     returns-3)
