@@ -2,7 +2,7 @@
 use Prim.Native.Nat.{ℕ, ◌+◌, ◌≤◌}
 use mathlib.Core.Path.{◌≡◌, refl, sym, ap, ap₂, ◌∙◌}
 use mathlib.Core.Bool.{Bool, true, false, cond}
-use mathlib.Core.List.{List, []}
+use mathlib.Core.List.{List}
 use native.Mathlib.Omega.{arith}
 use lib.Dec.{eqb}
 use lib.ListN.{length, take, drop}
@@ -17,9 +17,6 @@ use Rattle.call_look_up.specs.Looking.{chosen_of, looked_as, looked_of}
 use Rattle.call_look_up.specs.declared.seeking.Sought.{Sought}
 use Rattle.call_look_up.specs.declared.Looked.{Looked}
 use Rattle.call_look_up.specs.declared.Looked.TheVariants.{Group, House, Refused}
-
-pub as_chosen : (g h : Sought) {g' h' : Sought} → g ≡ g' → h ≡ h' → chosen_of g' h' ≡ chosen_of g h
-as_chosen g h e f = ap₂ chosen_of (sym e) (sym f)
 
 chosen-looked : (number : ℕ) (f g : File) → chosen_of (sought_of number f) (sought_of number g) ≡ looked_of (on_both f g (look_up_on number))
 chosen-looked number (fails n p) g = refl
@@ -113,15 +110,3 @@ module _ (group house : List ℕ) (number : ℕ) (b : Bytes group) (c : Bytes ho
       (start count : ℕ) → House start count ≡ looked_of (look_up group house number)
       → Handed house start count (handed (look_up group house number).decision)
   out-of_house start count e = handed-part false start count e
-
--- A refusal hands back nothing.
-pub handed-nothing : (a : About Part) (which number place : ℕ) → Refused which number place ≡ looked_of a → [] ≡ handed a.decision
-handed-nothing a which number place = go a.decision
-  where
-    some : (b : Bool) (part : Part) → Refused which number place ≡ cond b (Group part.start (length part.bytes)) (House part.start (length part.bytes)) → ⊥
-    some true part e = let z : ◌≡◌ {A = ℕ} 0 1 = cc in omega arith
-    some false part e = let z : ◌≡◌ {A = ℕ} 0 1 = cc in omega arith
-
-    go : (d : Decision Part) → Refused which number place ≡ looked_as a.which d → [] ≡ handed d
-    go (refusal n p) e = refl
-    go (answer part) e = absurd (some (eqb a.which 1) part e)

@@ -9,7 +9,7 @@ use lib.ListN.{length, get_or, take}
 use Rattle.meaning.specs.Syntax.{Module}
 use Rattle.meaning.specs.Boxlist.{F, assoc}
 use Rattle.meaning.specs.Layout.{each, number_bytes, module_numbers}
-use Rattle.meaning.specs.Reading.{fails, read}
+use Rattle.meaning.specs.Reading.{read}
 use Rattle.meaning.specs.Shelves.{bytes_of, ahead}
 use Rattle.image.specs.Resolved.{position_of}
 use Rattle.open_finding.specs.Finding.{Searchable, FoundAt, Finds}
@@ -20,7 +20,7 @@ use Rattle.open_places.specs.Parts.{part-within, part-next}
 use Rattle.open_places.specs.declared.Noted.{Noted}
 use Rattle.open_places.specs.declared.Noted.TheVariants as noted
 use Rattle.call_look_up.specs.Seeking.{sought_of}
-use Rattle.call_look_up.specs.declared.seeking.Sought.TheVariants.{At, Absent, Refused}
+use Rattle.call_look_up.specs.declared.seeking.Sought.TheVariants.{At, Absent}
 
 -- The modules in front of the first of a number are those in front of its position.
 ahead-taken : (number : ℕ) (ms : List Module) → ahead number ms ≡ take (position_of number ms) ms
@@ -38,11 +38,6 @@ ahead-taken number (m ∷ ms) = go (eqb number m.number) (ahead-taken number ms)
 module _ (file names places : List ℕ) (r : Noted) (n : Notes r file names places) where
   pub noted-shelved : (modules : ℕ) → r ≡ noted.Modules modules → Shelved file modules names places
   noted-shelved modules e = subst (λ (x : Noted). Notes x file names places) e n
-
-  pub noted-refused : (number refusal place : ℕ) → r ≡ noted.Refused refusal place → Refused refusal place ≡ sought_of number (read file)
-  noted-refused number refusal place e =
-      let fails : read file ≡ fails refusal place = subst (λ (x : Noted). Notes x file names places) e n in
-      rw fails
 
 module _ {file : List ℕ} {modules : ℕ} {names places : List ℕ} (s : Shelved file modules names places) where
   abbrev pub searchable : Searchable names modules
