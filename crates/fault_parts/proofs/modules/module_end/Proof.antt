@@ -20,7 +20,7 @@ module-at-requires c κs = c.requires
 add_at : tie.Need-overflow_add-at invariant-loop decreases-loop
 add_at c =
     let h = c.module_at-header.ensures c.requires.m c.requires.stands in
-    omega (arith, h.body.within, c.well-formed)
+    omega (arith, h.body.within, c.well_formed)
 
 loop-holds : tie.Need-loop-left-init invariant-loop decreases-loop
 loop-holds c m s = ahead-first m (c.module_at-header.ensures m s)
