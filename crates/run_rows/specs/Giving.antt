@@ -1,12 +1,12 @@
 -- Rows of outputs given from entries: eight rows from a byte of each word, one row behind the other.
-use Rattle.std.specs.Prelude.{ℕ, zero, suc, ◌+◌, ◌-◌, ◌*◌, ◌/◌, ◌%◌, ◌^◌, ◌≤◌, ◌<◌, ◌≡◌, refl, get_or, take, drop, set}
+use Rattle.std.specs.Prelude.{ℕ, ◌+◌, ◌-◌, ◌*◌, ◌/◌, ◌%◌, ◌^◌, ◌≤◌, ◌<◌, ◌≡◌, refl, get_or, take, drop, set}
 use mathlib.Core.List.{List, [], ◌++◌, map}
-use Rattle.std.proofs.Common.{sym, subst, subst₂, ◌∙◌, suc-mul, add-mul, zero-mul, mul-le-mul_right, add-one, arith, length-set, drop-drop, get_or-set_same, get_or-set_other}
+use Rattle.std.proofs.Common.{sym, subst, subst₂, ◌∙◌, suc-mul, add-mul, mul-le-mul_right, add-one, arith, length-set, drop-drop, get_or-set_same, get_or-set_other}
 use Rattle.std.proofs.Math.Path.{ap, ap₂}
 use borrow.Rule.Slice.PartMut.{put_mid}
 use Rattle.std.proofs.Math.ListN.{length, length-map}
 use Rattle.meaning.specs.Values.{Val, un, code}
-use Rattle.image.specs.Laid.{laid, laid-after, laid-nothing}
+use Rattle.image.specs.Laid.{laid, laid-after}
 use Rattle.image.specs.Slots.{Readable, values_at}
 use Rattle.lanes.specs.Lanes.{Lane}
 use Rattle.lanes.specs.Laning.{lane_byte}

@@ -4,8 +4,7 @@ use Rattle.std.specs.Prelude.{ℕ, zero, suc, ◌+◌, ◌-◌, ◌*◌, ◌/◌
 use mathlib.Core.List.{List, [], ◌∷◌, map, Forall₂}
 use Rattle.std.proofs.Common.{sym, ap, ap₂, subst, subst₂, ◌∙◌, suc-mul, mul-le-mul_right, arith, length-drop, get_or-take, get_or-drop, length-take-le}
 use Rattle.std.proofs.lemmas.List.{length-map}
-use Rattle.meaning.specs.Values.{Val, un, value, code}
-use Rattle.meaning.specs.Ceilings.{ModuleWithin}
+use Rattle.meaning.specs.Values.{Val, un, value}
 use Rattle.meaning.specs.Evaluation.{evaluate}
 use Rattle.meaning.specs.Figures.{room, output_count}
 use Rattle.laws.specs.OutputCount.{length-of-evaluate}
@@ -15,7 +14,7 @@ use Rattle.image.specs.Frames.{run_frames}
 use Rattle.image.specs.Searching.{room-search}
 use Rattle.image.specs.Shapes.{inputs-of-resolved, outputs-of-resolved}
 use Rattle.image.specs.Scenes.{frame-ok, says_here}
-use Rattle.image.specs.Slots.{Readable, values_at}
+use Rattle.image.specs.Slots.{values_at}
 use Rattle.image.specs.Reading.{values-stand, readable-stands}
 use Rattle.image.specs.Walking.{needed}
 use Rattle.image.specs.Calling.{inputs-within}

@@ -1,5 +1,5 @@
 -- A block's turn among all rows: it can be run, and its outputs stand behind those of the blocks before it.
-use Rattle.std.specs.Prelude.{ℕ, ◌+◌, ◌-◌, ◌*◌, ◌≤◌, ◌<◌, min, List, ◌≡◌, refl, length, take, drop}
+use Rattle.std.specs.Prelude.{ℕ, ◌+◌, ◌*◌, ◌≤◌, List, ◌≡◌, length, take, drop}
 use Rattle.std.proofs.Common.{sym, ap, ap₂, ◌∙◌, add-mul, mul-le-mul_right, arith}
 use Rattle.meaning.specs.Rows.{row_outputs, rows_of}
 use Rattle.meaning.specs.Layout.{each}

@@ -1,7 +1,5 @@
 -- `run_rows::blocks::run_block` meets its contract: the rows are packed, the walk runs them, and their outputs are given.
-use Prim.Native.Nat.{ℕ}
-use mathlib.Core.Path.{◌≡◌, refl, sym, ap, ◌∙◌}
-use mathlib.Core.List.{List}
+use mathlib.Core.Path.{refl, ◌∙◌}
 use native.Mathlib.Omega.{arith}
 use lib.ListN.{length}
 use Rattle.image.specs.Scenes.{in_starts, module_there, module_stands}

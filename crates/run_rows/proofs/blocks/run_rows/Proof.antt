@@ -1,6 +1,6 @@
 -- `run_rows::blocks::run_rows` meets its contract. The loop's invariant: the outputs of the rows passed stand one behind the other.
-use Prim.Native.Nat.{ℕ, ◌+◌, ◌-◌, ◌*◌, ◌≤◌, ◌<◌}
-use mathlib.Core.Path.{◌≡◌, refl, sym, ap, ◌∙◌}
+use Prim.Native.Nat.{ℕ, ◌+◌, ◌-◌, ◌*◌, ◌≤◌}
+use mathlib.Core.Path.{◌≡◌, refl, sym, ◌∙◌}
 use mathlib.Core.List.{List}
 use native.Mathlib.Omega.{arith}
 use borrow.Author.Rules.{rules}
@@ -92,12 +92,12 @@ loop-again c =
     let a = (began c.before.before.before.before.before.before.before.before.before.before).args in
     record {
       until = upto c.before.before.before.before.before.before;
-      same = c.run_block.auto.entries ∙ l.inv.same;
-      size = c.run_block.auto.out ∙ l.inv.size;
+      same = c.run_block.auto.entries ∙ l.invariant.same;
+      size = c.run_block.auto.out ∙ l.invariant.size;
       laid_so = λ s.
-          turn_more s l.done c.least-some.result (upto c.before.before.before.before.before.before) (ins c.before.before.before.before.before.before.before.before s) (outs c.before.before.before.before.before.before.before.before s) a.out.now refl (l.inv.laid_so s)
+          turn_more s l.done c.least-some.result (upto c.before.before.before.before.before.before) (ins c.before.before.before.before.before.before.before.before s) (outs c.before.before.before.before.before.before.before.before s) a.out.now refl (l.invariant.laid_so s)
           (c.run_block.ensures
-          (turn-runs s l.done c.least-some.result (upto c.before.before.before.before.before.before) (ins c.before.before.before.before.before.before.before.before s) (outs c.before.before.before.before.before.before.before.before s) (few c.before.before.before.before.before.before) l.inv.same l.inv.size));
+          (turn-runs s l.done c.least-some.result (upto c.before.before.before.before.before.before) (ins c.before.before.before.before.before.before.before.before s) (outs c.before.before.before.before.before.before.before.before s) (few c.before.before.before.before.before.before) l.invariant.same l.invariant.size));
     }
 
 pub run_rows_spec : {M : Type 1} → statement M
@@ -113,10 +113,10 @@ run_rows_spec =
     loop-holds
     (λ c. omega (arith, c.loop-done-test.true))
     (λ c κs. search rules)
-    (λ c. omega (arith, read-place c, (began c.before.before.before.before).good))
-    (λ c. omega (arith, write-place c.before, (began c.before.before.before.before.before).good))
+    (λ c. omega (arith, read-place c))
+    (λ c. omega (arith, write-place c.before))
     run-block-requires
-    (λ c. omega (arith, upto c.before.before.before.before.before.before, (began c.before.before.before.before.before.before.before.before.before.before).fits))
+    (λ c. omega (arith, upto c.before.before.before.before.before.before))
     (λ c.
     omega (arith, c.least-some.ensures, c.loop-done-test.true))
     loop-again

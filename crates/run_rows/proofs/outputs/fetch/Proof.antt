@@ -49,10 +49,10 @@ loop-again c =
     record {
       until = omega (arith, taken);
       lows =
-          fetched-more l.inv.lows (omega (arith, l.inv.lows.size, p.low-long, taken))
+          fetched-more l.invariant.lows (omega (arith, l.invariant.lows.size, p.low-long, taken))
           (c.byte_of.ensures ∙ ap (λ (e : List ℕ). get_or e a.word 0 / 2 ^ a.shift % 256) (output c.before.before.before.before));
       highs =
-          fetched-more l.inv.highs (omega (arith, l.inv.highs.size, p.high-long, taken))
+          fetched-more l.invariant.highs (omega (arith, l.invariant.highs.size, p.high-long, taken))
           (c.byte_of-in-loop-j.ensures ∙ ap (λ (e : List ℕ). get_or e (a.word + 4) 0 / 2 ^ a.shift % 256) (output c.before.before.before.before));
     }
 
@@ -64,7 +64,7 @@ fetch_spec =
     decreases-loop
     (λ c. c.requires.readable.ordered)
     (λ c. record { until = omega arith; lows = fetched-none; highs = fetched-none })
-    (λ c. omega (arith, c.before.before.before.before.before.fits))
+    (λ c. omega (arith, c.ranges.from.fits))
     (λ c κs. omega (arith, c.requires.readable.inside))
     (λ c. let h = slot-inside c in omega arith)
     slot-inside

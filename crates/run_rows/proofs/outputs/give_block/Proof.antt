@@ -1,11 +1,9 @@
 -- `run_rows::outputs::give_block` meets its contract. The loop's invariant: the rows passed, a multiple of eight or all, are laid one behind
 -- the other.
 use Prim.Native.Nat.{ℕ, ◌+◌, ◌-◌, ◌*◌, ◌%◌, ◌≤◌, ◌<◌}
-use mathlib.Core.Path.{◌≡◌, refl, sym, ap, ap₂, ◌∙◌}
+use mathlib.Core.Path.{◌≡◌, refl, sym, ap, ◌∙◌}
 use mathlib.Core.List.{List, map}
-use mathlib.Core.Logic.{◌⊎◌, inl, inr}
 use native.Mathlib.Omega.{arith}
-use native.Mathlib.Nat.{zero-mul}
 use borrow.Author.Rules.{rules}
 use lib.ListN.{length, length-map}
 use Rattle.meaning.specs.Values.{code}
@@ -60,11 +58,11 @@ loop-again c =
     let upto : l.done + some ≤ a.count = omega (arith, c.least-some.ensures, taken) in
     record {
       until = upto;
-      even = λ h. omega (arith, c.least-some.ensures, l.inv.even taken);
-      size = c.give_some.auto.out ∙ l.inv.size;
+      even = λ h. omega (arith, c.least-some.ensures, l.invariant.even taken);
+      size = c.give_some.auto.out ∙ l.invariant.size;
       laid_so = λ g.
-          c.give_some.ensures (turn-shown g (l.inv.even taken) taken upto few refl l.inv.size)
-          ∙ ap (λ (o : List ℕ). laid o (a.at + l.done * (a.to - a.from)) (given (λ r. g.values (l.done + r)) some)) (l.inv.laid_so g)
+          c.give_some.ensures (turn-shown g (l.invariant.even taken) taken upto few refl l.invariant.size)
+          ∙ ap (λ (o : List ℕ). laid o (a.at + l.done * (a.to - a.from)) (given (λ r. g.values (l.done + r)) some)) (l.invariant.laid_so g)
           ∙ joined-laid (λ r. map code (g.values r)) (a.to - a.from) (λ r. length-map (g.values r) code ∙ g.many r) a.out.now a.at l.done some
           (rows-room g (l.done + some) upto) refl;
     }
@@ -79,8 +77,8 @@ give_block_spec =
     loop-holds
     (λ c. omega (arith, c.loop-done-test.true))
     (λ c κs. search rules)
-    (λ c. omega (arith, there c, c.before.before.before.before.before.good))
-    (λ c. omega (arith, there c, c.before.before.before.before.before.good))
+    (λ c. omega (arith, there c))
+    (λ c. omega (arith, there c))
     give-some-requires
     (λ c. omega (arith, c.least-some.ensures, c.loop-done-test.true))
     (λ c. omega (arith, c.least-some.ensures, c.loop-done-test.true))

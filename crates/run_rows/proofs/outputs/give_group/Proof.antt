@@ -1,5 +1,5 @@
 -- `run_rows::outputs::give_group` meets its contract. The loop's invariant: the rows passed are laid one behind the other.
-use Prim.Native.Nat.{ℕ, ◌+◌, ◌-◌, ◌*◌, ◌≤◌, ◌<◌}
+use Prim.Native.Nat.{ℕ, ◌+◌, ◌-◌, ◌*◌, ◌≤◌}
 use mathlib.Core.Path.{◌≡◌, refl, sym, ap, ◌∙◌}
 use mathlib.Core.List.{List}
 use native.Mathlib.Omega.{arith}
@@ -79,7 +79,7 @@ give_group_spec =
     invariant-loop
     decreases-loop
     loop-holds
-    (λ c. omega (arith, inside c, c.before.before.before.before.before.good))
+    (λ c. omega (arith, inside c))
     (λ c. omega (arith, c.loop-r-test.true, c.requires.few))
     (λ c. omega arith)
     (λ c. omega arith)
