@@ -1,5 +1,5 @@
 -- Modules gathered one by one: what is gathered and what is left make the whole.
-use Prim.Native.Nat.{ℕ, ◌+◌, ◌-◌, ◌≤◌, ◌<◌}
+use Prim.Native.Nat.{ℕ, ◌+◌, ◌-◌, ◌≤◌}
 use mathlib.Core.Path.{◌≡◌, refl, sym, ap, subst, ◌∙◌}
 use mathlib.Core.Bool.{Bool, true, false, cond}
 use mathlib.Core.List.{List, [], ◌∷◌, ◌++◌, append-nil}
@@ -13,10 +13,10 @@ use Rattle.laws.specs.Lists.{each_append}
 use Rattle.bytes_out.specs.Filled.{Put}
 use Rattle.bytes_out.specs.Puts.{put-none}
 use Rattle.bytes_out.specs.Laying.{Laying}
-use Rattle.write_pieces.specs.Laying.{laying-none, laying-length, laying-room, laying-more, laying-all}
+use Rattle.write_pieces.specs.Laying.{laying-none, laying-room, laying-more, laying-all}
 use Rattle.open_finding.specs.Here.{Here}
 use Rattle.image.specs.Stands.{stands-part}
-use Rattle.open_places.specs.Parts.{part-within, part-next, part-stands}
+use Rattle.open_places.specs.Parts.{part-next, part-stands}
 use Rattle.write_joined.specs.Gathering.{Gathers, Takes, At}
 use Rattle.write_joined.specs.declared.gathering.Gathered.{Gathered}
 
@@ -69,12 +69,6 @@ takes_one {own} {m} {bytes} {bytes'} modules at at' one is put =
 
 -- The module's part of the file.
 module _ {house names places : List ℕ} {k : ℕ} {marks bytes : List ℕ} {done : Gathered} (a : At house names places k marks bytes done) where
-  pub name-listed : k < length names
-  name-listed = omega (arith, part-within a.shelved k a.here, a.shelved.listed)
-
-  pub places-listed : k + 1 < length places
-  places-listed = omega (arith, part-within a.shelved k a.here, a.shelved.marked)
-
   pub place-order : get_or places (k + 1) 0 ≡ get_or places k 0 + length (bytes_of a.m)
   place-order = part-next a.shelved k a.here
 
@@ -113,9 +107,6 @@ module _ {own others : List Module} {bytes₀ bytes : List ℕ} {so_far all : Ga
 
   left-bytes : (h : Here others k) → each bytes_of (lacking own (drop k others)) ≡ each bytes_of (lacking own (h.m ∷ [])) ++ each bytes_of (lacking own (drop (k + 1) others))
   left-bytes h = ap (each bytes_of) (left-of h) ∙ each_append bytes_of (lacking own (h.m ∷ [])) (lacking own (drop (k + 1) others))
-
-  pub going-length : length bytes ≡ length bytes₀
-  going-length = laying-length g.laying
 
   pub going-room : (h : Here others k) → all.at + length (each bytes_of (lacking own (h.m ∷ []))) ≤ length bytes
   going-room h =
