@@ -40,9 +40,9 @@ mark_module_spec =
     tie.close
     (tie.spec
     (λ c κs. let s = c.requires in record { m = s.m; stands = s.stands })
-    (λ c. let s = c.requires in omega (arith, (parts s.m s.stands).end, c.well-formed))
-    (λ c. let s = c.requires in omega (arith, (parts s.m s.stands).end, (header c.before s).inputs, c.well-formed))
-    (λ c. let s = c.requires in omega (arith, (parts s.m s.stands).end, (header c.before s).inputs, c.well-formed))
+    (λ c. let s = c.requires in omega (arith, (parts s.m s.stands).end, c.well_formed))
+    (λ c. let s = c.requires in omega (arith, (parts s.m s.stands).end, (header c.before s).inputs, c.well_formed))
+    (λ c. let s = c.requires in omega (arith, (parts s.m s.stands).end, (header c.before s).inputs, c.well_formed))
     (λ c. omega arith)
     (λ c. omega arith)
     (λ c. let s = c.requires in omega (arith, (parts s.m s.stands).end, (header c.before s).inputs))

@@ -51,7 +51,7 @@ first_crowded_spec =
     (λ c. omega (arith, c.shared_slice_known-in-loop-k-1.given c.loop-k.k))
     add-if1
     returns
-    (λ c. omega (arith, c.loop-k-test.true, c.well-formed))
+    (λ c. omega (arith, c.loop-k-test.true, c.well_formed))
     (λ c. omega (arith, c.loop-k-test.true))
     loop-again
     (λ c s. c.loop-k.invariant s ∙ uncrowded_left s.table.ms _ (omega (arith, c.loop-k-test.false, s.table.all))))

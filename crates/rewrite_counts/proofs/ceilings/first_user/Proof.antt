@@ -37,7 +37,7 @@ first_user_spec =
     (λ c. let s = c.requires in omega (arith, c.loop-k-test.true, s.all, s.long))
     (λ c. let s = c.requires in omega (arith, c.loop-k-test.true, s.all, s.long))
     returns
-    (λ c. omega (arith, c.loop-k-test.true, c.well-formed))
+    (λ c. omega (arith, c.loop-k-test.true, c.well_formed))
     (λ c. omega (arith, c.loop-k-test.true))
     loop-again
     (λ c s. c.loop-k.invariant s ∙ no_user_left s.ms _ (omega (arith, c.loop-k-test.false, s.all))))

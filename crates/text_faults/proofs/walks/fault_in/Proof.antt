@@ -64,7 +64,7 @@ fits-requires c κs = search rules
 entry-at-fault-requires : tie.Need-entry_at_fault-requires
 entry-at-fault-requires c κs =
     let place = spot c.before.before.before.before.before.before.before.before.before in
-    omega (arith, place.takes.within, place.from, place.to, place.drives, c.well-formed)
+    omega (arith, place.takes.within, place.from, place.to, place.drives, c.well_formed)
 
 same_length : tie.Need-shape_of-marks
 same_length c = search rules
@@ -88,7 +88,7 @@ returns c p o known s m =
     fault_is o known later new place.drives
     (c.count_known-known.ensures known m ∙ ap (λ l. known_front l known) (part-is _ place.takes taken))
     taken
-    (c.before.fits2.ensures p o.takes o.drives taken place.drives ∙ ap (λ n. arity_okp n o.takes o.drives later) place.refers) in
+    (c.fits-fit.ensures p o.takes o.drives taken place.drives ∙ ap (λ n. arity_okp n o.takes o.drives later) place.refers) in
     let whole = c.entry_at_fault.ensures ∙ is in
     (whole, λ l. marked_all known _ _ drives new (all_new o known later (omega (arith, whole))) (c.learn-new.ensures known m).1)
 

@@ -47,15 +47,15 @@ module-at-requires c κs =
     record { m = (first c.before.before.before.before c.requires.0).m; stands = (first c.before.before.before.before c.requires.0).stands }
 
 add-inputs : tie.Need-overflow_add-inputs
-add-inputs c = omega (arith, (inputs (first c.before.before.before.before.before c.requires.0)).within, c.well-formed)
+add-inputs c = omega (arith, (inputs (first c.before.before.before.before.before c.requires.0)).within, c.well_formed)
 
 add-end : tie.Need-overflow_add-end
 add-end c =
-    omega (arith, (inputs (first c.before.before.before.before.before.before c.requires.0)).within, (header c.before c.requires.0).inputs, c.before.before.before.before.before.before.good)
+    omega (arith, (inputs (first c.before.before.before.before.before.before c.requires.0)).within, (header c.before c.requires.0).inputs, c.well_formed)
 
 mul-mark-all : tie.Need-offset_bounds-numbers-inputs
 mul-mark-all c =
-    omega (arith, (inputs (first c.before.before.before.before.before.before c.requires.0)).within, (header c.before c.requires.0).inputs, c.before.before.before.before.before.before.good)
+    omega (arith, (inputs (first c.before.before.before.before.before.before c.requires.0)).within, (header c.before c.requires.0).inputs, c.well_formed)
 
 sub-mark-all : tie.Need-slice_bounds-mark_all-count
 sub-mark-all c = search rules
@@ -75,11 +75,11 @@ add-walk c = search rules
 
 add-walk-2 : tie.Need-overflow_add-header
 add-walk-2 c =
-    omega (arith, (header c.before.before.before.before.before.before.before c.requires.0).body.within, c.before.before.before.before.before.before.before.before.before.before.before.before.good)
+    omega (arith, (header c.before.before.before.before.before.before.before c.requires.0).body.within, c.well_formed)
 
 walk-requires : tie.Need-walk-requires
 walk-requires c κs =
-    (c.requires.0, (omega (arith, c.requires.1.0), (bodied c.before.before.before.before c.requires.0, omega (arith, c.mark_all.kept.marks, c.requires.1.1.0))))
+    (c.requires.0, (omega (arith, c.requires.1.0), (bodied c.before.before.before.before c.requires.0, omega (arith, c.mark_all.auto.marks, c.requires.1.1.0))))
 
 same_length : tie.Need-shape_of-marks
 same_length c = search rules

@@ -44,7 +44,7 @@ fault-in-requires c κs =
     (c.requires.0, (c.requires.1.0, (record { o = (turn c.before.before).o; stands = (turn c.before.before).there }, omega (arith, c.loop-i.invariant.0, c.requires.1.1.1))))
 
 add-if1 : tie.Need-overflow_add-o invariant-loop decreases-loop
-add-if1 c = omega (arith, (spot c.before.before.before.before.before).drives, (spot c.before.before.before.before.before).driven.within, c.before.before.before.before.before.before.before.before.before.before.before.good)
+add-if1 c = omega (arith, (spot c.before.before.before.before.before).drives, (spot c.before.before.before.before.before).driven.within, c.well_formed)
 
 sub-if1 : tie.Need-overflow_sub-o invariant-loop decreases-loop
 sub-if1 c = omega (arith, (spot c.before.before.before.before.before.before).to)
@@ -52,7 +52,7 @@ sub-if1 c = omega (arith, (spot c.before.before.before.before.before.before).to)
 add-if1-2 : tie.Need-overflow_add-o-in-loop-i invariant-loop decreases-loop
 add-if1-2 c =
     let place = spot c.before.before.before.before.before.before in
-    omega (arith, place.drives, place.from, place.to, place.takes.within, c.before.before.before.before.before.before.before.before.before.before.before.before.good)
+    omega (arith, place.drives, place.from, place.to, place.takes.within, c.well_formed)
 
 same_length : tie.Need-shape_of-marks-then-atom-o invariant-loop decreases-loop
 same_length c = c.fault_in-atom.auto.marks ∙ c.loop-i.invariant.0
@@ -73,7 +73,7 @@ loop-less c = omega arith
 
 loop-again : tie.Need-loop-i-preserved invariant-loop decreases-loop
 loop-again c = (
-  c.fault_in-atom.kept.marks ∙ c.loop-i.invariant.0,
+  c.fault_in-atom.auto.marks ∙ c.loop-i.invariant.0,
   λ p b.
       let w = c.loop-i.invariant.1 p b in
       let f = facing w c.loop-i-test.true in
