@@ -51,44 +51,32 @@ module _
           gates-left : {four : List ℕ} {end : ℕ} → Put outs three next four end → Laying whole (number_bytes gates) bytes at four end
           gates-left = laying-more outs (number_bytes gates) outs-left
 
--- Where the first piece is put, to the start, and from the list of inputs to the piece before it; else from each piece to the one before it
--- are four places.
-abbrev start : tie.After-put-own → tie.Start
-start c = c.before.before.before.before.before
-
-abbrev numbered : tie.After-put-second → tie.After-put-first
-numbered c = c.before.before.before.before.before
-
 put-requires-2 : tie.Need-put-first-requires
-put-requires-2 c κs =
-    let able = (start c.before.before.before).requires in
-    (able.own, laying-piece (number_bytes _) _ (number-left able c.put-own.ensures))
+put-requires-2 c κs = (c.requires.own, laying-piece (number_bytes _) _ (number-left c.requires c.put-own.ensures))
 
 put-requires-3 : tie.Need-put-second-requires
 put-requires-3 c κs =
-    let able = (start c.before.before.before.before.before.before.before.before).requires in
-    record { readable = able.ins; within = able.ins_within; room = ins-fit able c.put-own.ensures c.put-first.ensures }
+    record {
+      readable = c.requires.ins;
+      within = c.requires.ins_within;
+      room = ins-fit c.requires c.put-own.ensures c.put-first.ensures;
+    }
 
 put-requires-4 : tie.Need-put-third-requires
 put-requires-4 c κs =
-    let two = numbered c.before.before.before in
-    let able = (start two.before.before.before.before).requires in
     record {
-      readable = able.outs;
-      within = able.outs_within;
-      room = outs-fit able two.before.before.before.before.put.ensures two.put2.ensures c.put-second.ensures;
+      readable = c.requires.outs;
+      within = c.requires.outs_within;
+      room = outs-fit c.requires c.put-own.ensures c.put-first.ensures c.put-second.ensures;
     }
 
 put-requires-5 : tie.Need-put-requires
 put-requires-5 c κs =
-    let two = numbered c.before.before.before.before.before.before.before in
-    let able = (start two.before.before.before.before).requires in
-    (able.counted, laying-room (gates-left able two.before.before.before.before.put.ensures two.put2.ensures c.put-second.ensures c.put-third.ensures))
+    (c.requires.counted, laying-room (gates-left c.requires c.put-own.ensures c.put-first.ensures c.put-second.ensures c.put-third.ensures))
 
 returns : tie.Need-returns
 returns c =
-    let two = numbered c.before.before.before.before.before.before.before.before.before.before in
-    laying-last (gates-left (start two.before.before.before.before).requires two.before.before.before.before.put.ensures two.put2.ensures c.put-second.ensures c.put-third.ensures) c.put.ensures
+    laying-last (gates-left c.requires c.put-own.ensures c.put-first.ensures c.put-second.ensures c.put-third.ensures) c.put.ensures
 
 pub set_front_spec : {M : Type 1} → statement M
 set_front_spec =
@@ -96,8 +84,8 @@ set_front_spec =
     (tie.spec
     (λ c κs. (omega arith, laying-piece (number_bytes 1) _ (all_left c.requires)))
     put-requires-2
-    (λ c. let able = (start c.before.before.before.before.before.before).requires in omega (arith, able.ins.inside))
-    (λ c. let able = (start c.before.before.before.before.before.before.before).requires in omega (arith, able.ins.inside))
+    (λ c. omega (arith, c.requires.ins.inside))
+    (λ c. omega (arith, c.requires.ins.inside))
     put-requires-3
     put-requires-4
     put-requires-5
