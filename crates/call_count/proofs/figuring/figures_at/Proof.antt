@@ -72,20 +72,20 @@ gates-of-requires c κs =
 
 returns : tie.Need-returns
 returns c s =
-    let headed = header (timed c.before.before.before.before.before.before.before) in
-    let given = headed.before.before.before.before.before.before.before.requires in
-    let ran = (timed c.before.before.before.before.before.before.before).delays.ensures in
+    let began = entered (header (timed c.before.before.before.before.before.before.before)) in
+    let given = c.requires in
+    let ran = c.delays-delays.ensures in
     let tally = tally-is s c.weigh-weighed.ensures.1.0 in
     record {
       is =
           figures-are s _
-          (inputs_are s headed.module-at.ensures)
-          (omega (arith, outputs-are s headed.module-at.ensures))
+          (inputs_are s c.module_at-header.ensures)
+          (omega (arith, outputs-are s c.module_at-header.ensures))
           tally
           (gates-are s tally c.gates_of-gates.ensures)
           (unit-is s (ran.0 (callable s given.1.0)))
           (load_is s c.weigh-weighed.ensures.0)
-          (family-is s _ (family-small headed.before.before.before.before.before.before.before) (ran.1.0 (callable s (loads-roomy headed.before.before.before.before.before.before.before.args.loads.now s given.1.1))));
+          (family-is s _ (family-small began) (ran.1.0 (callable s (loads-roomy c.args.loads.now s given.1.1))));
       clean = scratch-is s _ ran.1.1 c.weigh-weighed.ensures.1.1;
     }
 

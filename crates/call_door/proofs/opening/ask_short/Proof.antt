@@ -17,7 +17,7 @@ ask-open-requires : tie.Need-ask_open-requires
 ask-open-requires c κs =
     let p = c.prepare in (
       record { file = _; opened = opened _ _ _ _ _ _ _ p.result p.ensures _ c.in-Ready.is },
-      omega (arith, p.kept.1.0, length-replicate {A = ℕ} 1024 0),
+      omega (arith, p.auto.image, length-replicate {A = ℕ} 1024 0),
     )
 
 returns : tie.Need-returns-in-Refused

@@ -43,7 +43,7 @@ inside c = omega (arith, c.requires.1, c.loop-i.invariant.same, c.loop-i-test.tr
 loop-again : tie.Need-loop-i-preserved invariant-loop decreases-loop
 loop-again c =
     let l = c.loop-i in
-    adds-more l.inv c.loop-i-test.true (inside c.before.before.before.before)
+    adds-more l.invariant c.loop-i-test.true (inside c.before.before.before.before)
     (c.wrapping_add_u64.ensures ∙ ap (λ (x : ℕ). low (get_or l.table l.i 0 + x)) c.wide.ensures)
 
 returns : tie.Need-returns invariant-loop decreases-loop

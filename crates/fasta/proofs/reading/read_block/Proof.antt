@@ -32,13 +32,13 @@ loop-again c =
     let a = c.args in
     record {
       inside = omega (arith, c.loop-i-test.true);
-      same = c.step-now.kept.bases ∙ l.inv.same;
-      whole = c.step-now.kept.table ∙ l.inv.whole;
-      filled = omega (arith, c.step-now.ensures.0, l.inv.same);
+      same = c.step-now.auto.bases ∙ l.invariant.same;
+      whole = c.step-now.auto.table ∙ l.invariant.whole;
+      filled = omega (arith, c.step-now.ensures.0, l.invariant.same);
       holds =
           λ s h.
           rw (← one_more a.letters s a.bytes.now l.i c.loop-i-test.true)
-          (c.step-now.ensures.1 (steps a.letters s (take l.i a.bytes.now)) (l.inv.holds s h));
+          (c.step-now.ensures.1 (steps a.letters s (take l.i a.bytes.now)) (l.invariant.holds s h));
     }
 
 returns : tie.Need-returns invariant-loop decreases-loop

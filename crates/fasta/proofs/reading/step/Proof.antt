@@ -53,7 +53,7 @@ returns-4 c =
           record {
             line = refl;
             bases = c.put.ensures.1 s.bases h.bases;
-            roomy = omega (arith, h.roomy, c.put.kept.bases);
+            roomy = omega (arith, h.roomy, c.put.auto.bases);
             sums = h.sums;
           },
     )

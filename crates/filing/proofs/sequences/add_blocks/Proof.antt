@@ -155,14 +155,14 @@ loop-again c =
     let letters = c.args.letters in
     record {
       until = t.within;
-      all = l.inv.all;
-      bits-long = c.add_words.kept.bits ∙ l.inv.bits-long;
+      all = l.invariant.all;
+      bits-long = c.add_words.auto.bits ∙ l.invariant.bits-long;
       values-long =
-          length_front l.values c.add_words.new.values (some * 32) c.add_words.kept.values ∙ l.inv.values-long;
-      outputs-long = c.add_words.kept.outputs ∙ l.inv.outputs-long;
+          length_front l.values c.add_words.new.values (some * 32) c.add_words.auto.values ∙ l.invariant.values-long;
+      outputs-long = c.add_words.auto.outputs ∙ l.invariant.outputs-long;
       counted =
           block_more c.args.sequence.now l.table (replicate 33 0) letters l.done some (l.done + some + letters - 1 - l.done)
-          t.letters.0 (omega (arith, t.one, t.letters.0)) (omega (arith, t.end, t.one, t.letters.0)) l.inv.counted _
+          t.letters.0 (omega (arith, t.one, t.letters.0)) (omega (arith, t.end, t.one, t.letters.0)) l.invariant.counted _
           c.add_words.ensures;
     }
 
