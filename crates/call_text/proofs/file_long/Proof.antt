@@ -1,6 +1,6 @@
 use Rattle.call_text.specs.Rooms.{long-numbers, ready-long}
 use Prim.Native.Nat.{ℕ}
-use mathlib.Core.Path.{sym}
+use mathlib.Core.Path.{sym, ◌∙◌}
 use lib.ListN.{length-replicate}
 use borrow.Author.Rules.{rules}
 use Rattle.call_text.proofs.file_long.Statement.{statement}
@@ -17,7 +17,7 @@ read-long-requires : tie.Need-read_long-extent-requires
 read-long-requires c κs = long-numbers _ c.requires
 
 slice-aggregate-answer : tie.Need-slice_bounds-answer-end
-slice-aggregate-answer c = search rules
+slice-aggregate-answer c = sym (c.read_long-extent.auto.numbers ∙ length-replicate {A = ℕ} 524290 0)
 
 slice-aggregate-answer-2 : tie.Need-slice_bounds-answer-end-2
 slice-aggregate-answer-2 c = search rules
@@ -26,7 +26,7 @@ answer-requires : tie.Need-answer-requires
 answer-requires c κs = ready-long _ _ c.read_long-extent.result c.read_long-extent.ensures c.read_long-extent.auto.numbers
 
 same_length : tie.Need-shape_of-out
-same_length c = search rules
+same_length c = c.answer.auto.out
 
 returns : tie.Need-returns
 returns c = c.answer.ensures
