@@ -27,20 +27,20 @@ turn c = c.before.before.before.before
 module _ (c : tie.In-loop-k invariant-loop decreases-loop)
     (s : Peopled (start c.before).args.image.now (start c.before).args.starts.now (start c.before).args.own.now (start c.before).args.modules)
   where
-    inside : c.before.loop.k < length s.table.ms
-    inside = omega (arith, c.loop-test.true, s.table.all)
+    inside : c.loop-k.k < length s.table.ms
+    inside = omega (arith, c.loop-k-test.true, s.table.all)
 
-    here : Here s.table.ms c.before.loop.k
-    here = here-at s.table.ms c.before.loop.k inside
+    here : Here s.table.ms c.loop-k.k
+    here = here-at s.table.ms c.loop-k.k inside
 
 -- The count that was read is the module's.
 module _ (c : tie.After-struct_known-1 invariant-loop decreases-loop)
     (s : Peopled (start (turn c).before).args.image.now (start (turn c).before).args.starts.now (start (turn c).before).args.own.now (start (turn c).before).args.modules)
   where
-    counted : c.before.before.module-at.result.count ≡ length (here (turn c) s).m.occurrences
+    counted : c.module_at-header.result.count ≡ length (here (turn c) s).m.occurrences
     counted =
-        let there = s.stands (turn c).before.loop.k (here (turn c) s).m (here (turn c) s).later (here (turn c) s).here in
-        (c.before.before.module-at.ensures there.0 there.1).count ∙ there.2
+        let there = s.stands c.loop-k.k (here (turn c) s).m (here (turn c) s).later (here (turn c) s).here in
+        (c.module_at-header.ensures there.0 there.1).count ∙ there.2
 
 returns : tie.Need-returns-then-header-own-gt4096 invariant-loop decreases-loop
 returns c s =
@@ -62,18 +62,18 @@ few_occurrences_spec =
     (λ c. let s = c.requires in omega (arith, inside c s, s.started))
     (λ c. let s = c.requires in omega (arith, inside c.before s, s.started))
     (λ c κs.
-    let s = (start c.before.before).pre in
-    let there = s.stands c.before.before.loop.k (here c.before s).m (here c.before s).later (here c.before s).here in
+    let s = c.requires in
+    let there = s.stands c.loop-k.k (here c.before s).m (here c.before s).later (here c.before s).here in
     record { m = there.0; stands = there.1 })
     (λ c. let s = c.requires in omega (arith, inside c.before.before s, s.table.long))
     (λ c. let s = c.requires in omega (arith, inside c.before.before.before s, s.table.long))
     (λ c. omega (arith, c.shared_slice_known-in-loop-k-2-1.given c.loop-k.k))
     (λ c. omega (arith, c.shared_slice_known-in-loop-k-2-1.given c.loop-k.k))
     (λ c.
-    let s = (start (turn c).before).pre in
-    omega (arith, counted c s, s.few (turn c).before.loop.k (here (turn c) s).m (here (turn c) s).later (here (turn c) s).here, c.before.shared-slice-known5.given (turn c).before.loop.k))
+    let s = c.requires in
+    omega (arith, counted c s, s.few c.loop-k.k (here (turn c) s).m (here (turn c) s).later (here (turn c) s).here, c.shared_slice_known-in-loop-k-2-1.given c.loop-k.k))
     returns
-    (λ c. omega (arith, c.loop-k-test.taken, c.before.before.before.before.before.before.before.before.before.before.good))
-    (λ c. omega (arith, c.loop-k-test.taken))
+    (λ c. omega (arith, c.loop-k-test.true, c.well_formed))
+    (λ c. omega (arith, c.loop-k-test.true))
     loop-again
     (λ c s. c.loop-k.invariant s ∙ few-left s.table.ms c.loop-k.k (omega (arith, c.loop-k-test.false, s.table.all))))

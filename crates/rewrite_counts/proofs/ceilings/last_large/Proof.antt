@@ -22,16 +22,16 @@ decreases-loop sizes reached modules k₀ k = k
 module _ (c : tie.In-loop-k invariant-loop decreases-loop) (s : Sized c.before.before.args.sizes.now c.before.before.args.reached.now c.before.before.args.modules)
   where
     abbrev position : ℕ
-    position = c.before.loop.k - 1
+    position = c.loop-k.k - 1
 
-    again : position + 1 ≡ c.before.loop.k
-    again = omega (arith, c.loop-test.true)
+    again : position + 1 ≡ c.loop-k.k
+    again = omega (arith, c.loop-k-test.true)
 
     inside : position < length s.ms
-    inside = omega (arith, c.loop-test.true, c.before.loop.invariant.0, s.all)
+    inside = omega (arith, c.loop-k-test.true, c.loop-k.invariant.0, s.all)
 
     behind : sizes_verdict (position + 1) (rewrite_file (drop (position + 1) s.ms)) ≡ good
-    behind = subst (λ (n : ℕ). sizes_verdict n (rewrite_file (drop n s.ms)) ≡ good) (sym again) (c.before.loop.invariant.1 s)
+    behind = subst (λ (n : ℕ). sizes_verdict n (rewrite_file (drop n s.ms)) ≡ good) (sym again) (c.loop-k.invariant.1 s)
 
 returns : tie.Need-returns-then-sizes-k-gt65535 invariant-loop decreases-loop
 returns c s =
@@ -62,6 +62,6 @@ last_large_spec =
     (λ c. let s = c.requires in omega (arith, (s.low (position c.before.before s) (inside c.before.before s)).1))
     (λ c. let s = c.requires in let low = s.low (position c.before.before s) (inside c.before.before s) in omega (arith, low.0, low.1))
     returns
-    (λ c. omega (arith, c.loop-k-test.taken))
+    (λ c. omega (arith, c.loop-k-test.true))
     loop-again
     (λ c s. rw (let none : c.loop-k.k ≡ 0 = omega (arith, c.loop-k-test.false) in none) at (c.loop-k.invariant.1 s)))

@@ -33,21 +33,21 @@ module _
     (length (start c.before).args.own.now) (length (start c.before).args.reached.now))
   where
     abbrev position : ℕ
-    position = c.before.loop.k - 1
+    position = c.loop-k.k - 1
 
     low : position < length s.rs
-    low = omega (arith, c.loop-test.true, c.before.loop.invariant.0, s.all)
+    low = omega (arith, c.loop-k-test.true, c.loop-k.invariant.0, s.all)
 
-    behind : Counted s.rs (position + 1) c.before.loop.own c.before.loop.reached
+    behind : Counted s.rs (position + 1) c.loop-k.own c.loop-k.reached
     behind =
-        let again : position + 1 ≡ c.before.loop.k = omega (arith, c.loop-test.true) in
-        subst (λ (n : ℕ). Counted s.rs n c.before.loop.own c.before.loop.reached) (sym again) (c.before.loop.invariant.3 s)
+        let again : position + 1 ≡ c.loop-k.k = omega (arith, c.loop-k-test.true) in
+        subst (λ (n : ℕ). Counted s.rs n c.loop-k.own c.loop-k.reached) (sym again) (c.loop-k.invariant.3 s)
 
-    in-own : position < length c.before.loop.own
-    in-own = omega (arith, low, s.own_long, c.before.loop.invariant.1)
+    in-own : position < length c.loop-k.own
+    in-own = omega (arith, low, s.own_long, c.loop-k.invariant.1)
 
-    in-reached : position < length c.before.loop.reached
-    in-reached = omega (arith, low, s.reached_long, c.before.loop.invariant.2)
+    in-reached : position < length c.loop-k.reached
+    in-reached = omega (arith, low, s.reached_long, c.loop-k.invariant.2)
 
 loop-again : tie.Need-loop-k-preserved invariant-loop decreases-loop
 loop-again c = (
@@ -55,8 +55,8 @@ loop-again c = (
   length-set c.loop-k.own _ _ ∙ c.loop-k.invariant.1,
   length-set c.loop-k.reached _ _ ∙ c.loop-k.invariant.2,
   λ s.
-      let found = c.fours_of-found.ensures (reaching s (low c.before.before s) (behind c.before.before s).tabled) in
-      counted-more (here-at s.rs (position c.before.before s) (low c.before.before s)) _ _ (behind c.before.before s) (in-own c.before.before s) (in-reached c.before.before s) found.0 found.1,
+      let found = c.fours_of-found.ensures (reaching s (low c.before s) (behind c.before s).tabled) in
+      counted-more (here-at s.rs (position c.before s) (low c.before s)) _ _ (behind c.before s) (in-own c.before s) (in-reached c.before s) found.0 found.1,
 )
 
 pub count_fours_spec : {M : Type 1} → statement M
@@ -67,11 +67,11 @@ count_fours_spec =
     decreases-loop
     (λ c. (omega arith, refl, refl, λ s. counted_none s.rs _ _ _ (omega (arith, s.all)) s.reached_long))
     (λ c. c.loop-k-test.true)
-    (λ c κs. let s = (start c.before).requires in reaching s (low c.before s) (behind c.before s).tabled)
-    (λ c. let s = (start c.before.before).requires in omega (arith, in-own c.before.before s))
-    (λ c. let s = (start c.before.before).requires in in-own c.before.before s)
-    (λ c. let s = (start c.before.before).requires in omega (arith, in-reached c.before.before s))
-    (λ c. let s = (start c.before.before).requires in in-reached c.before.before s)
+    (λ c κs. let s = c.requires in reaching s (low c s) (behind c s).tabled)
+    (λ c. let s = c.requires in omega (arith, in-own c.before s))
+    (λ c. let s = c.requires in in-own c.before s)
+    (λ c. let s = c.requires in omega (arith, in-reached c.before s))
+    (λ c. let s = c.requires in in-reached c.before s)
     (λ c. omega (arith, c.loop-k-test.true))
     loop-again
     (λ c. c.loop-k.invariant.1)

@@ -53,7 +53,7 @@ fours_of_spec =
     (λ c. omega (arith, in_starts c.requires.scene))
     (λ c. in_starts c.requires.scene)
     (λ c κs. module_there c.requires.scene)
-    (λ c. let first = start c.before in omega (arith, (c.module_at-header.ensures _ (module_stands first.requires.scene)).body.within, first.good))
+    (λ c. let first = start c.before in omega (arith, (c.module_at-header.ensures _ (module_stands first.requires.scene)).body.within, c.well_formed))
     (λ c s. none-walked s (c.module_at-header.ensures _ (module_stands s.scene)))
     (λ c κs. occurrence-there c.loop-left-test.true (c.loop-left.invariant (begun c.before).requires).ahead)
     (λ c. c.loop-left-test.true)
