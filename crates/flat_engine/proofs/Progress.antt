@@ -77,3 +77,13 @@ module _
                 frame = ap (λ (n : ℕ). take n scratch) all ∙ ap (λ (q : Placed). q.nets) same;
                 written = subst (λ (b : Board). Written p.around b pen bytes) (ap (λ (q : Placed). q.board) same) g.written;
               }
+
+-- The walk of any plan that could be carried out at the start, from where all its occurrences are ahead.
+abbrev pub Walking :
+    (image starts nets : List ℕ) (k : ℕ) (pen₀ : Pen) (scratch₀ bytes₀ : List ℕ) (at₀ left₀ filled₀ at left filled : ℕ) (scratch bytes : List ℕ) (pen : Pen)
+    → Type 0
+Walking image starts nets k pen₀ scratch₀ bytes₀ at₀ left₀ filled₀ at left filled scratch bytes pen =
+    (p : Plan)
+    → (ready : Ready p image starts nets k pen₀ scratch₀ bytes₀)
+    → Ahead image p.m p.later at₀ left₀ filled₀ p.m.occurrences
+    → Progress ready at left filled scratch bytes pen

@@ -10,7 +10,7 @@ use lib.Seq.{take-suc-set}
 use Rattle.meaning.specs.Lists.{All, more}
 use Rattle.meaning.specs.Syntax.{Occurrence}
 use Rattle.meaning.specs.Gates.{is_gate}
-use Rattle.meaning.specs.Layout.{each}
+use Rattle.meaning.specs.Layout.{each, occurrence_numbers}
 use Rattle.meaning.specs.Ceilings.{OccurrenceWithin}
 use Rattle.meaning.specs.Limits.{most_module_nets}
 use Rattle.meaning.specs.Flattening.{Placed, place_referred, place_gate}
@@ -19,14 +19,17 @@ use Rattle.laws.specs.Written.{occurrence_bytes}
 use Rattle.bytes_out.specs.Filled.{Put}
 use Rattle.image.specs.Frames.{read_slots}
 use Rattle.image.specs.Scenes.{frame-ok}
-use Rattle.image.specs.Walking.{needed, Turn, readable, arguments, AtGate, at-gate}
+use Rattle.image.specs.Stands.{Stands}
+use Rattle.image.specs.Places.{PlaceOf}
+use Rattle.image.specs.Walking.{needed, Ahead, all-ahead, Turn, turn, readable, arguments, AtGate, at-gate}
+use Rattle.image.specs.declared.places.Header.{Header}
 use Rattle.image.specs.declared.places.Place.{Place}
 use Rattle.flat_engine.specs.Placing.{walk_placed, place_frames}
 use Rattle.flat_engine.specs.Growing.{Grows, board-grows, pieces_grow, all-before}
 use Rattle.flat_bytes.specs.Gates.{Written, Settable, gate_at, each_snoc, gate-written}
-use Rattle.flat_engine.specs.Plan.{Plan, Ready, planned, scene}
+use Rattle.flat_engine.specs.Plan.{Plan, Ready, SomeWalkable, planned, scene}
 use Rattle.flat_bytes.specs.declared.pen.Pen.{Pen}
-use Rattle.flat_engine.proofs.Progress.{Progress, long-now}
+use Rattle.flat_engine.proofs.Progress.{Progress, Walking, long-now}
 
 -- The walk so far, and the occurrence whose turn it is.
 pub record Here
@@ -35,6 +38,28 @@ pub record Here
     : Type 0 where
   pub progress : Progress ready at left filled scratch bytes pen
   pub turn : Turn image p.m p.later at left filled progress.rest place
+
+-- Once its place is read, what is known of any plan that could be carried out from the start,
+pub here :
+    {image starts nets : List ℕ} {k : ℕ} {pen₀ : Pen} {scratch₀ bytes₀ : List ℕ} {at₀ left₀ filled₀ at left filled : ℕ} {scratch bytes : List ℕ}
+    {pen : Pen} {place : Place}
+    → Walking image starts nets k pen₀ scratch₀ bytes₀ at₀ left₀ filled₀ at left filled scratch bytes pen
+    → 0 < left
+    → ((o : Occurrence) → Stands image at (occurrence_numbers o) → PlaceOf image at o place)
+    → (p : Plan) (ready : Ready p image starts nets k pen₀ scratch₀ bytes₀)
+    → Ahead image p.m p.later at₀ left₀ filled₀ p.m.occurrences
+    → Here ready at left filled scratch bytes pen place
+here walking some read p ready ahead = let g = walking p ready ahead in record { progress = g; turn = turn some g.ahead read }
+
+-- and of the one that the caller has. Its own occurrences are all ahead at first.
+pub own :
+    {image starts nets : List ℕ} {k : ℕ} {header : Header} {pen₀ : Pen} {scratch₀ bytes₀ : List ℕ} {at left filled : ℕ} {scratch bytes : List ℕ}
+    {pen : Pen} {place : Place} (w : SomeWalkable image starts nets k header pen₀ scratch₀ bytes₀)
+    → Walking image starts nets k pen₀ scratch₀ bytes₀ (header.to + 1) header.count header.inputs at left filled scratch bytes pen
+    → 0 < left
+    → ((o : Occurrence) → Stands image at (occurrence_numbers o) → PlaceOf image at o place)
+    → Here w.ready at left filled scratch bytes pen place
+own w walking some read = here walking some read w.plan w.ready (all-ahead (scene w.ready) w.header)
 
 module _
     {p : Plan} {image starts nets : List ℕ} {k : ℕ} {pen₀ : Pen} {scratch₀ bytes₀ : List ℕ}

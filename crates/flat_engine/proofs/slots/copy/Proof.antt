@@ -1,4 +1,4 @@
--- `flattener::slots::copy` meets its contract. The loop's invariant: what is copied and what is left to copy make up the whole. Assumes
+-- `flat_engine::slots::copy` meets its contract. The loop's invariant: what is copied and what is left to copy make up the whole. Assumes
 -- nothing.
 use Prim.Native.Nat.{◌-◌}
 use native.Mathlib.Omega.{arith}

@@ -1,4 +1,4 @@
--- `flattener::slots::number_inputs` meets its contract. The loop's invariant: the entries before place i are 0, 1, 2 and so on, and the
+-- `flat_engine::slots::number_inputs` meets its contract. The loop's invariant: the entries before place i are 0, 1, 2 and so on, and the
 -- next net is i. Assumes nothing.
 use Prim.Native.Nat.{◌-◌}
 use native.Mathlib.Omega.{arith}
