@@ -1,8 +1,9 @@
 -- `tell` meets its contract: the lent buffer has room for any text of such a file, or a list of the call's own has. Assumes nothing.
 use Prim.Native.Nat.{ℕ}
+use mathlib.Core.Path.{sym}
 use native.Mathlib.Omega.{arith}
 use borrow.Author.Rules.{rules}
-use lib.ListN.{length-replicate}
+use lib.ListN.{replicate, length-replicate}
 use Rattle.print_answer.proofs.Fits.{file-told, told_in_longest, told_straight}
 use Rattle.print_answer.proofs.tell.Statement.{statement}
 use Rattle.print_answer.proofs.tell.Tie as tie
@@ -26,11 +27,11 @@ returns-2 c t =
 
 tell-through-requires-2 : tie.Need-tell_through-requires-2
 tell-through-requires-2 c κs =
-    told_in_longest c.requires _ (length-replicate {A = ℕ} 393210 0)
+    told_in_longest c.requires (replicate 393210 0) (length-replicate {A = ℕ} 393210 0)
 
 returns-3 : tie.Need-returns
 returns-3 c t =
-    c.tell_through-2.ensures (told_in_longest t _ (length-replicate {A = ℕ} 393210 0))
+    c.tell_through-2.ensures (told_in_longest t (replicate 393210 0) (length-replicate {A = ℕ} 393210 0))
 
 pub tell_spec : {M : Type 1} → statement M
 tell_spec =
@@ -44,7 +45,7 @@ tell_spec =
     tell-through-requires
     (λ c. search rules)
     returns-2
-    (λ c. search rules)
+    (λ c. sym (length-replicate {A = ℕ} 393210 0))
     tell-through-requires-2
-    (λ c. search rules)
+    (λ c. c.tell_through-2.auto.out)
     returns-3)
