@@ -5,9 +5,6 @@ use Rattle.open_beside.specs.Rooms.{any-beside}
 use Rattle.call_print.proofs.print_long.Statement.{statement}
 use Rattle.call_print.proofs.print_long.Tie as tie
 
-abbrev listed : tie.After-print_in-arg-1 → tie.After-shared_slice_known-1
-listed c = c.before.before.before.before.before.before
-
 pub print_long_spec : {M : Type 1} → statement M
 print_long_spec =
     tie.close
@@ -16,6 +13,6 @@ print_long_spec =
     (λ c. search rules)
     (λ c. search rules)
     (λ c. search rules)
-    (λ c κs. any-beside _ (bytes-all _ (λ i. ((listed c).shared-slice-known.given i).fits)))
+    (λ c κs. any-beside _ (bytes-all _ (λ i. (c.shared_slice_known-1.given i).fits)))
     (λ c. search rules)
     (λ c. search rules))

@@ -4,9 +4,6 @@ use Rattle.open_beside.specs.Rooms.{short-beside}
 use Rattle.call_print.proofs.print_short.Statement.{statement}
 use Rattle.call_print.proofs.print_short.Tie as tie
 
-abbrev entered : tie.After-print_in-arg-1 → tie.Start
-entered c = c.before.before.before.before.before.before.before
-
 pub print_short_spec : {M : Type 1} → statement M
 print_short_spec =
     tie.close
@@ -15,6 +12,6 @@ print_short_spec =
     (λ c. search rules)
     (λ c. search rules)
     (λ c. search rules)
-    (λ c κs. short-beside _ (entered c).requires)
+    (λ c κs. short-beside _ c.requires)
     (λ c. search rules)
     (λ c. search rules))
