@@ -58,7 +58,7 @@ shared-slice-read-if1 c = let h = c.requires in (module_at h.m (stands-whole h.o
 returns : tie.Need-returns-then-numbers-lt16
 returns c =
     let h = c.requires in
-    gate (below_more _ (omega arith) h.earlier) c.if-numbers-lt16.true
+    gate (below_more _ (omega arith) h.earlier) (omega arith)
 
 -- Back to the function's entry from where the inputs end, and from where the outputs do.
 abbrev entered : tie.After-list_end-n → tie.Start
@@ -120,7 +120,7 @@ judge-ports-requires c κs =
 
 returns-2 : tie.Need-returns
 returns-2 c =
-    judged c.if-numbers-lt16.false c.list_end-n.ensures c.list_end-e.ensures c.judge_ports.ensures
+    judged (omega arith) c.list_end-n.ensures c.list_end-e.ensures c.judge_ports.ensures
 
 pub judge_head_spec : {M : Type 1} → statement M
 judge_head_spec =

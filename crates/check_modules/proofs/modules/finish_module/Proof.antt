@@ -48,11 +48,11 @@ returns c =
 
 returns-2 : tie.Need-returns-then-nets-gt4096
 returns-2 c =
-    many c.write_head.ensures c.if-not-write_head.false c.if-nets-gt4096.true
+    many c.write_head.ensures c.if-not-write_head.false (omega arith)
 
 returns-3 : tie.Need-returns-else-nets-gt4096
 returns-3 c =
-    fine c.write_head.ensures c.if-not-write_head.false c.if-nets-gt4096.false
+    fine c.write_head.ensures c.if-not-write_head.false (omega arith)
 
 pub finish_module_spec : {M : Type 1} → statement M
 finish_module_spec =
