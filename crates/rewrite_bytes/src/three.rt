@@ -18,6 +18,7 @@ pub struct Gate {
 }
 
 // The gate of two inputs that takes a pair of the arguments.
+#[tactic(auto, unfolding(meaning::specs::Withdrawn::pair_kind))]
 fn pair_kind(kind: u16) -> u16
     ensures { result ≡ pair_kind kind }
 {

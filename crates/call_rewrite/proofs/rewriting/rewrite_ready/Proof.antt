@@ -66,7 +66,7 @@ write-new-requires c κs =
       owned = says.owned;
       starts_long = o.held.shelved.started;
       offsets_long = r.offsets_long;
-      own_long = omega (arith, c.decide.kept.own, length-replicate {A = ℕ} 128 0);
+      own_long = omega (arith, c.decide.auto.own, length-replicate {A = ℕ} 128 0);
     }
 
 returns-3 : tie.Need-returns-in-Go

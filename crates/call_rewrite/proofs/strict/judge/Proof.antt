@@ -30,6 +30,6 @@ judge_spec =
     (λ c. search rules)
     (λ c. search rules)
     (λ c s.
-    sym (ap check_of (c.first_user.ensures (own-table s (omega (arith, c.count_fours.kept.own, long)) (c.count_fours.ensures (countable s long long))) ∙ ap (verdict_by 28) c.in-All.is)))
+    sym (ap check_of (c.first_user.ensures (own-table s (omega (arith, c.count_fours.auto.own, long)) (c.count_fours.ensures (countable s long long))) ∙ ap (verdict_by 28) c.in-All.is)))
     (λ c s.
-    sym (ap check_of (c.first_user.ensures (own-table s (omega (arith, c.count_fours.kept.own, long)) (c.count_fours.ensures (countable s long long))) ∙ ap (verdict_by 28) c.in-Broken.is))))
+    sym (ap check_of (c.first_user.ensures (own-table s (omega (arith, c.count_fours.auto.own, long)) (c.count_fours.ensures (countable s long long))) ∙ ap (verdict_by 28) c.in-Broken.is))))

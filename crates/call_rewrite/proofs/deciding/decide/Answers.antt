@@ -1,0 +1,105 @@
+-- The tables are those of the file in the image, and each test says what its ceiling comes to.
+use Rattle.std.proofs.Common.{ℕ, ◌≤◌, length, replicate, ap, ◌∙◌, arith}
+use lib.ListN.{length-replicate}
+use Rattle.meaning.specs.Reading.{most_modules}
+use Rattle.meaning.specs.Withdrawn.{rewrite_file}
+use Rattle.image.specs.Resolved.{resolve}
+use Rattle.rewrite_counts.specs.Fours.{Counted}
+use Rattle.rewrite_counts.specs.Ceilings.{verdict_by}
+use Rattle.call_rewrite.specs.Standing.{owns, own-table}
+use Rattle.call_rewrite.specs.Growing.{Grown}
+use Rattle.call_rewrite.proofs.Tables.{stood, growable, peopled, netted, sized, too_many, crowded, large, kept-all}
+use Rattle.call_rewrite.proofs.deciding.decide.Goals as goal
+use Rattle.call_rewrite.proofs.deciding.decide.Goals.{After-count_fours}
+
+long : most_modules ≤ length (replicate {A = ℕ} 128 0)
+long = omega (arith, length-replicate {A = ℕ} 128 0)
+
+pub count_fours-requires : goal.count_fours-requires
+count_fours-requires c = growable c.requires long
+
+module _
+    (c : After-count_fours) (g : Grown c.args.image.now c.args.starts.now c.args.nets.now c.args.sizes.now c.args.modules (length c.args.own.now))
+  where
+    wide : most_modules ≤ length c.count_fours.new.own
+    wide = omega (arith, g.own_long, c.count_fours.auto.own)
+
+    counted : Counted (resolve g.ms) 0 c.count_fours.new.own c.count_fours.new.reached
+    counted = c.count_fours.ensures (growable g long)
+
+pub first_user-requires : goal.first_user-requires
+first_user-requires c =
+    let g = c.requires in
+    let n = (goal.at.first_user-requires c).After-count_fours in
+    own-table (stood g) (wide n g) (counted n g)
+
+pub returns-in-All : goal.returns-in-All
+returns-in-All c g =
+    let n = (goal.at.returns-in-All c).After-count_fours in
+    record {
+      says = c.first_user.ensures (own-table (stood g) (wide n g) (counted n g)) ∙ ap (verdict_by 28) c.in-All.is;
+      owned = owns (stood g) (counted n g);
+    }
+
+pub few_occurrences-requires : goal.few_occurrences-requires
+few_occurrences-requires c =
+    let g = c.requires in
+    let n = (goal.at.few_occurrences-requires c).After-count_fours in
+    peopled g (wide n g) (counted n g)
+
+pub returns-then-not-few_occurrences : goal.returns-then-not-few_occurrences
+returns-then-not-few_occurrences c g =
+    let n = (goal.at.returns-then-not-few_occurrences c).After-count_fours in
+    record {
+      says = λ out.
+          too_many (rewrite_file g.ms) out (c.few_occurrences.ensures (peopled g (wide n g) (counted n g)) ∙ c.if-not-few_occurrences.true);
+      owned = owns (stood g) (counted n g);
+    }
+
+pub first_crowded-requires : goal.first_crowded-requires
+first_crowded-requires c =
+    let g = c.requires in
+    let n = (goal.at.first_crowded-requires c).After-count_fours in
+    netted g (wide n g) (counted n g)
+
+pub returns-in-Broken : goal.returns-in-Broken
+returns-in-Broken c g =
+    let n = (goal.at.returns-in-Broken c).After-count_fours in
+    let few = c.few_occurrences.ensures (peopled g (wide n g) (counted n g)) ∙ c.if-not-few_occurrences.false in
+    record {
+      says = λ out. crowded (rewrite_file g.ms) out few (c.first_crowded.ensures (netted g (wide n g) (counted n g))) c.in-Broken.is;
+      owned = owns (stood g) (counted n g);
+    }
+
+pub last_large-requires : goal.last_large-requires
+last_large-requires c =
+    let g = c.requires in
+    let n = (goal.at.last_large-requires c).After-count_fours in
+    sized g (wide n g) (counted n g)
+
+pub returns-in-Broken-last_large : goal.returns-in-Broken-last_large
+returns-in-Broken-last_large c g =
+    let n = (goal.at.returns-in-Broken-last_large c).After-count_fours in
+    let few = c.few_occurrences.ensures (peopled g (wide n g) (counted n g)) ∙ c.if-not-few_occurrences.false in
+    record {
+      says = λ out.
+          large (rewrite_file g.ms) out few (c.first_crowded.ensures (netted g (wide n g) (counted n g))) c.in-All-first_crowded.is
+          (c.last_large.ensures (sized g (wide n g) (counted n g)))
+          c.in-Broken-last_large.is;
+      owned = owns (stood g) (counted n g);
+    }
+
+pub returns-in-All-last_large : goal.returns-in-All-last_large
+returns-in-All-last_large c g =
+    let n = (goal.at.returns-in-All-last_large c).After-count_fours in
+    let few = c.few_occurrences.ensures (peopled g (wide n g) (counted n g)) ∙ c.if-not-few_occurrences.false in
+    record {
+      says = (
+        few,
+        λ out.
+            kept-all (rewrite_file g.ms) out few (c.first_crowded.ensures (netted g (wide n g) (counted n g))) c.in-All-first_crowded.is
+            (c.last_large.ensures (sized g (wide n g) (counted n g)))
+            c.in-All-last_large.is,
+      );
+      owned = owns (stood g) (counted n g);
+    }
