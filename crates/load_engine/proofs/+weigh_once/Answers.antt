@@ -182,8 +182,8 @@ keep-requires t c =
     let w = work-moved {entries' = length c.clear.new.scratch} s (omega (arith, s.loadable.room, c.clear.auto.scratch)) in
     let sofar = c.loop-left.invariant.0 w in
     let all =
-        all-loaded w.loadable _ (omega arith) sofar.0 (kept-behind w.loadable _ c.clear.ensures) c.largest.ensures
-        c.larger-load.ensures
+    all-loaded w.loadable _ (omega arith) sofar.0 (kept-behind w.loadable _ c.clear.ensures) c.largest.ensures
+    c.larger-load.ensures
     in
     keepable w.loadable sofar.1 all sofar.0.long (c.module_at-header.ensures _ (module_stands w.loadable.scene))
 
@@ -203,8 +203,8 @@ returns t c = record {
       let w = work-moved {entries' = length c.clear.new.scratch} w₀ (omega (arith, w₀.loadable.room, c.clear.auto.scratch)) in
       let sofar = c.loop-left.invariant.0 w in
       let all =
-          all-loaded w.loadable _ (omega arith) sofar.0 (kept-behind w.loadable _ c.clear.ensures) c.largest.ensures
-          c.larger-load.ensures
+      all-loaded w.loadable _ (omega arith) sofar.0 (kept-behind w.loadable _ c.clear.ensures) c.largest.ensures
+      c.larger-load.ensures
       in
       now-kept w.loadable sofar.1 all sofar.0.long (c.module_at-header.ensures _ (module_stands w.loadable.scene))
       c.keep.ensures c.keep.auto.loads;

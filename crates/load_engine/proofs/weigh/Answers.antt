@@ -21,8 +21,8 @@ weigh_once-weighed-requires c = record {
 pub returns : goal.returns
 returns c =
     let work =
-        λ (s : Loadable c.args.image.now c.args.starts.now c.args.nets.now c.args.k c.args.room).
-        none-worked (moved s (omega (arith, s.room, c.requires.room_in_bounds))) c.requires.image_in_bounds
+    λ (s : Loadable c.args.image.now c.args.starts.now c.args.nets.now c.args.k c.args.room).
+    none-worked (moved s (omega (arith, s.room, c.requires.room_in_bounds))) c.requires.image_in_bounds
     in
     record {
       most = λ s. (c.weigh_once-weighed.ensures.load (work s)).largest;

@@ -22,8 +22,8 @@ pub loop-i-preserved : goal.loop-i-preserved
 loop-i-preserved c =
     let here = next c.args.values.now c.loop-i.i c.loop-i-test.true in
     elim c.if-most-x.branch [
-      then-most-x w ↦ omega (arith, here, c.loop-i.invariant, w.if-most-x.true, w.most-is)
-    | else-most-x w ↦ omega (arith, here, c.loop-i.invariant, w.if-most-x.false, w.most-is)
+      | then-most-x w ↦ omega (arith, here, c.loop-i.invariant, w.if-most-x.true, w.most-is)
+      | else-most-x w ↦ omega (arith, here, c.loop-i.invariant, w.if-most-x.false, w.most-is)
     ]
 
 pub returns : goal.returns
