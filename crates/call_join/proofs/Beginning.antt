@@ -60,9 +60,6 @@ module _ {file : List ℕ} {modules : ℕ} {names places : List ℕ} (s : Shelve
   abbrev pub searchable : Searchable names modules
   searchable = record { ms = s.ms; all = s.all; listed = s.listed; name = λ k e. s.named.name k e }
 
-  pub few-modules : modules ≤ 128
-  few-modules = omega (arith, s.all, s.encodes.within.modules.count)
-
   -- Every number is below 16,384.
   pub name-small : (k : ℕ) → k < modules → get_or names k 0 < 16384
   name-small k h =
@@ -109,10 +106,6 @@ module _ {file : List ℕ} {modules : ℕ} {names places : List ℕ} (s : Shelve
 
 -- The house's modules behind the group's.
 module _ {house : List ℕ} {own : Gathered} {marks numbers bytes : List ℕ} (b : Begun house own marks numbers bytes) where
-  pub refused_house : (out : ℕ) (before : List ℕ) {number place : ℕ} → read house ≡ fails number place
-      → Joins (join_house b.own house out) before before (Refused 2 number place)
-  refused_house out before e = rw e (record { is = refl; out = refl })
-
   module _ {modules : ℕ} {names places : List ℕ} (s : Shelved house modules names places) where
     pub pieces-fit : own.at + length (each bytes_of (lacking b.own s.ms)) ≤ length bytes
     pieces-fit = omega (arith, b.room, lacking_shorter b.own s.ms, (modules-length s).0, (modules-length s).1)
@@ -164,9 +157,6 @@ module _ {group house numbers bytes : List ℕ} (spaces : Spaces group house num
   refused-group out before e = rw e (record { is = refl; out = refl })
 
   module _ {modules : ℕ} {names places : List ℕ} (s : Shelved group modules names places) where
-    pub rest-fits : 2 + length (take (length group - get_or places 0 0) (drop (get_or places 0 0) group)) ≤ length bytes
-    rest-fits = omega (arith, ap length (rest-is s), (modules-length s).0, (modules-length s).1, spaces.bytes_fit)
-
     abbrev pub begun :
         {numbers' marks bytes' : List ℕ} {at : ℕ}
         → length numbers' ≡ length numbers

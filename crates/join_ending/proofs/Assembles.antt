@@ -36,9 +36,6 @@ module _ {all : Gathered} {bytes : List ℕ} (a : Assembled all bytes) where
   pub assembled-length : length bytes ≡ length a.before
   assembled-length = length-put a.put (omega (arith, end_after, a.room)) a.room
 
-  pub too_many : (out : ℕ) (before : List ℕ) → 128 < all.modules → Joins (neither (join_on out a.ms)) before before (Refused 0 4 0)
-  too_many out before many = rw (lt-leb (length a.ms) most_modules (omega (arith, a.count))) (record { is = refl; out = refl })
-
   module _ (few : all.modules ≤ 128) where
     pub room_for_count : 1 - all.modules / 128 + length (number_bytes all.modules) ≤ length bytes
     room_for_count = omega (arith, count-bytes all.modules few, assembled-length, end_after, a.room)
