@@ -40,7 +40,7 @@ pub returns-then-out-outputs : goal.returns-then-out-outputs
 returns-then-out-outputs c s =
     let fed = c.if-values-header.false ∙ inputs_are s c.module_at-header.ensures in
     let is = outputs-are s c.module_at-header.ensures in
-    out-short s _ _ _ fed (none_above _ c.first_above-above.ensures c.if-above-values.false) c.if-scratch-room.false
+    out-short s _ _ _ fed (none_above _ c.first_above-above.ensures c.if-above-values.false) (omega arith)
     (omega (arith, is, c.if-out-outputs.true))
 
 pub evaluate-requires : goal.evaluate-requires

@@ -1,6 +1,6 @@
 use borrow.Author.Rules.{rules}
 use mathlib.Core.Path.{ap}
-use Rattle.call_count.specs.declared.answers.Counted.{Counted}
+use Rattle.call_count.specs.declared.counts.Counted.{Counted}
 use Rattle.answers.specs.declared.Writing.TheVariants as writing
 use Rattle.answers.specs.declared.Listed.TheVariants as listed
 use Rattle.answers.specs.declared.Named.TheVariants as named
