@@ -1,5 +1,5 @@
 use Prim.Native.Nat.{ℕ}
-use mathlib.Core.Path.{sym}
+use mathlib.Core.Path.{sym, ◌∙◌}
 use lib.ListN.{length-replicate}
 use Rattle.call_text.specs.Rooms.{long-numbers}
 use borrow.Author.Rules.{rules}
@@ -13,7 +13,7 @@ read-long-requires : tie.Need-read_long-extent-requires
 read-long-requires c κs = long-numbers _ c.requires
 
 slice-aggregate-after-reading : tie.Need-slice_bounds-after_reading-end
-slice-aggregate-after-reading c = search rules
+slice-aggregate-after-reading c = sym (c.read_long-extent.auto.numbers ∙ length-replicate {A = ℕ} 524290 0)
 
 after-reading-requires : tie.Need-after_reading-requires
 after-reading-requires c κs = search rules
