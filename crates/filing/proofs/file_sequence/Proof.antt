@@ -18,12 +18,12 @@ returns-2 c =
 returns-3 : tie.Need-returns-then-sequence-gt65535
 returns-3 c =
     let a = c.args in
-    sequence_over a.sequence.now a.letters a.table.now c.if-letters-lt1.false (omega (arith, c.in-1-to-16.if-letters-lt17-own.true)) c.if-sequence-gt65535.true
+    sequence_over a.sequence.now a.letters a.table.now (omega arith) (omega arith) c.if-sequence-gt65535.true
 
 returns-4 : tie.Need-returns-then-table-ne33
 returns-4 c =
     let a = c.args in
-    table-other a.sequence.now a.letters a.table.now c.if-letters-lt1.false (omega (arith, c.in-1-to-16.if-letters-lt17-own.true)) c.if-sequence-gt65535.false
+    table-other a.sequence.now a.letters a.table.now (omega arith) (omega arith) c.if-sequence-gt65535.false
     c.if-table-ne33.true
 
 first-other-requires : tie.Need-first_other-place-requires
@@ -32,7 +32,7 @@ first-other-requires c κs = search rules
 returns-5 : tie.Need-returns-then-place-sequence
 returns-5 c =
     let a = c.args in
-    sequence_other a.sequence.now a.letters a.table.now c.if-letters-lt1.false (omega (arith, c.in-1-to-16.if-letters-lt17-own.true)) c.if-sequence-gt65535.false
+    sequence_other a.sequence.now a.letters a.table.now (omega arith) (omega arith) c.if-sequence-gt65535.false
     c.if-table-ne33.false _ c.first_other-place.ensures c.if-place-sequence.true
 
 fill-requires : tie.Need-fill-requires
@@ -44,7 +44,7 @@ same_length c = search rules
 returns-6 : tie.Need-returns
 returns-6 c =
     let a = c.args in
-    sequence_filed a.sequence.now a.letters a.table.now c.if-letters-lt1.false (omega (arith, c.in-1-to-16.if-letters-lt17-own.true)) c.if-sequence-gt65535.false
+    sequence_filed a.sequence.now a.letters a.table.now (omega arith) (omega arith) c.if-sequence-gt65535.false
     c.if-table-ne33.false _ _ (omega (arith, c.first_other-place.ensures, c.if-place-sequence.false)) c.fill.ensures.0 c.fill.ensures.1
 
 pub file_sequence_spec : {M : Type 1} → statement M

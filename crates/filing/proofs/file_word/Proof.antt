@@ -16,14 +16,14 @@ first-other-requires c κs = search rules
 
 returns-3 : tie.Need-returns-then-place-letters
 returns-3 c =
-    word-other c.args.word.now c.if-letters-lt1.false (omega (arith, c.in-1-to-16.if-letters-lt17-own.true)) _ c.first_other-place.ensures c.if-place-letters.true
+    word-other c.args.word.now (omega arith) (omega arith) _ c.first_other-place.ensures c.if-place-letters.true
 
 shelf-of-requires : tie.Need-shelf_of-requires
 shelf-of-requires c κs = search rules
 
 returns-4 : tie.Need-returns
 returns-4 c =
-    word-filed c.args.word.now c.if-letters-lt1.false (omega (arith, c.in-1-to-16.if-letters-lt17-own.true)) _
+    word-filed c.args.word.now (omega arith) (omega arith) _
     (omega (arith, c.first_other-place.ensures, c.if-place-letters.false)) c.shelf_of.ensures
 
 pub file_word_spec : {M : Type 1} → statement M
