@@ -1,22 +1,14 @@
--- What is answered of a file's verdict, and document 01's number and place for each case. Success is number 0 with place 0.
-use Rattle.std.specs.Prelude.{ℕ, ◌≡◌, List}
+-- What is answered of a file's verdict.
+use Rattle.std.specs.Prelude.{ℕ, ◌≡◌, Result, Ok, Err, List}
 use Rattle.std.proofs.Common.{sym, ◌∙◌}
 use Rattle.meaning.specs.Verdict.{Verdict, good, refused, verdict}
-use Rattle.answers.specs.declared.Checked.{Checked}
-use Rattle.answers.specs.declared.Checked.TheVariants.{Good, Broken}
+use Rattle.refusals.specs.Refused.{refusal_at}
+use Rattle.refusals.specs.declared.Refusal.{Refusal}
 
-abbrev pub check_of : Verdict → Checked
-check_of good = Good
-check_of (refused number place) = Broken number place
-
-abbrev pub checked_number : Checked → ℕ
-checked_number Good = 0
-checked_number (Broken number place) = number
-
-abbrev pub checked_place : Checked → ℕ
-checked_place Good = 0
-checked_place (Broken number place) = place
+abbrev pub check_of : Verdict → Result Unit Refusal
+check_of good = Ok tt
+check_of (refused number place) = Err (refusal_at number place)
 
 -- The check's contract is an equation, so any two outcomes that it permits coincide.
-pub one-verdict : (file : List ℕ) {result result' : Checked} → result ≡ check_of (verdict file) → result' ≡ check_of (verdict file) → result ≡ result'
+pub one-verdict : (file : List ℕ) {result result' : Result Unit Refusal} → result ≡ check_of (verdict file) → result' ≡ check_of (verdict file) → result ≡ result'
 one-verdict file one other = one ∙ sym other

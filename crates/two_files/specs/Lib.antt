@@ -1,0 +1,2 @@
+-- Whose file a refusal is about.
+pub mod Whose
