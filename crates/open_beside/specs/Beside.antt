@@ -1,15 +1,13 @@
 -- A file made ready for calls, whose own numbers and places are kept beside its image.
-use Rattle.std.specs.Prelude.{ℕ, ◌≤◌, min, ◌≡◌, List, length, take}
+use Rattle.std.specs.Prelude.{ℕ, ◌≤◌, min, ◌≡◌, List, length, take, Result, Ok, Err}
 use Rattle.std.proofs.Common.{ap, subst, ◌∙◌, arith, length-take}
 use Rattle.meaning.specs.Layout.{file_numbers}
 use Rattle.meaning.specs.Reading.{most_bytes, most_modules}
 use Rattle.meaning.specs.Verdict.{refused, verdict}
 use Rattle.read_file.specs.Held.{Held}
 use Rattle.open_file.specs.Prepared.{Space, Opened}
-use Rattle.open_file.specs.declared.Prepared.{Prepared}
-use Rattle.open_file.specs.declared.Prepared.TheVariants as prepared
-use Rattle.open_beside.specs.declared.Beside.{Beside}
-use Rattle.open_beside.specs.declared.Beside.TheVariants.{Ready, Refused}
+use Rattle.read_file.specs.declared.Extent.{Extent}
+use Rattle.refusals.specs.declared.Refusal.{Refusal}
 
 -- Space for the work, and lists that are long enough for what is kept.
 pub record SpaceBeside (file numbers offsets image starts names nets sizes rooms first slots : List ℕ) : Type 0 where
@@ -24,14 +22,15 @@ pub record OpenedBeside (file : List ℕ) (modules count : ℕ) (numbers offsets
   pub many : count ≡ length (file_numbers opened.ms)
 
 -- What preparing comes to, with the count of numbers.
-abbrev pub beside_of : Prepared → (count : ℕ) → Beside
-beside_of (prepared.Ready modules) count = Ready modules count
-beside_of (prepared.Refused number place) count = Refused number place
+abbrev pub beside_of : Result ℕ Refusal → (count : ℕ) → Result Extent Refusal
+beside_of (Ok modules) count = Ok (record { modules = modules; numbers = count })
+beside_of (Err refusal) count = Err refusal
 
-abbrev pub PreparesBeside : Beside → (file numbers offsets image starts names nets sizes rooms : List ℕ) → Type 0
-PreparesBeside (Ready modules count) file numbers offsets image starts names nets sizes rooms =
-    OpenedBeside file modules count numbers offsets image starts names nets sizes rooms
-PreparesBeside (Refused number place) file numbers offsets image starts names nets sizes rooms = verdict file ≡ refused number place
+abbrev pub PreparesBeside : Result Extent Refusal → (file numbers offsets image starts names nets sizes rooms : List ℕ) → Type 0
+PreparesBeside (Ok extent) file numbers offsets image starts names nets sizes rooms =
+    OpenedBeside file extent.modules extent.numbers numbers offsets image starts names nets sizes rooms
+PreparesBeside (Err refusal) file numbers offsets image starts names nets sizes rooms =
+    verdict file ≡ refused refusal.number refusal.place
 
 -- The list begins with the file's numbers.
 module _ {file : List ℕ} {modules count : ℕ} {numbers offsets image starts names nets sizes rooms : List ℕ}
@@ -43,10 +42,10 @@ module _ {file : List ℕ} {modules count : ℕ} {numbers offsets image starts n
   numbers-inside = omega (arith, ap length numbers-are, o.many, length-take count numbers)
 
 -- What preparing says of its answer.
-module _ (file numbers offsets image starts names nets sizes rooms : List ℕ) (r : Beside)
+module _ (file numbers offsets image starts names nets sizes rooms : List ℕ) (r : Result Extent Refusal)
     (p : PreparesBeside r file numbers offsets image starts names nets sizes rooms) where
-  pub opened-beside : (modules count : ℕ) → r ≡ Ready modules count → OpenedBeside file modules count numbers offsets image starts names nets sizes rooms
-  opened-beside modules count e = subst (λ (x : Beside). PreparesBeside x file numbers offsets image starts names nets sizes rooms) e p
+  pub opened-beside : (extent : Extent) → r ≡ Ok extent → OpenedBeside file extent.modules extent.numbers numbers offsets image starts names nets sizes rooms
+  opened-beside extent e = subst (λ (x : Result Extent Refusal). PreparesBeside x file numbers offsets image starts names nets sizes rooms) e p
 
-  pub broken-beside : (number place : ℕ) → r ≡ Refused number place → verdict file ≡ refused number place
-  broken-beside number place e = subst (λ (x : Beside). PreparesBeside x file numbers offsets image starts names nets sizes rooms) e p
+  pub broken-beside : (refusal : Refusal) → r ≡ Err refusal → verdict file ≡ refused refusal.number refusal.place
+  broken-beside refusal e = subst (λ (x : Result Extent Refusal). PreparesBeside x file numbers offsets image starts names nets sizes rooms) e p

@@ -14,7 +14,7 @@ Workable file numbers image first slots =
     let by_position = replicate {A = ℕ} most_modules 0 in
     SpaceBeside file numbers (replicate 129 0) image by_position by_position by_position by_position by_position first slots
 
-beside : {file : List ℕ} (entries bound : ℕ) → Clear file entries bound
+pub beside : {file : List ℕ} (entries bound : ℕ) → Clear file entries bound
     → Workable file (replicate entries 0) (replicate entries 0) (replicate bound 0) (replicate bound 0)
 beside entries bound clear =
     record { space = clear; numbers_long = clear.image_long; offsets_long = omega (arith, length-replicate {A = ℕ} 129 0) }

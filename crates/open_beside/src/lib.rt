@@ -6,19 +6,10 @@ ghost use Rattle.std.specs.Prelude.{List, ◌≡◌, length};
 ghost use Rattle.meaning.specs.Syntax.{Module};
 ghost use Rattle.check_steps.specs.Found.{Laidout};
 ghost use Rattle.check_files.specs.Files.{FileReady, FileFound};
-ghost use Rattle.open_file.specs.Prepared.{prepared_of};
-ghost use Rattle.open_beside.specs.Beside.{beside_of, SpaceBeside, PreparesBeside};
+ghost use Rattle.open_beside.specs.Beside.{SpaceBeside, PreparesBeside};
 
-use check_steps::found::Found;
-use open_file::Prepared;
-use read_file::Reading;
-
-// Ready, with its counts of modules and of numbers; or the refusal.
-#[derive(Clone, Copy)]
-pub enum Beside {
-    Ready { modules: usize, numbers: usize },
-    Refused { number: u16, place: usize },
-}
+use read_file::Extent;
+use refusals::Refusal;
 
 // A list becomes another.
 fn copy(source: &[u16], target: &mut [u16])
@@ -42,7 +33,7 @@ fn check_copy(
     nets: &mut [usize],
     sizes: &mut [u32],
     rooms: &mut [u32],
-) -> Found
+) -> Result<(), Refusal>
     requires file_ready { FileReady numbers.now starts.now modules first.old slots.old names.old nets.old sizes.old rooms.old }
     requires image_len { length image.old ≡ length numbers.now }
     ensures { (ms : List Module) → Laidout numbers.now starts.now modules ms → FileFound result ms image.new names.new nets.new sizes.new rooms.new }
@@ -51,16 +42,6 @@ fn check_copy(
     check_files::files::check_modules(
         image, starts, modules, first, slots, names, nets, sizes, rooms,
     )
-}
-
-// What was found, as an answer on the file of so many modules and numbers.
-fn answered(found: Found, modules: usize, numbers: usize) -> Beside
-    ensures { result ≡ beside_of (prepared_of found modules) numbers }
-{
-    match open_file::judged(found, modules) {
-        Prepared::Refused { number, place } => Beside::Refused { number, place },
-        Prepared::Ready(modules) => Beside::Ready { modules, numbers },
-    }
 }
 
 // Reads a file, checks it and measures its modules. Its numbers, and where its modules begin in them and in its bytes, stay in lists.
@@ -76,29 +57,22 @@ pub fn prepare(
     rooms: &mut [u32],
     first: &mut [u16],
     slots: &mut [u32],
-) -> Beside
+) -> Result<Extent, Refusal>
     requires { SpaceBeside file.now numbers.old offsets.old image.old starts.old names.old nets.old sizes.old rooms.old first.old slots.old }
     ensures { PreparesBeside result file.now numbers.new offsets.new image.new starts.new names.new nets.new sizes.new rooms.new }
 {
-    match read_file::read(file, numbers, starts, offsets) {
-        Reading::Refused { number, place } => Beside::Refused { number, place },
-        Reading::Read {
-            modules,
-            numbers: count,
-        } => {
-            let found = check_copy(
-                &numbers[..count],
-                &mut image[..count],
-                starts,
-                modules,
-                first,
-                slots,
-                names,
-                nets,
-                sizes,
-                rooms,
-            );
-            answered(found, modules, count)
-        }
-    }
+    let extent = read_file::read(file, numbers, starts, offsets)?;
+    check_copy(
+        &numbers[..extent.numbers],
+        &mut image[..extent.numbers],
+        starts,
+        extent.modules,
+        first,
+        slots,
+        names,
+        nets,
+        sizes,
+        rooms,
+    )?;
+    Ok(extent)
 }

@@ -1,5 +1,5 @@
 -- What a file that was made ready, or refused, says of a call.
-use Rattle.std.specs.Prelude.{ℕ, ◌<◌, ◌≡◌, refl, List, length}
+use Rattle.std.specs.Prelude.{ℕ, ◌<◌, ◌≡◌, refl, List, length, Result, Ok, Err}
 use Rattle.std.proofs.Common.{sym, ap, subst, ◌∙◌, arith, length-drop}
 use Rattle.meaning.specs.Syntax.{Module}
 use Rattle.meaning.specs.Boxlist.{F, assoc}
@@ -14,8 +14,7 @@ use Rattle.open_finding.specs.Here.{Here}
 use Rattle.open_finding.specs.Finding.{Searchable, FoundAt, site_of}
 use Rattle.open_finding.specs.Standing.{Standing, fits}
 use Rattle.open_file.specs.Prepared.{Opened, Prepares}
-use Rattle.open_file.specs.declared.Prepared.{Prepared}
-use Rattle.open_file.specs.declared.Prepared.TheVariants.{Ready, Refused}
+use Rattle.refusals.specs.declared.Refusal.{Refusal}
 
 -- A file that is refused ends every call.
 pub refused-ends :
@@ -85,9 +84,9 @@ module _ {file : List ℕ} {modules : ℕ} {image starts names nets sizes rooms 
       asks_of ask = asks (λ ms. on_module (assoc number ms) (ask ms)) ∙ rw f.found
 
 -- What preparing says of its answer.
-module _ (file image starts names nets sizes rooms : List ℕ) (r : Prepared) (p : Prepares r file image starts names nets sizes rooms) where
-  pub opened : (modules : ℕ) → r ≡ Ready modules → Opened file modules image starts names nets sizes rooms
-  opened modules e = subst (λ (x : Prepared). Prepares x file image starts names nets sizes rooms) e p
+module _ (file image starts names nets sizes rooms : List ℕ) (r : Result ℕ Refusal) (p : Prepares r file image starts names nets sizes rooms) where
+  pub opened : (modules : ℕ) → r ≡ Ok modules → Opened file modules image starts names nets sizes rooms
+  opened modules e = subst (λ (x : Result ℕ Refusal). Prepares x file image starts names nets sizes rooms) e p
 
-  pub broken : (number place : ℕ) → r ≡ Refused number place → verdict file ≡ refused number place
-  broken number place e = subst (λ (x : Prepared). Prepares x file image starts names nets sizes rooms) e p
+  pub broken : (why : Refusal) → r ≡ Err why → verdict file ≡ refused why.number why.place
+  broken why e = subst (λ (x : Result ℕ Refusal). Prepares x file image starts names nets sizes rooms) e p

@@ -1,5 +1,5 @@
 -- A file made ready for calls: read, checked and measured.
-use Rattle.std.specs.Prelude.{ℕ, ◌+◌, ◌≤◌, min, ◌≡◌, List, ◌∷◌, length, get_or, drop}
+use Rattle.std.specs.Prelude.{ℕ, Result, Ok, Err, ◌+◌, ◌≤◌, min, ◌≡◌, List, ◌∷◌, length, get_or, drop}
 use Rattle.meaning.specs.Syntax.{Module}
 use Rattle.meaning.specs.Layout.{file_numbers}
 use Rattle.meaning.specs.Limits.{net_count, body_size, expanded_size}
@@ -9,11 +9,9 @@ use Rattle.meaning.specs.Verdict.{refused, verdict}
 use Rattle.nets.specs.Slots.{Below}
 use Rattle.check_lists.specs.Numbering.{Naming}
 use Rattle.check_lists.specs.Scene.{Indexes}
-use Rattle.check_steps.specs.declared.found.Found.{Found}
-use Rattle.check_steps.specs.declared.found.Found.TheVariants.{Fine, Over, Broken}
+use Rattle.check_steps.specs.Found.{Found}
+use Rattle.refusals.specs.declared.Refusal.{Refusal}
 use Rattle.open_finding.specs.Standing.{Held}
-use Rattle.open_file.specs.declared.Prepared.{Prepared}
-use Rattle.open_file.specs.declared.Prepared.TheVariants.{Ready, Refused}
 
 -- The lists that the work is done in are long enough for the file, its numbers are indices of the two tables, and nothing is entered in
 -- the tables yet.
@@ -42,15 +40,14 @@ pub record Opened (file : List ℕ) (modules : ℕ) (image starts names nets siz
   pub sizes_are : (k : ℕ) (m : Module) (later : List Module) → drop k ms ≡ m ∷ later → get_or sizes k 0 ≡ body_size (expanded_size later) m.occurrences
   pub rooms_are : (k : ℕ) (m : Module) (later : List Module) → drop k ms ≡ m ∷ later → get_or rooms k 0 ≡ net_count m + largest_referred (room later) m.occurrences
 
--- What the check found, as an answer on the file: a size over its limit is 17.
-abbrev pub prepared_of : Found → (modules : ℕ) → Prepared
-prepared_of Fine modules = Ready modules
-prepared_of (Over place) modules = Refused 17 place
-prepared_of (Broken rule place) modules = Refused rule place
+-- What the check found, as an answer on the file of so many modules.
+abbrev pub prepared_of : Found → (modules : ℕ) → Result ℕ Refusal
+prepared_of (Ok fine) modules = Ok modules
+prepared_of (Err refusal) modules = Err refusal
 
-abbrev pub Prepares : Prepared → (file image starts names nets sizes rooms : List ℕ) → Type 0
-Prepares (Ready modules) file image starts names nets sizes rooms = Opened file modules image starts names nets sizes rooms
-Prepares (Refused number place) file image starts names nets sizes rooms = verdict file ≡ refused number place
+abbrev pub Prepares : Result ℕ Refusal → (file image starts names nets sizes rooms : List ℕ) → Type 0
+Prepares (Ok modules) file image starts names nets sizes rooms = Opened file modules image starts names nets sizes rooms
+Prepares (Err refusal) file image starts names nets sizes rooms = verdict file ≡ refused refusal.number refusal.place
 
 -- Some file stands ready in the lists.
 pub record Open (image starts names nets sizes rooms : List ℕ) (modules : ℕ) : Type 0 where

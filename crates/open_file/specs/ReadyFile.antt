@@ -1,5 +1,5 @@
 -- From what reading leaves to the check of the modules, and from what that found to the answer on the file.
-use Rattle.std.specs.Prelude.{ℕ, ◌≤◌, ◌<◌, ◌≡◌, List, ◌∷◌, ◌++◌, get_or, take, drop}
+use Rattle.std.specs.Prelude.{ℕ, ◌≤◌, ◌<◌, ◌≡◌, List, ◌∷◌, ◌++◌, get_or, take, drop, Result, Ok, Err}
 use Rattle.std.proofs.Common.{sym, subst, ◌∙◌, append_assoc, arith, length-append}
 use Rattle.std.proofs.Math.Path.{ap}
 use Rattle.std.proofs.Math.ListN.{length, length-drop}
@@ -15,21 +15,19 @@ use Rattle.image.specs.Stands.{Stands}
 use Rattle.image.specs.Pieces.{moved}
 use Rattle.image.specs.Resolved.{refer_to, resolve_module, resolve}
 use Rattle.image.specs.ResolvedLayout.{start_of, stands-at-start, start-of-resolved, resolved-at}
+use Rattle.refusals.specs.declared.Refusal.{Refusal}
 use Rattle.read_file.specs.Answer.{Decoded}
 use Rattle.read_file.specs.Held.{Held, held, IsRead, is_read, is-refused}
-use Rattle.read_file.specs.declared.Reading.{Reading}
-use Rattle.check_steps.specs.Found.{Laidout}
+use Rattle.read_file.specs.declared.Extent.{Extent}
+use Rattle.check_steps.specs.Found.{Found, Laidout}
 use Rattle.check_files.specs.Files.{FileReady, FileFound}
-use Rattle.check_steps.specs.declared.found.Found.{Found}
-use Rattle.check_steps.specs.declared.found.Found.TheVariants.{Fine, Over, Broken}
 use Rattle.open_file.specs.Prepared.{Space, prepared_of, Prepares}
-use Rattle.open_file.specs.declared.Prepared.{Prepared}
 
 -- A refusal of reading is the file's verdict.
-pub read-refused : {file numbers numbers' starts starts' offsets offsets' : List ℕ} {reading : Reading} (number place : ℕ) → Decoded file numbers numbers' starts starts' offsets offsets' reading
-    → reading ≡ Reading.Refused number place → verdict file ≡ refused number place
+pub read-refused : {file numbers numbers' starts starts' offsets offsets' : List ℕ} {reading : Result Extent Refusal} {refusal : Refusal} → Decoded file numbers numbers' starts starts' offsets offsets' reading
+    → reading ≡ Err refusal → verdict file ≡ refused refusal.number refusal.place
 unfolding verdict
-read-refused {file} number place d e = ap verdict_of (is-refused {file = read file} {number = number} {place = place} (sym e ∙ d.answers))
+read-refused {file} {refusal} d e = ap verdict_of (is-refused {file = read file} {refusal = refusal} (sym e ∙ d.answers))
 
 -- What stands in a list stands in it whatever follows.
 stands-before : {im : List ℕ} (rest : List ℕ) {at : ℕ} {xs : List ℕ} → Stands im at xs → Stands (im ++ rest) at xs
@@ -52,9 +50,15 @@ stands-resolved :
 stands-resolved ms is k begins e =
     rw is (moved (start_of (resolve ms) k) (begins ∙ sym (start-of-resolved ms k)) (stands-at-start (resolve ms) k (resolved-at ms k e)))
 
-module _ {file numbers numbers' starts starts' offsets offsets' : List ℕ} {reading : Reading} (bytes : Bytes file)
-    (d : Decoded file numbers numbers' starts starts' offsets offsets' reading) (modules count : ℕ) (e : reading ≡ Reading.Read modules count)
+module _ {file numbers numbers' starts starts' offsets offsets' : List ℕ} {reading : Result Extent Refusal} (bytes : Bytes file)
+    (d : Decoded file numbers numbers' starts starts' offsets offsets' reading) {extent : Extent} (e : reading ≡ Ok extent)
   where
+    abbrev pub modules : ℕ
+    modules = extent.modules
+
+    abbrev pub count : ℕ
+    count = extent.numbers
+
     it : IsRead (read file) modules count
     it = is_read (sym e ∙ d.answers)
 
@@ -138,9 +142,8 @@ module _ {file numbers numbers' starts starts' offsets offsets' : List ℕ} {rea
         answer : (r : Found) → FileFound r ms image' names' nets' sizes' rooms'
             → Prepares (prepared_of r modules) file (image' ++ behind) starts' names' nets' sizes' rooms'
         unfolding verdict
-        answer (Broken rule place) f = ap verdict_of reads ∙ f.outcome
-        answer (Over place) f = ap verdict_of reads ∙ f.outcome
-        answer Fine f =
+        answer (Err r) f = ap verdict_of reads ∙ f.outcome
+        answer (Ok fine) f =
             let few = within.modules.count in
             let o = f.outcome in
             record {
@@ -170,7 +173,7 @@ module _ {file numbers numbers' starts starts' offsets offsets' : List ℕ} {rea
             }
 
         pub answered :
-            {r : Found} {prepared : Prepared}
+            {r : Found} {prepared : Result ℕ Refusal}
             → ((ms : List Module) → Laidout (take count numbers') starts' modules ms → FileFound r ms image' names' nets' sizes' rooms')
             → prepared ≡ prepared_of r modules
             → Prepares prepared file (image' ++ behind) starts' names' nets' sizes' rooms'

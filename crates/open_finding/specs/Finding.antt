@@ -1,11 +1,9 @@
 -- Where the module of a number stands.
-use Rattle.std.specs.Prelude.{ℕ, ◌≤◌, ◌≡◌, List, ◌∷◌, length, get_or, drop}
+use Rattle.std.specs.Prelude.{ℕ, ◌≤◌, ◌≡◌, List, ◌∷◌, length, get_or, drop, Option, Some, None}
 use Rattle.meaning.specs.Syntax.{Module}
 use Rattle.meaning.specs.Boxlist.{F, box, assoc}
 use Rattle.image.specs.Resolved.{position_of}
 use Rattle.open_finding.specs.declared.Site.{Site}
-use Rattle.open_finding.specs.declared.Place.{Place}
-use Rattle.open_finding.specs.declared.Place.TheVariants.{At, Nowhere}
 
 -- The modules' numbers are in a list by their positions.
 pub record Searchable (names : List ℕ) (modules : ℕ) : Type 0 where
@@ -23,9 +21,9 @@ pub record FoundAt (ms : List Module) (number k : ℕ) : Type 0 where
   pub found : assoc number ms ≡ box m
   pub placed : position_of number ms ≡ k
 
-abbrev pub Finds : Place → (ms : List Module) → (number : ℕ) → Type 0
-Finds (At k) ms number = FoundAt ms number k
-Finds Nowhere ms number = assoc number ms ≡ F
+abbrev pub Finds : Option ℕ → (ms : List Module) → (number : ℕ) → Type 0
+Finds (Some k) ms number = FoundAt ms number k
+Finds None ms number = assoc number ms ≡ F
 
 -- A module where it stands, as the tables have it.
 abbrev pub site_of : (position number : ℕ) (sizes rooms : List ℕ) → Site

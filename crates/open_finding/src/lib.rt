@@ -3,19 +3,13 @@
 
 ghost use Rattle.std.specs.Prelude.{◌<◌, ◌≡◌, length, drop};
 ghost use Rattle.meaning.specs.Calls.{first_number};
-ghost use Rattle.answers.specs.Contents.{named_of};
+ghost use Rattle.answers.specs.Contents.{found_of};
 ghost use Rattle.open_finding.specs.Finding.{Searchable, Finds, site_of};
 
-use answers::Named;
-
-#[derive(Clone, Copy)]
-pub enum Place {
-    At(usize),
-    Nowhere,
-}
+use refusals::Refusal;
 
 // A module where it stands, and what was measured of it.
-#[derive(Clone, Copy)]
+#[derive(Clone, Copy, PartialEq, Eq, Debug)]
 pub struct Site {
     pub position: usize,
     pub number: u16,
@@ -24,32 +18,30 @@ pub struct Site {
 }
 
 // Which module a number means: the first that has it.
-pub fn find(names: &[u16], modules: usize, number: u16) -> Place
+pub fn find(names: &[u16], modules: usize, number: u16) -> Option<usize>
     requires { Searchable names.now modules }
     ensures { (s : Searchable names.now modules) → Finds result s.ms number }
 {
-    let mut k = 0;
-    while k < modules {
+    for k in 0..modules {
         if names[k] == number {
-            return Place::At(k);
+            return Some(k);
         }
-        k += 1;
     }
-    Place::Nowhere
+    None
 }
 
 // The number of the module at a position; 18 where the file has no such position.
-pub fn number_at(names: &[u16], modules: usize, position: usize) -> Named
+pub fn number_at(names: &[u16], modules: usize, position: usize) -> Result<u16, Refusal>
     requires { Searchable names.now modules }
-    ensures { (s : Searchable names.now modules) → result ≡ named_of (first_number (drop position s.ms)) }
+    ensures { (s : Searchable names.now modules) → result ≡ found_of (first_number (drop position s.ms)) }
 {
     if position < modules {
-        Named::Number(names[position])
+        Ok(names[position])
     } else {
-        Named::Refused {
+        Err(Refusal {
             number: 18,
             place: 0,
-        }
+        })
     }
 }
 

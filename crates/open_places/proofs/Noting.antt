@@ -14,7 +14,9 @@ use Rattle.image.specs.ResolvedLayout.{start_of, stands-at-start}
 use Rattle.open_finding.specs.Here.{here-at}
 use Rattle.read_file.specs.Answer.{Decoded}
 use Rattle.read_file.specs.Held.{Held, held, IsRead, is_read}
-use Rattle.read_file.specs.declared.Reading.{Reading}
+use Rattle.read_file.specs.declared.Extent.{Extent}
+use Rattle.refusals.specs.declared.Refusal.{Refusal}
+use Rattle.std.specs.Prelude.{Result, Ok}
 use Rattle.open_places.specs.Places.{Headed, Named, Shelved}
 use Rattle.open_places.specs.Ends.{begins_with_end}
 
@@ -43,10 +45,13 @@ module _ {file numbers starts places : List ℕ} {ms : List Module} (held : Held
       ∙ get_or-append (file_numbers ms) (drop (length (file_numbers ms)) numbers) 0 (start_of ms k) at-start.inside
       ∙ at-start.number
 
-module _ {file numbers numbers' starts starts' places places' : List ℕ} {reading : Reading} (bytes : Bytes file)
-    (d : Decoded file numbers numbers' starts starts' places places' reading) (modules count : ℕ) (e : reading ≡ Reading.Read modules count)
+module _ {file numbers numbers' starts starts' places places' : List ℕ} {reading : Result Extent Refusal} (bytes : Bytes file)
+    (d : Decoded file numbers numbers' starts starts' places places' reading) {extent : Extent} (e : reading ≡ Ok extent)
   where
-    it : IsRead (read file) modules count
+    abbrev pub modules : ℕ
+    modules = extent.modules
+
+    it : IsRead (read file) extent.modules extent.numbers
     it = is_read (sym e ∙ d.answers)
 
     kept : Held file it.ms numbers' starts' places'

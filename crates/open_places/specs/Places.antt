@@ -1,12 +1,11 @@
 -- The modules of a file that reads, by position: their numbers, and the places where their bytes begin.
-use Rattle.std.specs.Prelude.{ℕ, min, ◌≤◌, ◌<◌, ◌≡◌, List, ◌∷◌, length, get_or, drop}
+use Rattle.std.specs.Prelude.{ℕ, min, ◌≤◌, ◌<◌, ◌≡◌, List, ◌∷◌, length, get_or, drop, Result, Ok, Err}
 use Rattle.meaning.specs.Syntax.{Module}
 use Rattle.meaning.specs.Layout.{each, number_bytes}
 use Rattle.meaning.specs.Ceilings.{Encodes}
 use Rattle.meaning.specs.Reading.{holds, fails, read, most_modules, most_bytes}
+use Rattle.refusals.specs.declared.Refusal.{Refusal}
 use Rattle.read_file.specs.Held.{in_front}
-use Rattle.open_places.specs.declared.Noted.{Noted}
-use Rattle.open_places.specs.declared.Noted.TheVariants.{Modules, Refused}
 
 -- Each module of a list begins with its number, at its start among the numbers; and there is room to name them all.
 pub record Headed (numbers starts : List ℕ) (modules : ℕ) (names : List ℕ) : Type 0 where
@@ -38,6 +37,6 @@ pub record Shelved (file : List ℕ) (modules : ℕ) (names places : List ℕ) :
   pub named : Named ms names
   pub begins : (k : ℕ) → k ≤ length ms → get_or places k 0 ≡ length (each number_bytes (in_front ms k))
 
-abbrev pub Notes : Noted → (file names places : List ℕ) → Type 0
-Notes (Modules count) file names places = Shelved file count names places
-Notes (Refused number place) file names places = read file ≡ fails number place
+abbrev pub Notes : Result ℕ Refusal → (file names places : List ℕ) → Type 0
+Notes (Ok count) file names places = Shelved file count names places
+Notes (Err refusal) file names places = read file ≡ fails refusal.number refusal.place

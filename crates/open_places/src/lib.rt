@@ -4,14 +4,7 @@
 
 ghost use Rattle.open_places.specs.Places.{Headed, Named, Space, Notes};
 
-use read_file::Reading;
-
-// A file that reads, with how many modules it has; or the refusal of 1 to 5, with its place.
-#[derive(Clone, Copy)]
-pub enum Noted {
-    Modules(usize),
-    Refused { number: u16, place: usize },
-}
+use refusals::Refusal;
 
 // The number of each module, which is the first of its numbers.
 fn name(numbers: &[u16], starts: &[usize], modules: usize, names: &mut [u16])
@@ -24,21 +17,19 @@ fn name(numbers: &[u16], starts: &[usize], modules: usize, names: &mut [u16])
     }
 }
 
-// Reads a file and notes its modules. The list of numbers is only worked in.
-pub fn note(file: &[u8], numbers: &mut [u16], names: &mut [u16], places: &mut [usize]) -> Noted
+// Reads a file and notes its modules: how many it has, or the refusal of 1 to 5. The list of numbers is only worked in.
+pub fn note(
+    file: &[u8],
+    numbers: &mut [u16],
+    names: &mut [u16],
+    places: &mut [usize],
+) -> Result<usize, Refusal>
     requires { Space file.now numbers.old names.old places.old }
     ensures { Notes result file.now names.new places.new }
 {
     let mut starts = [0usize; 128];
-    match read_file::read(file, numbers, &mut starts, places) {
-        Reading::Refused { number, place } => Noted::Refused { number, place },
-        Reading::Read {
-            modules,
-            numbers: _,
-        } => {
-            name(numbers, &starts, modules, names);
-            places[modules] = file.len();
-            Noted::Modules(modules)
-        }
-    }
+    let modules = read_file::read(file, numbers, &mut starts, places)?.modules;
+    name(numbers, &starts, modules, names);
+    places[modules] = file.len();
+    Ok(modules)
 }

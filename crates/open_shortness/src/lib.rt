@@ -21,13 +21,11 @@ pub fn is_short(file: &[u8]) -> bool
         return false;
     }
     let mut most = 0;
-    let mut i = 1;
-    while i < file.len() {
+    for i in 1..file.len() {
         let here = weight(file[i - 1], file[i]);
         if most < here {
             most = here;
         }
-        i += 1;
     }
     most <= 64
 }

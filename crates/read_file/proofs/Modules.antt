@@ -6,14 +6,14 @@ use native.Mathlib.Omega.{arith}
 use lib.ListN.{length, set}
 use Rattle.meaning.specs.Layout.{module_numbers}
 use Rattle.meaning.specs.Reading.{read_module}
+use Rattle.std.specs.Prelude.{Result, Ok, Err}
+use Rattle.refusals.specs.declared.Refusal.{Refusal}
 use Rattle.read_parts.specs.Steps.{Stands, Takes}
 use Rattle.read_file.specs.Noted.{Fit, places_from, Passed}
 use Rattle.read_parts.specs.Reached.{Reached, refused-step}
 use Rattle.read_parts.specs.Turns.{Turning, turn-first, turn-next, turn-refused, turn_last}
 use Rattle.read_file.proofs.Noting.{Noting, noting-first, noting-next, noting-refused, noting-last, noting_starts, noting_offsets}
 use Rattle.read_parts.specs.declared.way.Spot.{Spot}
-use Rattle.read_parts.specs.declared.way.Way.{Way}
-use Rattle.read_parts.specs.declared.way.Way.TheVariants.{On, Refused}
 
 -- Of so many, i are.
 pub record Passing
@@ -30,7 +30,7 @@ passing-first {count} stands = record { left = count; sum = omega arith; turning
 
 module _ {bytes numbers numbers' starts starts' offsets offsets' : List ℕ} {start spot : Spot} {count i : ℕ}
     (t : Passing bytes start count i numbers numbers' starts starts' offsets offsets' spot) where
-  pub passing-last : count ≤ i → Passed bytes start count numbers numbers' starts starts' offsets offsets' (On spot)
+  pub passing-last : count ≤ i → Passed bytes start count numbers numbers' starts starts' offsets offsets' (Ok spot)
   passing-last h =
       let none : t.left ≤ 0 = omega (arith, t.sum) in
       record { took = turn_last t.turning none; noted = noting-last t.noting none }
@@ -53,7 +53,7 @@ module _ {bytes numbers numbers' starts starts' offsets offsets' : List ℕ} {st
       pub fits_offsets : i < length offsets'
       fits_offsets = let l = passing_offsets in omega (arith, fit.in_bytes)
 
-      pub passing-refused : {new : List ℕ} {way : Way} {number place : ℕ} → way ≡ Refused number place
+      pub passing-refused : {new : List ℕ} {way : Result Spot Refusal} {refusal : Refusal} → way ≡ Err refusal
           → Takes read_module bytes spot numbers' new way
           → Passed bytes start count numbers new starts (set starts' i spot.filled) offsets (set offsets' i spot.place) way
       passing-refused e u =

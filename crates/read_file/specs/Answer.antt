@@ -1,16 +1,17 @@
 -- What reading a file answers, and what it leaves in the lent lists, after a refusal too.
-use Rattle.std.specs.Prelude.{ℕ, min, ◌≤◌, ◌≡◌, cond, List, [], map, leb, length}
+use Rattle.std.specs.Prelude.{ℕ, min, ◌≤◌, ◌≡◌, cond, List, [], map, leb, length, Result, Ok, Err}
 use Rattle.meaning.specs.Layout.{file_numbers}
 use Rattle.meaning.specs.Reading.{File, holds, fails, read_count, read, most_modules, most_bytes}
+use Rattle.refusals.specs.Refused.{refusal_at}
+use Rattle.refusals.specs.declared.Refusal.{Refusal}
 use Rattle.read_parts.specs.Numbers.{before, laid}
 use Rattle.read_file.specs.Starts.{behind, begun, numbers_to}
-use Rattle.read_file.specs.declared.Reading.{Reading}
-use Rattle.read_file.specs.declared.Reading.TheVariants.{Read, Refused}
+use Rattle.read_file.specs.declared.Extent.{Extent}
 
 -- The answer that each file is.
-abbrev pub reading_of : File → Reading
-reading_of (holds ms) = Read (length ms) (length (file_numbers ms))
-reading_of (fails number place) = Refused number place
+abbrev pub reading_of : File → Result Extent Refusal
+reading_of (holds ms) = Ok (record { modules = length ms; numbers = length (file_numbers ms) })
+reading_of (fails number place) = Err (refusal_at number place)
 
 -- Where reading ends: behind the last byte, or at the refusal's place.
 abbrev pub end_of : List ℕ → File → ℕ
@@ -36,7 +37,7 @@ pub record Room (bytes numbers starts offsets : List ℕ) : Type 0 where
   pub offsets_fit : most_modules ≤ length offsets
 
 -- What the answer is, and what each list holds after: its first entries replaced, and the rest as it was.
-pub record Decoded (bytes numbers numbers' starts starts' offsets offsets' : List ℕ) (reading : Reading) : Type 0 where
+pub record Decoded (bytes numbers numbers' starts starts' offsets offsets' : List ℕ) (reading : Result Extent Refusal) : Type 0 where
   pub answers : reading ≡ reading_of (read bytes)
   pub numbers_laid : numbers' ≡ laid (numbers_of bytes) numbers
   pub starts_laid : starts' ≡ laid (starts_of bytes) starts

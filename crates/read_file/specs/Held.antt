@@ -1,5 +1,5 @@
 -- What whoever reads a file knows where the file reads: the numbers are the file's, and where each module begins.
-use Rattle.std.specs.Prelude.{ℕ, ◌≤◌, ◌<◌, ◌≡◌, refl, Bool, true, false, cond, List, [], ◌∷◌, ◌++◌, leb, take, drop, get_or}
+use Rattle.std.specs.Prelude.{ℕ, ◌≤◌, ◌<◌, ◌≡◌, refl, Bool, true, false, cond, List, [], ◌∷◌, ◌++◌, leb, take, drop, get_or, Result, Ok, Err}
 use Rattle.std.proofs.Math.Path.{ap}
 use Rattle.std.proofs.Common.{sym, ◌∙◌, arith, length-drop, length-take-le}
 use Rattle.std.proofs.Math.ListN.{length, length-map, get_or-append, get_or-map}
@@ -10,6 +10,9 @@ use Rattle.meaning.specs.Layout.{each, number_bytes, module_numbers, file_number
 use Rattle.meaning.specs.Reading.{Step, got, refused, File, holds, fails, onward, at_end, read, read_count, read_many, read_module, read_modules, most_modules, most_bytes}
 use Rattle.meaning.specs.Ceilings.{Bytes, Small}
 use Rattle.laws.specs.Reading.{refused_not_got}
+use Rattle.refusals.specs.Refused.{refusal_at}
+use Rattle.refusals.specs.declared.Refusal.{Refusal}
+use Rattle.read_parts.specs.Ways.{ok_not_err}
 use Rattle.read_parts.specs.Numbers.{at_most, numbers_in, before, laid}
 use Rattle.read_parts.specs.Spelled.{Spells}
 use Rattle.read_parts.specs.Exact.{bytes_take, spells-bytes, spells-small}
@@ -18,14 +21,10 @@ use Rattle.read_parts.specs.Sound.{Kept, on, ended, one, sound-count, sound-modu
 use Rattle.read_file.specs.Starts.{behind, begun, numbers_to}
 use Rattle.read_file.specs.Placed.{Placed, placed, placed-length, placed_at}
 use Rattle.read_file.specs.Answer.{reading_of, numbers_of, offsets_of, starts_of, Decoded}
-use Rattle.read_file.specs.declared.Reading.{Reading}
-use Rattle.read_file.specs.declared.Reading.TheVariants.{Read, Refused}
+use Rattle.read_file.specs.declared.Extent.{Extent}
 
 fails_not_holds : {number place : ℕ} {ms : List Module} → fails number place ≡ holds ms → ⊥
 fails_not_holds e = let z : ◌≡◌ {A = ℕ} 0 1 = cc in omega arith
-
-read_not_refused : {modules numbers number place : ℕ} → Read modules numbers ≡ Refused number place → ⊥
-read_not_refused e = let z : ◌≡◌ {A = ℕ} 0 1 = cc in omega arith
 
 -- What an answer says of the file.
 pub record IsRead (file : File) (modules numbers : ℕ) : Type 0 where
@@ -34,13 +33,17 @@ pub record IsRead (file : File) (modules numbers : ℕ) : Type 0 where
   pub modules_are : modules ≡ length ms
   pub numbers_are : numbers ≡ length (file_numbers ms)
 
-pub is_read : {file : File} {modules numbers : ℕ} → Read modules numbers ≡ reading_of file → IsRead file modules numbers
-is_read {file = holds ms} e = record { ms = ms; is = refl; modules_are = cc; numbers_are = cc }
-is_read {file = fails number place} e = absurd (read_not_refused e)
+pub is_read : {file : File} {extent : Extent} → Ok extent ≡ reading_of file → IsRead file extent.modules extent.numbers
+is_read {file = holds ms} {extent} e =
+    let same : extent ≡ record { modules = length ms; numbers = length (file_numbers ms) } = cc in
+    record { ms = ms; is = refl; modules_are = rw same; numbers_are = rw same }
+is_read {file = fails number place} e = absurd (ok_not_err e)
 
-pub is-refused : {file : File} {number place : ℕ} → Refused number place ≡ reading_of file → file ≡ fails number place
-is-refused {file = holds ms} e = absurd (read_not_refused (sym e))
-is-refused {file = fails number place} e = cc
+pub is-refused : {file : File} {refusal : Refusal} → Err refusal ≡ reading_of file → file ≡ fails refusal.number refusal.place
+is-refused {file = holds ms} e = absurd (ok_not_err (sym e))
+is-refused {file = fails number place} {refusal} e =
+    let same : refusal ≡ refusal_at number place = cc in
+    rw same
 
 -- The step that read the modules, with nothing behind it.
 record Step-of (bytes : List ℕ) (ms : List Module) : Type 0 where
@@ -161,7 +164,7 @@ pub record Held (bytes : List ℕ) (ms : List Module) (numbers starts offsets : 
 laid-front : (xs old : List ℕ) (i : ℕ) → i < length xs → get_or (laid xs old) i 0 ≡ get_or xs i 0
 laid-front xs old i h = get_or-append xs (drop (length xs) old) 0 i h
 
-pub held : {bytes numbers numbers' starts starts' offsets offsets' : List ℕ} {reading : Reading} {ms : List Module}
+pub held : {bytes numbers numbers' starts starts' offsets offsets' : List ℕ} {reading : Result Extent Refusal} {ms : List Module}
     → Bytes bytes → Decoded bytes numbers numbers' starts starts' offsets offsets' reading → read bytes ≡ holds ms
     → Held bytes ms numbers' starts' offsets'
 held {bytes} {numbers} {starts} {offsets} {ms} b d file =

@@ -1,11 +1,11 @@
 -- The modules of a file read one after the other, and where each begins noted in two lists.
-use Rattle.std.specs.Prelude.{ℕ, ◌≤◌, ◌≡◌, List, map, length, drop}
+use Rattle.std.specs.Prelude.{ℕ, ◌≤◌, ◌≡◌, List, map, length, drop, Result}
 use Rattle.meaning.specs.Reading.{read_count, read_many, read_module, read_modules, most_modules}
+use Rattle.refusals.specs.declared.Refusal.{Refusal}
 use Rattle.read_parts.specs.Numbers.{laid}
 use Rattle.read_file.specs.Starts.{behind, begun, numbers_to}
 use Rattle.read_parts.specs.Steps.{Takes}
 use Rattle.read_parts.specs.declared.way.Spot.{Spot}
-use Rattle.read_parts.specs.declared.way.Way.{Way}
 
 -- There is room for the places of so many modules.
 pub record Fit (count : ℕ) (starts offsets : List ℕ) : Type 0 where
@@ -23,7 +23,7 @@ places_from bytes n spot = begun n spot.place (drop spot.place bytes)
 
 -- So many modules are read and noted.
 pub record Passed
-    (bytes : List ℕ) (start : Spot) (count : ℕ) (numbers numbers' starts starts' offsets offsets' : List ℕ) (next : Way)
+    (bytes : List ℕ) (start : Spot) (count : ℕ) (numbers numbers' starts starts' offsets offsets' : List ℕ) (next : Result Spot Refusal)
     : Type 0 where
   pub took : Takes (read_many read_module count) bytes start numbers numbers' next
   pub noted : Noted bytes (places_from bytes count start) starts starts' offsets offsets'
@@ -33,6 +33,6 @@ abbrev pub first : Spot
 first = record { place = 0; filled = 0 }
 
 -- The count of modules is read, and then the modules are read and noted.
-pub record Through (bytes numbers numbers' starts starts' offsets offsets' : List ℕ) (next : Way) : Type 0 where
+pub record Through (bytes numbers numbers' starts starts' offsets offsets' : List ℕ) (next : Result Spot Refusal) : Type 0 where
   pub took : Takes read_modules bytes first numbers numbers' next
   pub noted : Noted bytes (behind begun (read_count most_modules 0 bytes)) starts starts' offsets offsets'

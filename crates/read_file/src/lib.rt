@@ -9,13 +9,14 @@ ghost use Rattle.read_file.specs.Noted.{Fit, Passed, Through};
 ghost use Rattle.read_parts.specs.Steps.{Stands};
 
 use read_parts::parts::keep_module;
-use read_parts::way::{Spot, Way, keep_count, last_kept};
+use read_parts::way::{Spot, keep_count, last_kept};
+use refusals::Refusal;
 
-// A file that reads, with how many modules and numbers it has; or the refusal of 1 to 5, with its place.
-#[derive(Clone, Copy)]
-pub enum Reading {
-    Read { modules: usize, numbers: usize },
-    Refused { number: u16, place: usize },
+// How many modules and how many numbers a file has that reads.
+#[derive(Clone, Copy, PartialEq, Eq, Debug)]
+pub struct Extent {
+    pub modules: usize,
+    pub numbers: usize,
 }
 
 // So many modules. Where each begins is noted, in numbers and in bytes.
@@ -26,28 +27,27 @@ fn keep_modules(
     numbers: &mut [u16],
     starts: &mut [usize],
     offsets: &mut [usize],
-) -> Way
+) -> Result<Spot, Refusal>
     requires stands { Stands bytes.now spot numbers.old }
     requires fit { Fit count starts.old offsets.old }
     ensures { Passed bytes.now spot count numbers.old numbers.new starts.old starts.new offsets.old offsets.new result }
 {
     let mut spot = spot;
-    let mut i: usize = 0;
-    while i < count {
+    for i in 0..count {
         starts[i] = spot.filled;
         offsets[i] = spot.place;
-        let way = keep_module(spot, bytes, numbers);
-        let Way::On(next) = way else {
-            return way;
-        };
-        spot = next;
-        i += 1;
+        spot = keep_module(spot, bytes, numbers)?;
     }
-    Way::On(spot)
+    Ok(spot)
 }
 
 // The count of modules, and as many modules.
-fn keep_file(bytes: &[u8], numbers: &mut [u16], starts: &mut [usize], offsets: &mut [usize]) -> Way
+fn keep_file(
+    bytes: &[u8],
+    numbers: &mut [u16],
+    starts: &mut [usize],
+    offsets: &mut [usize],
+) -> Result<Spot, Refusal>
     requires bytes_in_bounds { length bytes.now ≤ length numbers.old }
     requires fit { Fit most_modules starts.old offsets.old }
     ensures { Through bytes.now numbers.old numbers.new starts.old starts.new offsets.old offsets.new result }
@@ -56,43 +56,30 @@ fn keep_file(bytes: &[u8], numbers: &mut [u16], starts: &mut [usize], offsets: &
         place: 0,
         filled: 0,
     };
-    let way = keep_count(first, 128, bytes, numbers);
-    let Way::On(spot) = way else {
-        return way;
-    };
+    let spot = keep_count(first, 128, bytes, numbers)?;
     let count = last_kept(spot, numbers) as usize;
     keep_modules(spot, count, bytes, numbers, starts, offsets)
 }
 
-// Reads a file.
+// Reads a file. It reads, or there is the refusal of 1 to 5.
 pub fn read(
     bytes: &[u8],
     numbers: &mut [u16],
     starts: &mut [usize],
     offsets: &mut [usize],
-) -> Reading
+) -> Result<Extent, Refusal>
     requires { Room bytes.now numbers.old starts.old offsets.old }
     ensures { Decoded bytes.now numbers.old numbers.new starts.old starts.new offsets.old offsets.new result }
 {
     if 65535 < bytes.len() {
-        return Reading::Refused {
-            number: 1,
-            place: 0,
-        };
+        return Err(Refusal::at(1, 0));
     }
-    match keep_file(bytes, numbers, starts, offsets) {
-        Way::Refused { number, place } => Reading::Refused { number, place },
-        Way::On(spot) => {
-            if spot.place < bytes.len() {
-                return Reading::Refused {
-                    number: 5,
-                    place: spot.place,
-                };
-            }
-            Reading::Read {
-                modules: numbers[0] as usize,
-                numbers: spot.filled,
-            }
-        }
+    let end = keep_file(bytes, numbers, starts, offsets)?;
+    if end.place < bytes.len() {
+        return Err(Refusal::at(5, end.place));
     }
+    Ok(Extent {
+        modules: numbers[0] as usize,
+        numbers: end.filled,
+    })
 }

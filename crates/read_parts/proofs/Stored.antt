@@ -6,15 +6,17 @@ use native.Mathlib.Omega.{arith}
 use borrow.Author.Tests.{le-leb, lt-leb}
 use lib.ListN.{length, set, length-append}
 use Rattle.meaning.specs.Reading.{Step, got, refused, read_number, read_count}
+use Rattle.std.specs.Prelude.{Ok, Err}
+use Rattle.refusals.specs.Refused.{refusal_at}
+use Rattle.refusals.specs.declared.Refusal.{Refusal}
 use Rattle.read_parts.specs.Numbers.{before}
 use Rattle.read_parts.specs.Places.{Further, before-length}
 use Rattle.read_parts.specs.Single.{Single, single-number}
 use Rattle.read_parts.specs.Steps.{number_read, step_from, Stands, Lays, Takes}
-use Rattle.read_parts.specs.Ways.{is_not_refused}
+use Rattle.read_parts.specs.Ways.{ok_not_err}
 use Rattle.read_parts.specs.Laid.{laid_more}
-use Rattle.read_parts.specs.declared.number.Number.TheVariants.{Is, Refused as NoNumber}
+use Rattle.read_parts.specs.declared.number.Spelled.{Spelled}
 use Rattle.read_parts.specs.declared.way.Spot.{Spot}
-use Rattle.read_parts.specs.declared.way.Way.TheVariants.{On, Refused}
 
 module _ {bytes old : List ℕ} {spot : Spot} (stands : Stands bytes spot old) where
   -- A number that has been read has room.
@@ -44,57 +46,56 @@ module _ {bytes old : List ℕ} {spot : Spot} (stands : Stands bytes spot old) w
   unchanged e = record { all = rw e (sym stands.lies); keeps = rw e (omega arith) }
 
   -- A number that was read, and the step that it comes from.
-  record Found (s : Step ℕ) (v q : ℕ) : Type 0 where
+  record Found (s : Step ℕ) (count : Spelled) : Type 0 where
     rest : List ℕ
-    step : s ≡ got v q rest
-    further : Further bytes spot.place q (v ∷ []) rest
+    step : s ≡ got count.value count.next rest
+    further : Further bytes spot.place count.next (count.value ∷ []) rest
 
-  found : {s : Step ℕ} {v q : ℕ} → Is v q ≡ number_read s → Single bytes spot.place s → Found s v q
-  found {s = got u o rest} {v} {q} e w =
-      let a : u ≡ v = cc in
-      let b : o ≡ q = cc in
-      record { rest = rest; step = rw (a, b); further = rw (a, b) at w }
-  found {s = refused j o} e w = absurd (is_not_refused e)
+  found : {s : Step ℕ} {count : Spelled} → Ok count ≡ number_read s → Single bytes spot.place s → Found s count
+  found {s = got u o rest} {count} e w =
+      let same : count ≡ record { value = u; next = o } = cc in
+      record { rest = rest; step = rw same; further = rw same w }
+  found {s = refused j o} e w = absurd (ok_not_err e)
 
   -- A refusal, and the step that it comes from.
-  record Failed (s : Step ℕ) (k q : ℕ) : Type 0 where
-    step : s ≡ refused k q
-    same : before bytes q ≡ before bytes spot.place
+  record Failed (s : Step ℕ) (refusal : Refusal) : Type 0 where
+    step : s ≡ refused refusal.number refusal.place
+    same : before bytes refusal.place ≡ before bytes spot.place
 
-  failed : {s : Step ℕ} {k q : ℕ} → NoNumber k q ≡ number_read s → Single bytes spot.place s → Failed s k q
-  failed {s = got u o rest} e w = absurd (is_not_refused (sym e))
-  failed {s = refused j o} {k} {q} e w =
-      let a : j ≡ k = cc in
-      let b : o ≡ q = cc in
-      record { step = rw (a, b); same = rw b at w }
+  failed : {s : Step ℕ} {refusal : Refusal} → Err refusal ≡ number_read s → Single bytes spot.place s → Failed s refusal
+  failed {s = got u o rest} e w = absurd (ok_not_err (sym e))
+  failed {s = refused j o} {refusal} e w =
+      let same : refusal ≡ refusal_at j o = cc in
+      record { step = rw same; same = rw same w }
 
-  -- Where a number is due, and the code finds v, which ends at q.
-  module _ {v q : ℕ} (is : Is v q ≡ number_read (step_from read_number bytes spot)) where
-    it : Found (step_from read_number bytes spot) v q
+  -- Where a number is due, and the code finds one.
+  module _ {count : Spelled} (is : Ok count ≡ number_read (step_from read_number bytes spot)) where
+    it : Found (step_from read_number bytes spot) count
     it = found is (single-number bytes spot.place stands.front)
 
     pub count_room : spot.filled < length old
     count_room = has_room it.further
 
-    pub count_kept : (ceiling : ℕ) → v ≤ ceiling
-        → Takes (read_count ceiling) bytes spot old (set old spot.filled v)
-        (On (record { place = q; filled = spot.filled + 1 }))
+    pub count_kept : (ceiling : ℕ) → count.value ≤ ceiling
+        → Takes (read_count ceiling) bytes spot old (set old spot.filled count.value)
+        (Ok (record { place = count.next; filled = spot.filled + 1 }))
     unfolding read_count
     count_kept ceiling h =
         record {
-          answers = rw (it.step, le-leb v ceiling h, counted-more it.further);
+          answers = rw (it.step, le-leb count.value ceiling h, counted-more it.further);
           lays = stored it.further;
         }
 
-    pub count-over : (ceiling : ℕ) → ceiling < v → Takes (read_count ceiling) bytes spot old old (Refused 4 spot.place)
+    pub count-over : (ceiling : ℕ) → ceiling < count.value
+        → Takes (read_count ceiling) bytes spot old old (Err (refusal_at 4 spot.place))
     unfolding read_count
-    count-over ceiling h = record { answers = rw (it.step, lt-leb v ceiling h); lays = unchanged refl }
+    count-over ceiling h = record { answers = rw (it.step, lt-leb count.value ceiling h); lays = unchanged refl }
 
   -- Where a number is due, and the code finds a refusal.
-  module _ {k q : ℕ} (no : NoNumber k q ≡ number_read (step_from read_number bytes spot)) where
-    none : Failed (step_from read_number bytes spot) k q
+  module _ {refusal : Refusal} (no : Err refusal ≡ number_read (step_from read_number bytes spot)) where
+    none : Failed (step_from read_number bytes spot) refusal
     none = failed no (single-number bytes spot.place stands.front)
 
-    pub count-refused : (ceiling : ℕ) → Takes (read_count ceiling) bytes spot old old (Refused k q)
+    pub count-refused : (ceiling : ℕ) → Takes (read_count ceiling) bytes spot old old (Err refusal)
     unfolding read_count
     count-refused ceiling = record { answers = rw none.step; lays = unchanged none.same }

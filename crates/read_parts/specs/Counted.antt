@@ -1,8 +1,9 @@
 -- A count that has been laid out is read back, and as many things are due as it says.
-use Rattle.std.specs.Prelude.{ℕ, ◌-◌, ◌≤◌, ◌≡◌, refl, Bool, true, false, cond, List, leb, length, drop}
+use Rattle.std.specs.Prelude.{ℕ, ◌-◌, ◌≤◌, ◌≡◌, refl, Bool, true, false, cond, List, leb, length, drop, Result, Ok}
 use Rattle.std.proofs.Common.{ap, sym, arith, leb-true, length-append}
 use Rattle.meaning.specs.Reading.{Step, got, refused, Reader, onward, bind, read_number, read_count, read_many}
 use Rattle.laws.specs.Reading.{refused_not_got}
+use Rattle.refusals.specs.declared.Refusal.{Refusal}
 use Rattle.read_parts.specs.Numbers.{before}
 use Rattle.read_parts.specs.Places.{before-length}
 use Rattle.read_parts.specs.Sound.{one, sound-count}
@@ -11,8 +12,6 @@ use Rattle.read_parts.specs.Laid.{laid-last}
 use Rattle.read_parts.specs.Reached.{Reached, reached}
 use Rattle.read_parts.specs.Taken.{takes-then}
 use Rattle.read_parts.specs.declared.way.Spot.{Spot}
-use Rattle.read_parts.specs.declared.way.Way.{Way}
-use Rattle.read_parts.specs.declared.way.Way.TheVariants.{On}
 
 -- A count was read, and it is the last of the numbers that are laid out by then.
 pub record CountTaken (ceiling : ℕ) (bytes : List ℕ) (spot : Spot) (old : List ℕ) (next : Spot) (mid : List ℕ) : Type 0 where
@@ -33,7 +32,7 @@ count_small ceiling p bytes v q rest = at (read_number p bytes)
     at (got n o left) e = kept n o left (leb n ceiling) refl e
     at (refused number place) e = absurd (refused_not_got e)
 
-pub counted : (ceiling : ℕ) {bytes old mid : List ℕ} {spot next : Spot} {way : Way} → Stands bytes spot old → way ≡ On next
+pub counted : (ceiling : ℕ) {bytes old mid : List ℕ} {spot next : Spot} {way : Result Spot Refusal} → Stands bytes spot old → way ≡ Ok next
     → Takes (read_count ceiling) bytes spot old mid way → CountTaken ceiling bytes spot old next mid
 counted ceiling {bytes} {old} {mid} {spot} {next} stands e t = at (reached (sound-count ceiling) stands e t)
   where
@@ -53,7 +52,7 @@ counted ceiling {bytes} {old} {mid} {spot} {next} stands e t = at (reached (soun
         }
 
 -- As many things are due as the count says.
-pub takes-list : {A : Type 0} (r : Reader A) {ceiling : ℕ} {bytes old mid new : List ℕ} {spot next : Spot} {way : Way}
+pub takes-list : {A : Type 0} (r : Reader A) {ceiling : ℕ} {bytes old mid new : List ℕ} {spot next : Spot} {way : Result Spot Refusal}
     {count : ℕ} → CountTaken ceiling bytes spot old next mid → count ≡ last_of next mid → Takes (read_many r count) bytes next mid new way
     → Takes (bind (read_count ceiling) (read_many r)) bytes spot old new way
 takes-list r c e u = takes-then (read_many r) c.there (rw (c.value, ← e) u)

@@ -1,15 +1,15 @@
 -- The step that an answer of the code stands for: what was read and where reading stands behind it, or the refusal.
-use Rattle.std.specs.Prelude.{ℕ, ◌≡◌, refl, List, ◌++◌, length, drop}
+use Rattle.std.specs.Prelude.{ℕ, ◌≡◌, refl, List, ◌++◌, length, drop, Result, Ok, Err}
 use Rattle.std.proofs.Common.{ap, sym, ◌∙◌, arith}
 use Rattle.meaning.specs.Reading.{Step, got, refused, Reader}
+use Rattle.refusals.specs.Refused.{refusal_at}
+use Rattle.refusals.specs.declared.Refusal.{Refusal}
 use Rattle.read_parts.specs.Numbers.{before}
 use Rattle.read_parts.specs.Sound.{Kept, on, ended, Sound}
 use Rattle.read_parts.specs.Steps.{step_from, way_of, Stands, Lays, Takes}
-use Rattle.read_parts.specs.Ways.{on_not_refused}
+use Rattle.read_parts.specs.Ways.{ok_not_err}
 use Rattle.read_parts.specs.Laid.{laid-over, lays-length}
 use Rattle.read_parts.specs.declared.way.Spot.{Spot}
-use Rattle.read_parts.specs.declared.way.Way.{Way}
-use Rattle.read_parts.specs.declared.way.Way.TheVariants.{On, Refused}
 
 -- A thing was read, which stands for the numbers that f says, and the next may begin.
 pub record Reached {A : Type 0} (f : A → List ℕ) (r : Reader A) (bytes : List ℕ)
@@ -21,12 +21,12 @@ pub record Reached {A : Type 0} (f : A → List ℕ) (r : Reader A) (bytes : Lis
   pub stands : Stands bytes next new
   pub lays : Lays bytes spot.place next.place old new
 
-pub reached : {A : Type 0} {f : A → List ℕ} {r : Reader A} {bytes old new : List ℕ} {spot next : Spot} {way : Way} → Sound f r
-    → Stands bytes spot old → way ≡ On next → Takes r bytes spot old new way → Reached f r bytes spot old next new
+pub reached : {A : Type 0} {f : A → List ℕ} {r : Reader A} {bytes old new : List ℕ} {spot next : Spot} {way : Result Spot Refusal} → Sound f r
+    → Stands bytes spot old → way ≡ Ok next → Takes r bytes spot old new way → Reached f r bytes spot old next new
 reached {A} {f} {r} {bytes} {old} {new} {spot} {next} sound stands e t =
     at (step_from r bytes spot) refl (sound.keeps bytes spot.place stands.front) (sym e ∙ t.answers) (rw e at t.lays)
   where
-    at : (s : Step A) → step_from r bytes spot ≡ s → Kept f bytes spot.place s → On next ≡ way_of bytes s
+    at : (s : Step A) → step_from r bytes spot ≡ s → Kept f bytes spot.place s → Ok next ≡ way_of bytes s
         → Lays bytes spot.place next.place old new → Reached f r bytes spot old next new
     at (got a q rest) is (on w) e lays =
         let same : next ≡ record { place = q; filled = length (before bytes q) } = cc in
@@ -44,13 +44,15 @@ reached {A} {f} {r} {bytes} {old} {new} {spot} {next} sound stands e t =
           };
           lays = lays;
         }
-    at (refused k q) is ended e lays = absurd (on_not_refused e)
+    at (refused k q) is ended e lays = absurd (ok_not_err e)
 
 -- Nothing was.
-pub refused-step : {A : Type 0} {r : Reader A} {bytes old new : List ℕ} {spot : Spot} {way : Way} {number place : ℕ}
-    → way ≡ Refused number place → Takes r bytes spot old new way → step_from r bytes spot ≡ refused number place
-refused-step {A} {r} {bytes} {spot} {number} {place} e t = at (step_from r bytes spot) (sym e ∙ t.answers)
+pub refused-step : {A : Type 0} {r : Reader A} {bytes old new : List ℕ} {spot : Spot} {way : Result Spot Refusal} {refusal : Refusal}
+    → way ≡ Err refusal → Takes r bytes spot old new way → step_from r bytes spot ≡ refused refusal.number refusal.place
+refused-step {A} {r} {bytes} {spot} {refusal} e t = at (step_from r bytes spot) (sym e ∙ t.answers)
   where
-    at : (s : Step A) → Refused number place ≡ way_of bytes s → s ≡ refused number place
-    at (got a q rest) e = absurd (on_not_refused (sym e))
-    at (refused k q) e = cc
+    at : (s : Step A) → Err refusal ≡ way_of bytes s → s ≡ refused refusal.number refusal.place
+    at (got a q rest) e = absurd (ok_not_err (sym e))
+    at (refused k q) e =
+        let same : refusal ≡ refusal_at k q = cc in
+        rw same

@@ -1,10 +1,11 @@
 -- A loop that reads as many things as a count says: the way of what is left is the way of all of it.
-use Rattle.std.specs.Prelude.{ℕ, suc, ◌-◌, ◌≤◌, ◌<◌, ◌≡◌, refl, List, drop}
+use Rattle.std.specs.Prelude.{ℕ, suc, ◌-◌, ◌≤◌, ◌<◌, ◌≡◌, refl, List, drop, Result, Ok, Err}
 use Rattle.std.proofs.Math.Path.{ap}
 use Rattle.std.proofs.Common.{sym, ◌∙◌}
 use native.Mathlib.Omega.{arith}
 use Rattle.std.proofs.Math.ListN.{length}
 use Rattle.meaning.specs.Reading.{Reader, read_many}
+use Rattle.refusals.specs.declared.Refusal.{Refusal}
 use Rattle.read_parts.specs.Numbers.{before}
 use Rattle.read_parts.specs.Steps.{step_from, way_of, Stands, Lays, Takes}
 use Rattle.read_parts.specs.Laid.{lays-none, lays-then, lays-length}
@@ -12,8 +13,6 @@ use Rattle.read_parts.specs.Reached.{Reached}
 use Rattle.read_parts.specs.Alike.{skip, alike-many}
 use Rattle.read_parts.specs.Taken.{takes-ended}
 use Rattle.read_parts.specs.declared.way.Spot.{Spot}
-use Rattle.read_parts.specs.declared.way.Way.{Way}
-use Rattle.read_parts.specs.declared.way.Way.TheVariants.{On, Refused}
 
 -- Of `count` things from `start` on, so many are left, and reading stands at `spot`.
 pub record Turning {A : Type 0} (r : Reader A) (bytes : List ℕ) (start : Spot) (count : ℕ) (old : List ℕ)
@@ -31,12 +30,12 @@ turn-first stands = record { stands = stands; due = refl; lays = lays-none stand
 module _ {A : Type 0} {r : Reader A} {bytes old now : List ℕ} {start spot : Spot} {count left : ℕ}
     (t : Turning r bytes start count old left spot now) where
   -- Nothing is left.
-  pub turn_last : left ≤ 0 → Takes (read_many r count) bytes start old now (On spot)
+  pub turn_last : left ≤ 0 → Takes (read_many r count) bytes start old now (Ok spot)
   unfolding read_many
   turn_last h =
       let none : left ≡ 0 = omega arith in
-      let here : On spot ≡ On (record { place = spot.place; filled = length (before bytes spot.place) }) =
-      ap (λ (m : ℕ). On (record { place = spot.place; filled = m })) t.stands.count
+      let here : Ok spot ≡ Ok (record { place = spot.place; filled = length (before bytes spot.place) }) =
+      ap (λ (m : ℕ). Ok (record { place = spot.place; filled = m })) t.stands.count
       in
       record { answers = here ∙ rw none at t.due; lays = t.lays }
 
@@ -47,7 +46,7 @@ module _ {A : Type 0} {r : Reader A} {bytes old now : List ℕ} {start spot : Sp
       let e : left ≡ suc (left - 1) = omega arith in
       sym ((alike-many r (left - 1)).same bytes spot.place (drop spot.place bytes)) ∙ rw (← e) t.due
 
-  pub turn-refused : {new : List ℕ} {way : Way} {number place : ℕ} → 0 < left → way ≡ Refused number place
+  pub turn-refused : {new : List ℕ} {way : Result Spot Refusal} {refusal : Refusal} → 0 < left → way ≡ Err refusal
       → Takes r bytes spot now new way → Takes (read_many r count) bytes start old new way
   turn-refused h e u =
       record {

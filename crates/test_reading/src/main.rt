@@ -2,7 +2,8 @@
 // bytes, and the same with one byte more.
 #![tactic(auto)]
 
-use read_file::Reading;
+use read_file::Extent;
+use refusals::Refusal;
 use std::io;
 
 // Puts a byte at a place, where there is one, and gives the place behind it.
@@ -17,10 +18,8 @@ fn put(at: usize, byte: u8, out: &mut [u8]) -> usize {
 // An occurrence that drives 192 nets, each written in two bytes, and has no arguments: 388 bytes.
 fn put_large(at: usize, out: &mut [u8]) -> usize {
     let mut at = put(put(at, 192, out), 1, out);
-    let mut left: u32 = 192;
-    while 0 < left {
+    for _ in 0..192 {
         at = put(put(at, 255, out), 127, out);
-        left -= 1;
     }
     put(put(at, 0, out), 0, out)
 }
@@ -34,24 +33,20 @@ fn put_small(at: usize, out: &mut [u8]) -> usize {
 fn put_file(out: &mut [u8]) -> usize {
     let head = put(put(put(put(0, 1, out), 16, out), 0, out), 0, out);
     let mut at = put(put(head, 155, out), 2, out);
-    let mut large: u32 = 168;
-    while 0 < large {
+    for _ in 0..168 {
         at = put_large(at, out);
-        large -= 1;
     }
-    let mut small: u32 = 115;
-    while 0 < small {
+    for _ in 0..115 {
         at = put_small(at, out);
-        small -= 1;
     }
     at
 }
 
 // Prints an answer as a line.
-fn show(rt: &impl Print, reading: Reading) -> io::Result<()> {
+fn show(rt: &impl Print, reading: Result<Extent, Refusal>) -> io::Result<()> {
     match reading {
-        Reading::Read { modules, numbers } => println!(rt; "read {modules} {numbers}"),
-        Reading::Refused { number, place } => println!(rt; "refused {number} {place}"),
+        Ok(Extent { modules, numbers }) => println!(rt; "read {modules} {numbers}"),
+        Err(Refusal { number, place }) => println!(rt; "refused {number} {place}"),
     }
 }
 

@@ -4,33 +4,32 @@ use Rattle.meaning.specs.Ceilings.{Bytes}
 use Rattle.read_parts.specs.Exact.{bytes-all}
 use Rattle.open_places.proofs.Noting.{few, headed, shelved}
 use Rattle.open_places.proofs.note.Goals as goal
-use Rattle.open_places.proofs.note.Goals.{In-Read}
+use Rattle.open_places.proofs.note.Goals.{In_ok-modules}
 
-bytes : (c : In-Read) → Bytes c.args.file.now
+bytes : (c : In_ok-modules) → Bytes c.args.file.now
 bytes c = bytes-all c.args.file.now (λ i. (c.type_inv.file i).fits)
 
 pub name-requires : goal.name-requires
 name-requires c =
-    headed (bytes (goal.at.name-requires c).In-Read) c.read.ensures c.in-Read.modules c.in-Read.numbers c.in-Read.is (omega arith)
-    c.requires.names_fit
+    headed (bytes (goal.at.name-requires c).In_ok-modules) c.read.ensures c.in_ok-modules.was (omega arith) c.requires.names_fit
 
 -- There is a place for the file's end.
-room : (c : In-Read) → c.in-Read.modules < length c.read.new.offsets
+room : (c : In_ok-modules) → c.in_ok-modules.field-0.modules < length c.read.new.offsets
 room c =
-    let f = few (bytes c) c.read.ensures c.in-Read.modules c.in-Read.numbers c.in-Read.is in
+    let f = few (bytes c) c.read.ensures c.in_ok-modules.was in
     omega (arith, c.requires.places_fit)
 
 pub bounds-places-modules : goal.bounds-places-modules
-bounds-places-modules c = room (goal.at.bounds-places-modules c).In-Read
+bounds-places-modules c = room (goal.at.bounds-places-modules c).In_ok-modules
 
 pub offset_bounds-places-modules : goal.offset_bounds-places-modules
 offset_bounds-places-modules c =
-    let inside : c.in-Read.modules < length c.read.new.offsets = room (goal.at.offset_bounds-places-modules c).In-Read in
+    let inside : c.in_ok-modules.field-0.modules < length c.read.new.offsets = room (goal.at.offset_bounds-places-modules c).In_ok-modules in
     search rules
 
-pub returns-in-Read : goal.returns-in-Read
-returns-in-Read c =
-    shelved (bytes (goal.at.returns-in-Read c).In-Read) c.read.ensures c.in-Read.modules c.in-Read.numbers c.in-Read.is
+pub returns : goal.returns
+returns c =
+    shelved (bytes (goal.at.returns c).In_ok-modules) c.read.ensures c.in_ok-modules.was
     (omega arith)
     c.requires.names_fit
     (omega arith)

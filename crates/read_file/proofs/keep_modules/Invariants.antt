@@ -1,4 +1,3 @@
-use Rattle.std.proofs.Common.{◌-◌}
 use Rattle.read_file.proofs.Modules.{Passing}
 use Rattle.read_file.proofs.keep_modules.Given as goal
 
@@ -6,6 +5,3 @@ use Rattle.read_file.proofs.keep_modules.Given as goal
 abbrev pub invariant-loop-i : goal.invariant-loop-i
 invariant-loop-i l =
     Passing l.bytes l.initial.spot l.count l.i l.initial.numbers l.numbers l.initial.starts l.starts l.initial.offsets l.offsets l.spot
-
-abbrev pub decreases-loop-i : goal.decreases-loop-i
-decreases-loop-i l = l.count - l.i
