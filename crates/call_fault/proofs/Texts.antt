@@ -10,39 +10,43 @@ use Rattle.meaning.specs.ListForm.{ListedModule}
 use Rattle.meaning.specs.ListNumbers.{numbered}
 use Rattle.meaning.specs.ListCall.{reading}
 use Rattle.laws.specs.Texts.Answered.{answered-fits}
-use Rattle.text_reader.specs.declared.Extent.{Extent}
+use Rattle.std.specs.Prelude.{Result, Ok, Err}
+use Rattle.std.proofs.Common.{arith}
+use Rattle.refusals.specs.declared.Refusal.{Refusal}
 use Rattle.text_reader.specs.Reading.{ReadAs, Reads}
 use Rattle.fault_parts.specs.Asked.{Whole}
 use Rattle.text_faults.specs.declared.Fault.{Fault}
 use Rattle.text_faults.specs.Faults.{no_fault, fault_at, fault_of, text_fault}
 
-pub record Listed (text numbers : List ℕ) (r : Extent) : Type 0 where
+pub record Listed (text numbers : List ℕ) (count : ℕ) : Type 0 where
   pub ms : List ListedModule
   pub is : reading text ≡ answer ms
-  pub numbers-are : take r.count numbers ≡ file_numbers (numbered ms)
-  pub inside : r.count ≤ length numbers
+  pub numbers-are : take count numbers ≡ file_numbers (numbered ms)
+  pub inside : count ≤ length numbers
 
-module _ {text numbers : List ℕ} {r : Extent} (h : Reads text numbers r) where
-  pub refused_none : (position : ℕ) → ¬ (r.number ≡ 0) → no_fault 0 ≡ fault_of (reading text) position
-  refused_none position n = go (reading text) h.right
-    where
-      go : (d : Decision (List ListedModule)) → ReadAs d numbers r → no_fault 0 ≡ fault_of d position
-      go (refusal number place) a = refl
-      go (answer ms) a = absurd (n a.0)
+pub refused_none : {text numbers : List ℕ} {r : Result ℕ Refusal} {e : Refusal} → Reads text numbers r → (position : ℕ) → r ≡ Err e
+    → no_fault 0 ≡ fault_of (reading text) position
+refused_none {text} {numbers} {r} {e} h position is = go (reading text) h.right
+  where
+    go : (d : Decision (List ListedModule)) → ReadAs d numbers r → no_fault 0 ≡ fault_of d position
+    go (refusal number place) a = refl
+    go (answer ms) (count, read, are, few) = absurd cc
 
-  pub listed : r.number ≡ 0 → Listed text numbers r
-  listed z = go (reading text) refl h.right
-    where
-      go : (d : Decision (List ListedModule)) → reading text ≡ d → ReadAs d numbers r → Listed text numbers r
-      go (refusal number place) e a = absurd (a.2 z)
-      go (answer ms) e a = record { ms = ms; is = e; numbers-are = a.1; inside = a.2 }
+pub listed : {text numbers : List ℕ} {r : Result ℕ Refusal} {count : ℕ} → Reads text numbers r → r ≡ Ok count → Listed text numbers count
+listed {text} {numbers} {r} {count} h is = go (reading text) refl h.right
+  where
+    go : (d : Decision (List ListedModule)) → reading text ≡ d → ReadAs d numbers r → Listed text numbers count
+    go (refusal number place) e a = absurd cc
+    go (answer ms) e (n, read, are, few) =
+        let same : n ≡ count = cc in
+        record { ms = ms; is = e; numbers-are = rw same at are; inside = omega arith }
 
-module _ {text numbers : List ℕ} {r : Extent} (l : Listed text numbers r) where
+module _ {text numbers : List ℕ} {count : ℕ} (l : Listed text numbers count) where
   pub few : length (numbered l.ms) ≤ 128
   unfolding numbered
   few = rw length-map (answered-fits text l.ms l.is).count
 
-  abbrev pub whole : Whole (take r.count numbers)
+  abbrev pub whole : Whole (take count numbers)
   whole = record { ms = numbered l.ms; is = l.numbers-are; few = few }
 
   pub fault_listed : {f : Fault} (position : ℕ) → f ≡ fault_at (drop position (numbered l.ms)) → f ≡ fault_of (reading text) position

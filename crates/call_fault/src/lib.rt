@@ -8,9 +8,9 @@ ghost use Rattle.fault_parts.specs.Asked.{Whole};
 ghost use Rattle.text_faults.specs.Faults.{no_fault, fault_at, fault_of, text_fault};
 
 use call_text::read_long;
-use fault_parts::modules::place_modules;
+use fault_parts::modules::{FileModules, place_modules};
+use refusals::Refusal;
 use text_faults::{Fault, first_fault};
-use text_reader::Extent;
 
 fn none() -> Fault
     ensures { result ≡ no_fault 0 }
@@ -34,17 +34,26 @@ fn in_numbers(numbers: &[u16], position: usize) -> Fault
     let mut starts = [0usize; 128];
     place_modules(numbers, modules, &mut starts);
     let mut marks = [0u8; 65536];
-    first_fault(numbers, &starts, modules, position, &mut marks)
+    let file = FileModules {
+        numbers,
+        starts: &starts,
+        count: modules,
+    };
+    first_fault(file, position, &mut marks)
 }
 
-fn after_reading(text: &[u8], extent: Extent, numbers: &[u16], position: usize) -> Fault
-    requires { Reads text.now numbers.now extent }
+fn after_reading(
+    text: &[u8],
+    read: Result<usize, Refusal>,
+    numbers: &[u16],
+    position: usize,
+) -> Fault
+    requires { Reads text.now numbers.now read }
     ensures { result ≡ fault_of (reading text.now) position }
 {
-    if extent.number != 0 {
+    let Ok(count) = read else {
         return none();
-    }
-    let count = extent.count;
+    };
     in_numbers(&numbers[..count], position)
 }
 
@@ -54,8 +63,8 @@ fn of_listed(text: &[u8], position: usize) -> Fault
     ensures { result ≡ fault_of (reading text.now) position }
 {
     let mut numbers = [0u16; 524290];
-    let extent = read_long(text, &mut numbers);
-    after_reading(text, extent, &numbers, position)
+    let read = read_long(text, &mut numbers);
+    after_reading(text, read, &numbers, position)
 }
 
 // Of any text, at any position.

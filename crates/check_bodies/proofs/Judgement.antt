@@ -17,13 +17,14 @@ use Rattle.check_lists.specs.References.{pick, reference_of}
 use Rattle.check_lists.specs.Scene.{Same}
 use Rattle.check_lists.specs.declared.references.Reference.{Reference}
 use Rattle.check_lists.specs.declared.references.Reference.TheVariants as reference
+use Rattle.std.specs.Prelude.{Result, Ok, Err}
 use Rattle.check_lists.specs.Later.{position-inside}
 
 -- A judgement of an occurrence in the module at position k: its verdict, and where it is good what its number is in the image.
-abbrev pub Judges : Reference → Verdict → (ms : List Module) → (k number : ℕ) → Type 0
-Judges reference.Gate v ms k number = (v ≡ good) × (is_gate number ≡ true)
-Judges (reference.Module j) v ms k number = (v ≡ good) × (refer_to ms number ≡ 16 + j) × (j < length ms)
-Judges (reference.Broken rule) v ms k number = v ≡ refused rule k
+abbrev pub Judges : Result Reference ℕ → Verdict → (ms : List Module) → (k number : ℕ) → Type 0
+Judges (Ok reference.Gate) v ms k number = (v ≡ good) × (is_gate number ≡ true)
+Judges (Ok (reference.Module j)) v ms k number = (v ≡ good) × (refer_to ms number ≡ 16 + j) × (j < length ms)
+Judges (Err rule) v ms k number = v ≡ refused rule k
 
 -- The modules after the one at position k.
 pub later-modules : (ms : List Module) (k : ℕ) (m : Module) (later : List Module) → At ms k m later → drop (k + 1) ms ≡ later
@@ -57,7 +58,7 @@ module _ (k : ℕ) (o : Occurrence) {nets signals : List ℕ} (same : Same nets 
 
         go :
             (gate there fits : Bool) → is_gate o.refers ≡ gate → is_box (assoc o.refers (drop (k + 1) ms)) ≡ there
-            → Judges (pick gate (pick fits reference.Gate (reference.Broken 14)) (pick there (pick fits (reference.Module position) (reference.Broken 14)) (reference.Broken 13)))
+            → Judges (pick gate (pick fits (Ok reference.Gate) (Err 14)) (pick there (pick fits (Ok (reference.Module position)) (Err 14)) (Err 13)))
             (keep 13 k (gate || there) (keep 14 k fits good)) ms k o.refers
         go true there true g e = (refl, g)
         go true there false g e = refl

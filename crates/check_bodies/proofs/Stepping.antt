@@ -21,7 +21,7 @@ use Rattle.check_lists.specs.Lists.{ListLearnt, ListWritten}
 use Rattle.check_bodies.specs.Occurrences.{Stepped}
 use Rattle.check_lists.specs.declared.references.Reference.{Reference}
 use Rattle.check_lists.specs.declared.references.Reference.TheVariants as reference
-use Rattle.check_bodies.specs.declared.occurrences.Walked.TheVariants as walked
+use Rattle.std.specs.Prelude.{Result, Ok, Err}
 use Rattle.check_bodies.proofs.OccurrenceParts.{drives-stand}
 use Rattle.check_bodies.proofs.Judgement.{Judges, later-modules, drives-known, takes_unknown, reference-decides}
 use Rattle.check_bodies.proofs.Summing.{plus-gate, plus-module}
@@ -32,7 +32,7 @@ use Rattle.check_bodies.proofs.Passing.{Learning, driven-new, Writing, taken-kno
 pub step-drives :
     {numbers first inputs outputs slots : List ℕ} {base k at filled : ℕ} {sizes rooms : List ℕ} {sums : Sums} {numbers' slots' : List ℕ}
     {driven learnt : ℕ} → driven ≡ get_or numbers at 0 → ListLearnt numbers slots base at filled slots' numbers' learnt → learnt < driven
-    → Stepped numbers first inputs outputs slots base k at filled sizes rooms sums numbers' slots' (walked.Broken 11)
+    → Stepped numbers first inputs outputs slots base k at filled sizes rooms sums numbers' slots' (Err 11)
 step-drives {k = k} counted l short =
     record {
       steps = λ s o nets signals stands knows count same.
@@ -48,7 +48,7 @@ pub step-takes :
     {driven learnt taken written : ℕ} → Learning numbers slots base at filled driven learnt slots' numbers'
     → taken ≡ get_or numbers' (at + 1 + learnt + 1) 0 → ListWritten numbers' slots' base (at + 1 + learnt + 1) filled numbers'' written
     → written < taken
-    → Stepped numbers first inputs outputs slots base k at filled sizes rooms sums numbers'' slots' (walked.Broken 12)
+    → Stepped numbers first inputs outputs slots base k at filled sizes rooms sums numbers'' slots' (Err 12)
 step-takes {k = k} l counted w short =
     record {
       steps = λ s o nets signals stands knows count same.
@@ -63,13 +63,13 @@ step-takes {k = k} l counted w short =
 module _
     {numbers slots : List ℕ} {base at filled driven learnt taken written : ℕ} {slots' numbers' numbers'' : List ℕ}
     (w : Writing numbers slots base at filled driven learnt taken written slots' numbers' numbers'')
-    {first inputs outputs : List ℕ} {k : ℕ} {q : Reference}
+    {first inputs outputs : List ℕ} {k : ℕ} {q : Result Reference ℕ}
     (decides :
     (ms : List Module) (takes drives : List ℕ) → Numbered first ms → Ported inputs outputs ms → k < first_repeat ms
     → taken ≡ length takes → driven ≡ length drives → q ≡ reference_of ms k (get_or numbers'' (at + 1 + learnt) 0) takes drives)
   where
     pub judged :
-        {a : Reference} → q ≡ a → (s : Scene first inputs outputs k) (o : Occurrence) (nets signals : List ℕ)
+        {a : Result Reference ℕ} → q ≡ a → (s : Scene first inputs outputs k) (o : Occurrence) (nets signals : List ℕ)
         → Stands numbers at (occurrence_numbers o) → Knows slots base nets → filled ≡ length nets → Same nets signals
         → Judges a (occurrence_verdict k o signals s.later) s.ms k o.refers
     judged e s o nets signals stands knows count same =
@@ -81,15 +81,15 @@ module _
 
     module _ {sizes rooms : List ℕ} {sums : Sums} where
       pub step-broken :
-          {rule : ℕ} → q ≡ reference.Broken rule
-          → Stepped numbers first inputs outputs slots base k at filled sizes rooms sums numbers'' slots' (walked.Broken rule)
+          {rule : ℕ} → q ≡ Err rule
+          → Stepped numbers first inputs outputs slots base k at filled sizes rooms sums numbers'' slots' (Err rule)
       step-broken e = record { steps = judged e; low = w.learning.list.low }
 
       -- It refers to a gate, whose number stands there already.
       pub step-gate :
-          {sums' : Sums} → q ≡ reference.Gate → sums' ≡ plus_gate sums
+          {sums' : Sums} → q ≡ Ok reference.Gate → sums' ≡ plus_gate sums
           → Stepped numbers first inputs outputs slots base k at filled sizes rooms sums numbers'' slots'
-          (walked.Fine (at + 1 + learnt + 1 + 1 + written) (filled + driven) sums')
+          (Ok (record { next = at + 1 + learnt + 1 + 1 + written; nets = filled + driven; sums = sums' }))
       unfolding refer_to
       step-gate e more =
           record {
@@ -108,9 +108,9 @@ module _
 
       -- It refers to a module, whose number in the image takes the place of its own.
       pub step_module :
-          {j : ℕ} {sums' : Sums} → q ≡ reference.Module j → sums' ≡ plus_module sizes rooms sums j
+          {j : ℕ} {sums' : Sums} → q ≡ Ok (reference.Module j) → sums' ≡ plus_module sizes rooms sums j
           → Stepped numbers first inputs outputs slots base k at filled sizes rooms sums (set numbers'' (at + 1 + learnt) (16 + j)) slots'
-          (walked.Fine (at + 1 + learnt + 1 + 1 + written) (filled + driven) sums')
+          (Ok (record { next = at + 1 + learnt + 1 + 1 + written; nets = filled + driven; sums = sums' }))
       step_module {j} e more =
           record {
             steps = λ s o nets signals stands knows count same.

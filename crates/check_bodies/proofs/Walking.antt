@@ -17,7 +17,7 @@ use Rattle.check_lists.specs.Scene.{Scene}
 use Rattle.check_bodies.specs.Occurrences.{Placed, StepReady, Advanced, Stepped, Steps}
 use Rattle.check_bodies.specs.Bodies.{BodyReady, Walks, BodyChecked}
 use Rattle.check_bodies.specs.declared.occurrences.Walked.{Walked}
-use Rattle.check_bodies.specs.declared.occurrences.Walked.TheVariants.{Fine, Broken}
+use Rattle.std.specs.Prelude.{Result, Ok, Err}
 use Rattle.check_bodies.proofs.OccurrenceParts.{one_below, occurrences-few}
 use Rattle.check_bodies.proofs.Summing.{summed-small}
 use Rattle.check_bodies.proofs.Progress.{Progress, Current, nets, begin, current, stop, finish}
@@ -47,7 +47,7 @@ pub record Walking
 module _ {numbers₀ first inputs outputs slots₀ : List ℕ} {base k from count width : ℕ} {sizes rooms : List ℕ} where
   -- What the answer says of every course.
   answered :
-      {numbers' slots' : List ℕ} {r : Walked}
+      {numbers' slots' : List ℕ} {r : Result Walked ℕ}
       → ((g : Course numbers₀ first inputs outputs slots₀ base k from count width)
       → Walks r (body_verdict k g.scene.m.occurrences g.scene.m.inputs g.scene.later) k g.scene.ms g.scene.m
       numbers₀ from base sizes rooms numbers' slots')
@@ -84,7 +84,7 @@ module _ {numbers₀ first inputs outputs slots₀ : List ℕ} {base k from coun
       where
         -- Behind the last turn.
         pub walk_ends :
-            count ≤ i → BodyChecked numbers₀ first inputs outputs slots₀ base k from count width sizes rooms numbers slots (Fine at filled sums)
+            count ≤ i → BodyChecked numbers₀ first inputs outputs slots₀ base k from count width sizes rooms numbers slots (Ok (record { next = at; nets = filled; sums = sums }))
         walk_ends e = answered (λ g. finish (w.progress g) e w.placed.behind) w.low
 
         module _ (more : i < count) where
@@ -136,16 +136,16 @@ module _ {numbers₀ first inputs outputs slots₀ : List ℕ} {base k from coun
                   (p.whole ∙ ap (λ (l : List Occurrence). p.finished ++ l) (here own).is)
                   low)
 
-          module _ {numbers' slots' : List ℕ} {r : Walked}
+          module _ {numbers' slots' : List ℕ} {r : Result Walked ℕ}
               (step : Stepped numbers first inputs outputs slots base k at filled sizes rooms sums numbers' slots' r)
             where
               -- What a step says of it on a course.
-              abbrev Said : Course numbers₀ first inputs outputs slots₀ base k from count width → Walked → Type 0
+              abbrev Said : Course numbers₀ first inputs outputs slots₀ base k from count width → Result Walked ℕ → Type 0
               Said g q =
                   Steps q (occurrence_verdict k (here g).o (w.progress g).signals g.scene.later) k g.scene.ms (here g).o
                   (nets (w.progress g)) numbers at base sizes rooms sums numbers' slots'
 
-              said : {q : Walked} → r ≡ q → (g : Course numbers₀ first inputs outputs slots₀ base k from count width) → Said g q
+              said : {q : Result Walked ℕ} → r ≡ q → (g : Course numbers₀ first inputs outputs slots₀ base k from count width) → Said g q
               said e g =
                   let p = w.progress g in
                   subst (Said g) e
@@ -156,16 +156,16 @@ module _ {numbers₀ first inputs outputs slots₀ : List ℕ} {base k from coun
 
               -- It breaks a rule.
               pub walk-stops :
-                  {rule : ℕ} → r ≡ Broken rule
-                  → BodyChecked numbers₀ first inputs outputs slots₀ base k from count width sizes rooms numbers' slots' (Broken rule)
+                  {rule : ℕ} → r ≡ Err rule
+                  → BodyChecked numbers₀ first inputs outputs slots₀ base k from count width sizes rooms numbers' slots' (Err rule)
               walk-stops {rule} e = answered (λ g. stop (w.progress g) (here g) rule (said e g)) low-still
 
               -- It is fine: the next turn.
               pub walk-goes-on :
-                  {next filled' : ℕ} {sums' : Sums} → r ≡ Fine next filled' sums'
+                  {walked : Walked} → r ≡ Ok walked
                   → length numbers' ≡ length numbers → length slots' ≡ length slots
-                  → Walking first inputs outputs base k from count width sizes rooms numbers₀ slots₀ numbers' slots' next filled' (i + 1) sums'
-              walk-goes-on {next} {filled'} {sums'} e numbers_long slots_long =
+                  → Walking first inputs outputs base k from count width sizes rooms numbers₀ slots₀ numbers' slots' walked.next walked.nets (i + 1) walked.sums
+              walk-goes-on {walked} e numbers_long slots_long =
                   record {
                     placed =
                         record {
@@ -181,8 +181,8 @@ module _ {numbers₀ first inputs outputs slots₀ : List ℕ} {base k from coun
                 where
                   behind :
                       Advanced own.scene.ms (here own).o (nets (w.progress own)) numbers at base sizes rooms sums numbers' slots'
-                      next filled' sums'
-                      → filled' ≤ next
+                      walked.next walked.nets walked.sums
+                      → walked.nets ≤ walked.next
                   behind a =
                       let before = w.placed.behind in
                       let wide = (w.progress own).wide in

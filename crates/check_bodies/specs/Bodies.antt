@@ -1,5 +1,5 @@
 -- What checking the occurrences of a module asks and answers.
-use Rattle.std.specs.Prelude.{ℕ, ◌+◌, ◌≤◌, ◌≡◌, List, map, length}
+use Rattle.std.specs.Prelude.{ℕ, Result, Ok, Err, ◌+◌, ◌≤◌, ◌≡◌, List, map, length}
 use Rattle.meaning.specs.Syntax.{Occurrence, Module}
 use Rattle.meaning.specs.Layout.{each, occurrence_numbers}
 use Rattle.meaning.specs.Verdict.{Verdict, good, refused, body_verdict}
@@ -12,7 +12,6 @@ use Rattle.check_sizes.specs.declared.Sums.{Sums}
 use Rattle.check_lists.specs.Scene.{Scene, Indexes, Figured}
 use Rattle.check_bodies.specs.Occurrences.{Placed}
 use Rattle.check_bodies.specs.declared.occurrences.Walked.{Walked}
-use Rattle.check_bodies.specs.declared.occurrences.Walked.TheVariants.{Fine, Broken}
 
 -- The module's occurrences stand at a place, and the table knows its inputs.
 pub record BodyReady
@@ -41,13 +40,13 @@ pub record Finished
   pub few : nets ≤ next
 
 -- What the answer says: the verdict of rules 11 to 14 over all occurrences, and where it is good the image, the table and the sums.
-abbrev pub Walks : Walked → Verdict → (k : ℕ) → (ms : List Module) → Module → (numbers : List ℕ) → (from base : ℕ) → (sizes rooms numbers' slots' : List ℕ) → Type 0
-Walks (Fine next nets sums) v k ms m numbers from base sizes rooms numbers' slots' =
-    (v ≡ good) × Finished ms m numbers from base sizes rooms numbers' slots' next nets sums
-Walks (Broken rule) v k ms m numbers from base sizes rooms numbers' slots' = v ≡ refused rule k
+abbrev pub Walks : Result Walked ℕ → Verdict → (k : ℕ) → (ms : List Module) → Module → (numbers : List ℕ) → (from base : ℕ) → (sizes rooms numbers' slots' : List ℕ) → Type 0
+Walks (Ok walked) v k ms m numbers from base sizes rooms numbers' slots' =
+    (v ≡ good) × Finished ms m numbers from base sizes rooms numbers' slots' walked.next walked.nets walked.sums
+Walks (Err rule) v k ms m numbers from base sizes rooms numbers' slots' = v ≡ refused rule k
 
 pub record BodyChecked
-    (numbers first inputs outputs slots : List ℕ) (base k from count width : ℕ) (sizes rooms numbers' slots' : List ℕ) (r : Walked) : Type 0 where
+    (numbers first inputs outputs slots : List ℕ) (base k from count width : ℕ) (sizes rooms numbers' slots' : List ℕ) (r : Result Walked ℕ) : Type 0 where
   pub walks :
       (s : Scene first inputs outputs k)
       → Stands numbers from (each occurrence_numbers s.m.occurrences)

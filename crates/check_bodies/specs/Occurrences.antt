@@ -1,5 +1,5 @@
 -- What checking one occurrence asks and answers.
-use Rattle.std.specs.Prelude.{ℕ, ◌+◌, ◌*◌, ◌≤◌, ◌<◌, ◌^◌, ◌≡◌, true, List, ◌++◌, length}
+use Rattle.std.specs.Prelude.{ℕ, Result, Ok, Err, ◌+◌, ◌*◌, ◌≤◌, ◌<◌, ◌^◌, ◌≡◌, true, List, ◌++◌, length}
 use Rattle.meaning.specs.Syntax.{Occurrence, Module}
 use Rattle.meaning.specs.Layout.{occurrence_numbers}
 use Rattle.meaning.specs.Boxlist.{subset}
@@ -12,7 +12,6 @@ use Rattle.check_sizes.specs.Walks.{plus}
 use Rattle.check_sizes.specs.declared.Sums.{Sums}
 use Rattle.check_lists.specs.Scene.{Scene, Indexes, Figured, Same}
 use Rattle.check_bodies.specs.declared.occurrences.Walked.{Walked}
-use Rattle.check_bodies.specs.declared.occurrences.Walked.TheVariants.{Fine, Broken}
 
 -- Where the walk stands: places fit their types, and so do the slots above the base.
 pub record Placed (numbers : List ℕ) (base at filled : ℕ) : Type 0 where
@@ -47,14 +46,14 @@ pub record Advanced
   pub written : numbers' ≡ laid numbers at (occurrence_numbers (resolve_occurrence (λ x. slot_of x (nets ++ o.drives)) (refer_to ms) o))
   pub summed : sums' ≡ plus sizes rooms sums (refer_to ms o.refers)
 
-abbrev pub Steps : Walked → Verdict → (k : ℕ) → (ms : List Module) → Occurrence → (nets numbers : List ℕ) → (at base : ℕ) → (sizes rooms : List ℕ) → (sums : Sums) → (numbers' slots' : List ℕ) → Type 0
-Steps (Fine next filled sums') v k ms o nets numbers at base sizes rooms sums numbers' slots' =
-    (v ≡ good) × Advanced ms o nets numbers at base sizes rooms sums numbers' slots' next filled sums'
-Steps (Broken rule) v k ms o nets numbers at base sizes rooms sums numbers' slots' = v ≡ refused rule k
+abbrev pub Steps : Result Walked ℕ → Verdict → (k : ℕ) → (ms : List Module) → Occurrence → (nets numbers : List ℕ) → (at base : ℕ) → (sizes rooms : List ℕ) → (sums : Sums) → (numbers' slots' : List ℕ) → Type 0
+Steps (Ok walked) v k ms o nets numbers at base sizes rooms sums numbers' slots' =
+    (v ≡ good) × Advanced ms o nets numbers at base sizes rooms sums numbers' slots' walked.next walked.nets walked.sums
+Steps (Err rule) v k ms o nets numbers at base sizes rooms sums numbers' slots' = v ≡ refused rule k
 
 pub record Stepped
     (numbers first inputs outputs slots : List ℕ) (base k at filled : ℕ) (sizes rooms : List ℕ) (sums : Sums) (numbers' slots' : List ℕ)
-    (r : Walked) : Type 0 where
+    (r : Result Walked ℕ) : Type 0 where
   pub steps :
       (s : Scene first inputs outputs k) (o : Occurrence) (nets signals : List ℕ)
       → Stands numbers at (occurrence_numbers o)

@@ -2,7 +2,8 @@
 ghost use Rattle.check_bodies.specs.Bodies.{BodyReady, BodyChecked};
 
 use crate::occurrences::Walked;
-use check_sizes::Sums;
+use check_lists::numbering::Numbering;
+use check_sizes::{Figures, Sums};
 
 // All occurrences of the module at position k, whose inputs are `width` nets: each checked, and made its part of the image where it is
 // fine.
@@ -11,40 +12,24 @@ pub fn check_body(
     from: usize,
     count: usize,
     k: usize,
-    first: &[u16],
-    inputs: &[u16],
-    outputs: &[u16],
+    numbering: Numbering,
     slots: &mut [u32],
     base: u32,
     width: usize,
-    sizes: &[u32],
-    rooms: &[u32],
-) -> Walked
-    requires { BodyReady numbers.old first.now inputs.now outputs.now slots.old base k from count width sizes.now rooms.now }
-    ensures { BodyChecked numbers.old first.now inputs.now outputs.now slots.old base k from count width sizes.now rooms.now numbers.new slots.new result }
+    figures: Figures,
+) -> Result<Walked, u16>
+    requires { BodyReady numbers.old numbering.first.now numbering.inputs.now numbering.outputs.now slots.old base k from count width figures.sizes.now figures.rooms.now }
+    ensures { BodyChecked numbers.old numbering.entry.first.now numbering.entry.inputs.now numbering.entry.outputs.now slots.old base k from count width figures.entry.sizes.now figures.entry.rooms.now numbers.new slots.new result }
 {
-    let mut at = from;
-    let mut filled = width;
-    let mut so_far = Sums::nothing();
-    let mut i = 0;
-    while i < count {
-        match crate::occurrences::check_occurrence(
-            numbers, at, k, first, inputs, outputs, slots, base, filled, sizes, rooms, so_far,
-        ) {
-            Walked::Broken(rule) => {
-                return Walked::Broken(rule);
-            }
-            Walked::Fine { next, nets, sums } => {
-                at = next;
-                filled = nets;
-                so_far = sums;
-            }
-        }
-        i += 1;
+    let mut walked = Walked {
+        next: from,
+        nets: width,
+        sums: Sums::nothing(),
+    };
+    for _ in 0..count {
+        walked = crate::occurrences::check_occurrence(
+            numbers, walked, k, numbering, slots, base, figures,
+        )?;
     }
-    Walked::Fine {
-        next: at,
-        nets: filled,
-        sums: so_far,
-    }
+    Ok(walked)
 }

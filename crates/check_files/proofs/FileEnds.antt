@@ -14,11 +14,10 @@ use Rattle.image.specs.ResolvedLayout.{length-of-resolve}
 use Rattle.image.specs.Fitting.{good-fits}
 use Rattle.check_sizes.specs.Behind.{inside}
 use Rattle.check_sizes.specs.Measuring.{tabled-none}
-use Rattle.check_steps.specs.Found.{EachReady}
+use Rattle.std.specs.Prelude.{Ok, Err}
+use Rattle.check_steps.specs.Found.{Found, EachReady, broken, over}
 use Rattle.check_steps.specs.Going.{front, Done, Going, FileWalk, end_before, base_of}
 use Rattle.check_steps.specs.FileParts.{front-taken, length-of-front, modules-few}
-use Rattle.check_steps.specs.declared.found.Found.{Found}
-use Rattle.check_steps.specs.declared.found.Found.TheVariants.{Fine, Over, Broken}
 use Rattle.check_files.specs.Files.{FoundIs, EachFound}
 
 -- Behind the last module nothing is left to do.
@@ -35,7 +34,7 @@ done_none ms k nets sizes rooms h =
 going-ends : {ms : List Module} {end : ℕ} (found : Found) {numbers nets sizes rooms : List ℕ} → Going ms 0 end found numbers nets sizes rooms
     → FoundIs found ms numbers nets sizes rooms
 unfolding file_verdict file_numbers front each
-going-ends {ms} Fine g =
+going-ends {ms} (Ok tt) g =
     let d = g.done refl in
     let fits = good-fits 0 ms g.judged.0 in
     record {
@@ -47,8 +46,11 @@ going-ends {ms} Fine g =
       counted = record { count = λ k m later e. d.counted k m later (omega arith) e };
       tabled = d.tabled fits;
     }
-going-ends {ms} (Over place) g = rw g.judged.0 (g.judged.1 (good-fits 0 ms g.judged.0))
-going-ends {ms} (Broken rule place) g = rw g.judged
+going-ends {ms} (Err r) g =
+    elim g.judged [
+      | broken b ↦ rw b
+      | over is good size ↦ rw (good, is) (size (good-fits 0 ms good))
+    ]
 
 module _ {numbers₀ starts : List ℕ} {modules : ℕ} {found₀ : Found} {first inputs outputs slots₀ nets₀ sizes₀ rooms₀ : List ℕ}
     (ready : EachReady numbers₀ starts modules found₀ first inputs outputs slots₀ nets₀ sizes₀ rooms₀)

@@ -13,11 +13,10 @@ use Rattle.image.specs.Resolved.{resolve}
 use Rattle.image.specs.ResolvedLayout.{start_of, length-of-image}
 use Rattle.check_lists.specs.Filed.{Filed, Countable}
 use Rattle.check_lists.specs.Numbering.{Entered}
-use Rattle.check_steps.specs.Found.{Laidout, Repeating, Known, EachReady}
+use Rattle.std.specs.Prelude.{Ok, Err}
+use Rattle.check_steps.specs.Found.{Found, Laidout, Repeating, Known, EachReady}
 use Rattle.check_files.specs.Files.{EachFound, FoundIs, FileReady, FileFound}
 use Rattle.check_steps.specs.Going.{end_before}
-use Rattle.check_steps.specs.declared.found.Found.{Found}
-use Rattle.check_steps.specs.declared.found.Found.TheVariants.{Fine, Over, Broken}
 use Rattle.check_steps.specs.FileParts.{filed-of, end-is-start, start-inside}
 use Rattle.check_lists.specs.Later.{repeat_inside}
 
@@ -109,6 +108,5 @@ module _
           image is = ap (λ (xs : List ℕ). part ++ xs) (drop_of_length-le numbers (all is)) ∙ append-nil part ∙ is
 
           whole : (r : Found) → FoundIs r ms part nets' sizes' rooms' → FoundIs r ms (part ++ drop end numbers) nets' sizes' rooms'
-          whole Fine o = record { accepted = o.accepted; image = image o.image; counted = o.counted; tabled = o.tabled }
-          whole (Over place) o = o
-          whole (Broken rule place) o = o
+          whole (Ok fine) o = record { accepted = o.accepted; image = image o.image; counted = o.counted; tabled = o.tabled }
+          whole (Err r) o = o

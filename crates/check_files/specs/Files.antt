@@ -1,5 +1,5 @@
 -- What checking and measuring the modules of a file asks and answers.
-use Rattle.std.specs.Prelude.{ℕ, ◌≤◌, ◌≡◌, List, length, get_or}
+use Rattle.std.specs.Prelude.{ℕ, Ok, Err, ◌≤◌, ◌≡◌, List, length, get_or}
 use Rattle.meaning.specs.Syntax.{Module}
 use Rattle.meaning.specs.Layout.{file_numbers}
 use Rattle.meaning.specs.Limits.{net_count}
@@ -10,9 +10,7 @@ use Rattle.check_sizes.specs.Measured.{Tabled}
 use Rattle.check_lists.specs.Filed.{At}
 use Rattle.check_lists.specs.Numbering.{Naming}
 use Rattle.check_lists.specs.Scene.{Indexes, Figured}
-use Rattle.check_steps.specs.Found.{Laidout, EachReady}
-use Rattle.check_steps.specs.declared.found.Found.{Found}
-use Rattle.check_steps.specs.declared.found.Found.TheVariants.{Fine, Over, Broken}
+use Rattle.check_steps.specs.Found.{Found, Laidout, EachReady}
 
 -- Every module's count of nets.
 pub record NetCounts (ms : List Module) (nets : List ℕ) : Type 0 where
@@ -26,9 +24,8 @@ pub record CheckedImage (ms : List Module) (numbers' nets' sizes' rooms' : List 
   pub tabled : Tabled 0 ms sizes' rooms'
 
 abbrev pub FoundIs : Found → (ms : List Module) → (numbers' nets' sizes' rooms' : List ℕ) → Type 0
-FoundIs Fine ms numbers' nets' sizes' rooms' = CheckedImage ms numbers' nets' sizes' rooms'
-FoundIs (Over place) ms numbers' nets' sizes' rooms' = file_verdict ms ≡ refused 17 place
-FoundIs (Broken rule place) ms numbers' nets' sizes' rooms' = file_verdict ms ≡ refused rule place
+FoundIs (Ok fine) ms numbers' nets' sizes' rooms' = CheckedImage ms numbers' nets' sizes' rooms'
+FoundIs (Err r) ms numbers' nets' sizes' rooms' = file_verdict ms ≡ refused r.number r.place
 
 pub record EachFound
     (numbers starts : List ℕ) (modules : ℕ) (found : Found) (first inputs outputs slots nets sizes rooms numbers' nets' sizes' rooms' : List ℕ)

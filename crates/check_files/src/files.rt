@@ -7,7 +7,8 @@ ghost use Rattle.check_steps.specs.Found.{Laidout, EachReady};
 ghost use Rattle.check_steps.specs.Going.{FileWalk, end_before, base_of};
 ghost use Rattle.check_files.specs.Files.{FileReady, FileFound};
 
-use check_steps::found::Found;
+use check_lists::numbering::Numbering;
+use refusals::Refusal;
 
 // The modules from position k on, of so many whose numbers are given: the strictly later ones first, on which the room and the expanded
 // size of the one at k rest. What was found behind all of them is known.
@@ -16,18 +17,16 @@ fn check_from(
     starts: &[usize],
     modules: usize,
     k: usize,
-    found: Found,
-    first: &[u16],
-    inputs: &[u16],
-    outputs: &[u16],
+    found: Result<(), Refusal>,
+    numbering: Numbering,
     slots: &mut [u32],
     nets: &mut [usize],
     sizes: &mut [u32],
     rooms: &mut [u32],
-) -> Found
-    requires each_ready { EachReady numbers.old starts.now modules found first.now inputs.now outputs.now slots.old nets.old sizes.old rooms.old }
+) -> Result<(), Refusal>
+    requires each_ready { EachReady numbers.old starts.now modules found numbering.first.now numbering.inputs.now numbering.outputs.now slots.old nets.old sizes.old rooms.old }
     requires k_le_modules { k ≤ modules }
-    ensures { FileWalk numbers.old starts.now modules found first.now inputs.now outputs.now slots.old nets.old sizes.old rooms.old numbers.new slots.new nets.new sizes.new rooms.new result (end_before starts.now numbers.new modules k) (base_of modules k) k }
+    ensures { FileWalk numbers.old starts.now modules found numbering.entry.first.now numbering.entry.inputs.now numbering.entry.outputs.now slots.old nets.old sizes.old rooms.old numbers.new slots.new nets.new sizes.new rooms.new result (end_before starts.now numbers.new modules k) (base_of modules k) k }
 {
     if modules <= k {
         return found;
@@ -38,16 +37,14 @@ fn check_from(
         modules,
         k + 1,
         found,
-        first,
-        inputs,
-        outputs,
+        numbering,
         slots,
         nets,
         sizes,
         rooms,
     );
     check_steps::steps::check_at(
-        numbers, starts, modules, k, behind, first, inputs, outputs, slots, nets, sizes, rooms,
+        numbers, starts, modules, k, behind, numbering, slots, nets, sizes, rooms,
     )
 }
 
@@ -63,7 +60,7 @@ pub fn check_modules(
     nets: &mut [usize],
     sizes: &mut [u32],
     rooms: &mut [u32],
-) -> Found
+) -> Result<(), Refusal>
     requires { FileReady numbers.old starts.now modules first.old slots.old names.old nets.old sizes.old rooms.old }
     ensures { (ms : List Module) → Laidout numbers.old starts.now modules ms → FileFound result ms numbers.new names.new nets.new sizes.new rooms.new }
 {
@@ -86,9 +83,11 @@ pub fn check_modules(
         repeated,
         0,
         known,
-        first,
-        &inputs,
-        &outputs,
+        Numbering {
+            first,
+            inputs: &inputs,
+            outputs: &outputs,
+        },
         slots,
         nets,
         sizes,

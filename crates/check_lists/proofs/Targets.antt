@@ -13,6 +13,7 @@ use Rattle.meaning.specs.Boxlist.{box, F, assoc, arity_okp}
 use Rattle.image.specs.Resolved.{position_of}
 use Rattle.check_sizes.specs.Behind.{inside}
 use Rattle.check_lists.specs.Numbering.{Numbered, Ported, first_of, first_repeat}
+use Rattle.std.specs.Prelude.{Ok, Err}
 use Rattle.check_lists.specs.References.{reference_of, pick}
 use Rattle.check_lists.specs.declared.references.Reference.TheVariants as reference
 use Rattle.check_lists.specs.Later.{later-found}
@@ -20,19 +21,19 @@ use Rattle.check_lists.specs.Later.{later-found}
 module _ (ms : List Module) (k number : ℕ) (takes drives : List ℕ) where
   pub to-gate :
       is_gate number ≡ true → (b : Bool) → (eqb (gate number).arity (length takes) && eqb 1 (length drives)) ≡ b
-      → reference_of ms k number takes drives ≡ pick b reference.Gate (reference.Broken 14)
+      → reference_of ms k number takes drives ≡ pick b (Ok reference.Gate) (Err 14)
   unfolding reference_of arity_okp
   to-gate g b e = rw (g, e)
 
   pub to_none :
-      is_gate number ≡ false → assoc number (drop (k + 1) ms) ≡ F → reference_of ms k number takes drives ≡ reference.Broken 13
+      is_gate number ≡ false → assoc number (drop (k + 1) ms) ≡ F → reference_of ms k number takes drives ≡ Err 13
   unfolding reference_of
   to_none g e = rw (g, e)
 
   to_module :
       is_gate number ≡ false → (m : Module) → assoc number (drop (k + 1) ms) ≡ box m
       → (b : Bool) → (eqb (length takes) (length m.inputs) && eqb (length drives) (length m.outputs)) ≡ b
-      → reference_of ms k number takes drives ≡ pick b (reference.Module (position_of number ms)) (reference.Broken 14)
+      → reference_of ms k number takes drives ≡ pick b (Ok (reference.Module (position_of number ms))) (Err 14)
   unfolding reference_of arity_okp
   to_module g m e b f = rw (g, e, f)
 
@@ -69,12 +70,12 @@ module _
     {inputs outputs : List ℕ} {ms : List Module} {k number place : ℕ} (t : Target inputs outputs ms k number place)
     (g : is_gate number ≡ false) (takes drives : List ℕ)
   where
-    pub inputs-differ : (length takes ≡ length t.m.inputs → ⊥) → reference_of ms k number takes drives ≡ reference.Broken 14
+    pub inputs-differ : (length takes ≡ length t.m.inputs → ⊥) → reference_of ms k number takes drives ≡ Err 14
     inputs-differ differ =
         to_module ms k number takes drives g t.m t.found false
         (ap (λ (b : Bool). b && eqb (length drives) (length t.m.outputs)) (ne_eqb (length takes) (length t.m.inputs) differ))
 
-    pub outputs-differ : (length drives ≡ length t.m.outputs → ⊥) → reference_of ms k number takes drives ≡ reference.Broken 14
+    pub outputs-differ : (length drives ≡ length t.m.outputs → ⊥) → reference_of ms k number takes drives ≡ Err 14
     outputs-differ differ =
         to_module ms k number takes drives g t.m t.found false
         (ap (λ (b : Bool). eqb (length takes) (length t.m.inputs) && b) (ne_eqb (length drives) (length t.m.outputs) differ)
@@ -82,8 +83,8 @@ module _
 
     pub counts-agree :
         length takes ≡ length t.m.inputs → length drives ≡ length t.m.outputs
-        → reference_of ms k number takes drives ≡ reference.Module (place - 1)
+        → reference_of ms k number takes drives ≡ Ok (reference.Module (place - 1))
     counts-agree takes-agree drives-agree =
         to_module ms k number takes drives g t.m t.found true
         (ap₂ ◌&&◌ (eq-eqb (length takes) (length t.m.inputs) takes-agree) (eq-eqb (length drives) (length t.m.outputs) drives-agree))
-        ∙ ap reference.Module t.placed
+        ∙ ap (λ (j : ℕ). Ok (reference.Module j)) t.placed

@@ -4,6 +4,15 @@ ghost use Rattle.meaning.specs.Syntax.{Module};
 ghost use Rattle.check_lists.specs.Filed.{Filed, Countable};
 ghost use Rattle.check_lists.specs.Numbering.{Entered};
 
+// The tables once they are filled: for each number one more than the position of the first module that has it, 0 for none; and for each
+// position the counts of inputs and outputs.
+#[derive(Clone, Copy)]
+pub struct Numbering<'a> {
+    pub first: &'a [u16],
+    pub inputs: &'a [u16],
+    pub outputs: &'a [u16],
+}
+
 // Fills the tables, from the last module to the first, and answers the first position whose number stands on a later module too.
 pub fn number_modules(
     numbers: &[u16],
@@ -18,9 +27,7 @@ pub fn number_modules(
     ensures { (ms : List Module) → Filed numbers.now starts.now ms → modules ≡ length ms → Entered ms first.new names.new inputs.new outputs.new result }
 {
     let mut repeated = modules;
-    let mut k = modules;
-    while 0 < k {
-        k -= 1;
+    for k in (0..modules).rev() {
         let s = starts[k];
         let x = image::entry(numbers, s);
         if first[x] != 0 {

@@ -5,66 +5,62 @@ ghost use Rattle.meaning.specs.Gates.{is_gate};
 ghost use Rattle.check_lists.specs.Numbering.{Numbered, Ported, first_repeat, Referable};
 ghost use Rattle.check_lists.specs.References.{reference_of};
 
+use crate::numbering::Numbering;
 use gates::Kind;
 
-// What a reference comes to: a gate, the module at a position, or the rule that it breaks.
-#[derive(Clone, Copy)]
+// What a reference that breaks no rule means: a gate, or the module at a position.
+#[derive(Clone, Copy, PartialEq, Eq, Debug)]
 pub enum Reference {
     Gate,
     Module(usize),
-    Broken(u16),
 }
 
-// A number from 16 up: the nearest later module that has it, with its counts of inputs and outputs.
+// A number from 16 up: the nearest later module that has it, with its counts of inputs and outputs; or the rule that is broken.
 fn judge_module(
     number: u16,
     taken: usize,
     driven: usize,
     k: usize,
-    first: &[u16],
-    inputs: &[u16],
-    outputs: &[u16],
-) -> Reference
-    requires referable { Referable first.now inputs.now outputs.now k number }
+    numbering: Numbering,
+) -> Result<Reference, u16>
+    requires referable { Referable numbering.first.now numbering.inputs.now numbering.outputs.now k number }
     requires number_value { is_gate number ≡ false }
-    ensures { (ms : List Module) (takes drives : List ℕ) → Numbered first.now ms → Ported inputs.now outputs.now ms → k < first_repeat ms → taken ≡ length takes → driven ≡ length drives → result ≡ reference_of ms k number takes drives }
+    ensures { (ms : List Module) (takes drives : List ℕ) → Numbered numbering.entry.first.now ms → Ported numbering.entry.inputs.now numbering.entry.outputs.now ms → k < first_repeat ms → taken ≡ length takes → driven ≡ length drives → result ≡ reference_of ms k number takes drives }
 {
-    let place = image::entry(first, number as usize);
+    let place = image::entry(numbering.first, number as usize);
     if place <= k + 1 {
-        return Reference::Broken(13);
+        return Err(13);
     }
-    if taken != image::entry(inputs, place - 1) {
-        return Reference::Broken(14);
+    if taken != image::entry(numbering.inputs, place - 1) {
+        return Err(14);
     }
-    if driven != image::entry(outputs, place - 1) {
-        return Reference::Broken(14);
+    if driven != image::entry(numbering.outputs, place - 1) {
+        return Err(14);
     }
-    Reference::Module(place - 1)
+    Ok(Reference::Module(place - 1))
 }
 
-// What a reference in the module at position k comes to.
+// What a reference in the module at position k comes to, or the rule that it breaks.
 pub fn judge_reference(
     number: u16,
     taken: usize,
     driven: usize,
     k: usize,
-    first: &[u16],
-    inputs: &[u16],
-    outputs: &[u16],
-) -> Reference
-    requires { Referable first.now inputs.now outputs.now k number }
-    ensures { (ms : List Module) (takes drives : List ℕ) → Numbered first.now ms → Ported inputs.now outputs.now ms → k < first_repeat ms → taken ≡ length takes → driven ≡ length drives → result ≡ reference_of ms k number takes drives }
+    numbering: Numbering,
+) -> Result<Reference, u16>
+    requires { Referable numbering.first.now numbering.inputs.now numbering.outputs.now k number }
+    ensures { (ms : List Module) (takes drives : List ℕ) → Numbered numbering.entry.first.now ms → Ported numbering.entry.inputs.now numbering.entry.outputs.now ms → k < first_repeat ms → taken ≡ length takes → driven ≡ length drives → result ≡ reference_of ms k number takes drives }
 {
     match gates::kind_of(number) {
         Kind::Gate(_, arity) => {
             if taken != arity {
-                return Reference::Broken(14);
+                return Err(14);
             }
             if driven != 1 {
-                return Reference::Broken(14);
+                return Err(14);
             }
-            Reference::Gate
+            Ok(Reference::Gate)
         }
-        Kind::Module => judge_module(number, taken, driven, k, first, inputs, outputs),
+        Kind::Module => judge_module(number, taken, driven, k, numbering),
     }
 }

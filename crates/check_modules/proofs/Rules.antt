@@ -1,10 +1,9 @@
 -- The verdict on a module whose number stands on no later one is made of three: rules 6 to 10 on its head, 11 to 14 on its occurrences,
 -- 15 and 16 at its end.
-use Prim.Native.Nat.{ℕ, zero, suc}
+use Prim.Native.Nat.{ℕ}
 use mathlib.Core.Path.{◌≡◌, refl, ap, ◌∙◌}
 use mathlib.Core.Bool.{Bool, true, false, not, ◌&&◌, ◌||◌, cond}
 use mathlib.Core.List.{List, [], ◌∷◌, ◌++◌}
-use native.Mathlib.Omega.{arith}
 use borrow.Author.Tests.{not-true}
 use lib.Dec.{eqb, leb}
 use Rattle.meaning.specs.Syntax.{Module}
@@ -14,17 +13,14 @@ use Rattle.meaning.specs.Limits.{driven, net_count, most_module_nets}
 use Rattle.meaning.specs.Verdict.{Verdict, good, refused, keep, and_then, body_verdict, module_verdict}
 use Rattle.nets.specs.Booleans.{and_left, and_right, eqb_sym}
 use Rattle.nets.specs.Members.{member-append}
-use Rattle.check_modules.specs.Heads.{ports_rule, head_rule}
+use Rattle.std.specs.Prelude.{Ok, Err}
+use Rattle.check_modules.specs.Heads.{Ruling, ports_rule, head_rule}
 use Rattle.check_modules.specs.Modules.{end_rule}
 
--- A rule of 0 leads on, any other is the verdict.
-abbrev pub ruled : (rule place : ℕ) → Verdict → Verdict
-ruled zero place next = next
-ruled (suc rule) place next = refused (suc rule) place
-
-pub ruled-broken : (rule place : ℕ) (next : Verdict) → (rule ≡ 0 → ⊥) → ruled rule place next ≡ refused rule place
-ruled-broken zero place next n = absurd (n refl)
-ruled-broken (suc rule) place next n = refl
+-- Where the rules hold it goes on, a rule that is broken is the verdict.
+abbrev pub ruled : Ruling → (place : ℕ) → Verdict → Verdict
+ruled (Ok hold) place next = next
+ruled (Err rule) place next = refused rule place
 
 module _ (k : ℕ) (m : Module) (later : List Module) (unrepeated : is_box (assoc m.number later) ≡ false) where
   pub module_rules :
@@ -42,33 +38,33 @@ module _ (k : ℕ) (m : Module) (later : List Module) (unrepeated : is_box (asso
       head :
           (gate twice again apart : Bool) {v w : Verdict} → v ≡ w
           → keep 6 k (not gate) (keep 8 k (not twice) (keep 9 k (not again) (keep 10 k apart v)))
-          ≡ ruled (cond gate 6 (cond twice 8 (cond again 9 (cond apart 0 10)))) k w
+          ≡ ruled (cond gate (Err 6) (cond twice (Err 8) (cond again (Err 9) (cond apart (Ok tt) (Err 10))))) k w
       head true twice again apart e = refl
       head false true again apart e = refl
       head false false true apart e = refl
       head false false false true e = e
       head false false false false e = refl
 
-      end : (answered few : Bool) → keep 15 k answered (keep 16 k few good) ≡ ruled (cond answered (cond few 0 16) 15) k good
+      end : (answered few : Bool) → keep 15 k answered (keep 16 k few good) ≡ ruled (cond answered (cond few (Ok tt) (Err 16)) (Err 15)) k good
       end true true = refl
       end true false = refl
       end false few = refl
 
 -- Where no rule on the head is broken, no net is both input and output.
-pub fine-apart : (number : ℕ) (inputs outputs : List ℕ) → head_rule number inputs outputs ≡ 0 → disjoint inputs outputs ≡ true
+pub fine-apart : (number : ℕ) (inputs outputs : List ℕ) → head_rule number inputs outputs ≡ Ok tt → disjoint inputs outputs ≡ true
 unfolding head_rule ports_rule
 fine-apart number inputs outputs =
     go (is_gate number) (duplicates inputs) (duplicates outputs) (disjoint inputs outputs)
   where
     go :
         (gate twice again apart : Bool)
-        → ◌≡◌ {A = ℕ} (cond gate 6 (cond twice 8 (cond again 9 (cond apart 0 10)))) 0
+        → ◌≡◌ {A = Ruling} (cond gate (Err 6) (cond twice (Err 8) (cond again (Err 9) (cond apart (Ok tt) (Err 10))))) (Ok tt)
         → apart ≡ true
-    go true twice again apart e = absurd (omega (arith, e))
-    go false true again apart e = absurd (omega (arith, e))
-    go false false true apart e = absurd (omega (arith, e))
+    go true twice again apart e = absurd (cc)
+    go false true again apart e = absurd (cc)
+    go false false true apart e = absurd (cc)
     go false false false true e = refl
-    go false false false false e = absurd (omega (arith, e))
+    go false false false false e = absurd (cc)
 
 -- Two lists are disjoint either way round.
 pub disjoint-sym : (xs ys : List ℕ) → disjoint xs ys ≡ disjoint ys xs

@@ -20,15 +20,14 @@ use Rattle.image.specs.Pieces.{ModuleAt, module_at}
 use Rattle.image.specs.Laid.{laid}
 use Rattle.image.specs.Resolved.{refer_to, resolve_occurrence, resolve_module, nets_of, slot_in}
 use Rattle.image.specs.Shapes.{length-of-nets, length-of-resolved-body}
-use Rattle.check_sizes.specs.declared.Sums.{Sums}
 use Rattle.check_sizes.specs.Behind.{inside}
 use Rattle.check_lists.specs.Scene.{Scene, Indexes, Figured}
 use Rattle.check_bodies.specs.Bodies.{BodyReady, BodyChecked, Walks, Finished, resolved_body}
-use Rattle.check_modules.specs.Heads.{HeadJudged, HeadWritable, resolved_head}
+use Rattle.std.specs.Prelude.{Result, Ok, Err}
+use Rattle.check_modules.specs.Heads.{Ruling, HeadJudged, HeadWritable, resolved_head}
 use Rattle.check_modules.specs.Modules.{end_rule, Ended, Settled}
 use Rattle.check_bodies.specs.declared.occurrences.Walked.{Walked}
-use Rattle.check_bodies.specs.declared.occurrences.Walked.TheVariants.{Fine, Broken}
-use Rattle.check_modules.proofs.Rules.{ruled, ruled-broken}
+use Rattle.check_modules.proofs.Rules.{ruled}
 use Rattle.check_lists.specs.Lists.{Behind}
 use Rattle.check_lists.specs.Places.{head_numbers, head_of, length-of-head, head-and-body, Places, places}
 use Rattle.check_modules.proofs.Turns.{verdict-behind, end-here}
@@ -61,9 +60,9 @@ resolved_module ms k m =
 
 -- The head of a module is fine, and its parts are read: the count of its outputs at n, that of its occurrences at e.
 pub record Opened (numbers : List ℕ) (base : ℕ) (slots : List ℕ) (n e width count : ℕ) : Type 0 where
-  pub rule : ℕ
+  pub rule : Ruling
   pub judged : HeadJudged numbers base slots rule
-  pub fine : rule ≡ 0
+  pub fine : rule ≡ Ok tt
   pub behind_inputs : Behind numbers 1 n
   pub behind_outputs : Behind numbers n e
   pub wide : width ≡ get_or numbers 1 0
@@ -100,29 +99,29 @@ module _
 
     -- What their check comes to.
     module _
-        {sizes rooms numbers' slots' : List ℕ} {w : Walked}
+        {sizes rooms numbers' slots' : List ℕ} {w : Result Walked ℕ}
         (b : BodyChecked numbers first inputs outputs slots base k (e + 1) count width sizes rooms numbers' slots' w) where
       came :
-          (v : Walked) → w ≡ v
+          (v : Result Walked ℕ) → w ≡ v
           → Walks v (body_verdict k s.m.occurrences s.m.inputs s.later) k s.ms s.m numbers (e + 1) base sizes rooms numbers' slots'
       came v is =
           rw is at
           (b.walks s body-stands (o.counted ∙ p.occurrence_count) (o.judged.knows s.m own o.fine) (o.wide ∙ p.input_count))
 
       -- An occurrence that breaks a rule is the verdict.
-      pub body-broken : {r : ℕ} → w ≡ Broken r → module_verdict k s.m s.later ≡ refused r k
+      pub body-broken : {r : ℕ} → w ≡ Err r → module_verdict k s.m s.later ≡ refused r k
       body-broken {r} is =
           verdict-behind s (o.judged.rule s.m own) o.fine
           ∙ ap (λ (v : Verdict). and_then v (ruled (end_rule s.m.outputs (driven s.m.occurrences) (net_count s.m)) k good))
-          (came (Broken r) is)
+          (came (Err r) is)
 
       -- All are fine.
-      module _ {next nets : ℕ} {sums : Sums} (is : w ≡ Fine next nets sums) where
+      module _ {walked : Walked} (is : w ≡ Ok walked) where
         fine : body_verdict k s.m.occurrences s.m.inputs s.later ≡ good
-        fine = (came (Fine next nets sums) is).0
+        fine = (came (Ok walked) is).0
 
-        f : Finished s.ms s.m numbers (e + 1) base sizes rooms numbers' slots' next nets sums
-        f = (came (Fine next nets sums) is).1
+        f : Finished s.ms s.m numbers (e + 1) base sizes rooms numbers' slots' walked.next walked.nets walked.sums
+        f = (came (Ok walked) is).1
 
         body : List ℕ
         body = each occurrence_numbers (resolved_body s.ms s.m s.m.occurrences)
@@ -150,7 +149,7 @@ module _
             → base ≤ 65536 * 128
             → length numbers ≤ 65535
             → length numbers' ≡ length numbers
-            → HeadWritable numbers' slots' base k nets
+            → HeadWritable numbers' slots' base k walked.nets
         ready-end index based short same =
             record {
               m = s.m;
@@ -163,25 +162,25 @@ module _
               short = omega arith;
             }
 
-        verdict-here : module_verdict k s.m s.later ≡ ruled (end_rule s.m.outputs (nets_of s.m) nets) k good
+        verdict-here : module_verdict k s.m s.later ≡ ruled (end_rule s.m.outputs (nets_of s.m) walked.nets) k good
         verdict-here =
             verdict-behind s (o.judged.rule s.m own) o.fine
-            ∙ ap₂ (λ (v : Verdict) (r : ℕ). and_then v (ruled r k good)) fine (end-here s (o.judged.rule s.m own) o.fine nets f.count)
+            ∙ ap₂ (λ (v : Verdict) (r : Ruling). and_then v (ruled r k good)) fine (end-here s (o.judged.rule s.m own) o.fine walked.nets f.count)
 
         -- What the end comes to is the answer.
-        module _ {numbers'' : List ℕ} {r : ℕ} (ended : Ended numbers' slots' base k nets numbers'' r) where
+        module _ {numbers'' : List ℕ} {r : Ruling} (ended : Ended numbers' slots' base k walked.nets numbers'' r) where
           at-end :
-              (r ≡ end_rule s.m.outputs (nets_of s.m) nets)
-              × (r ≡ 0 → numbers'' ≡ laid numbers' 0 (resolved_head k s.m (nets_of s.m)))
+              (r ≡ end_rule s.m.outputs (nets_of s.m) walked.nets)
+              × (r ≡ Ok tt → numbers'' ≡ laid numbers' 0 (resolved_head k s.m (nets_of s.m)))
           at-end = ended.ends s.m (nets_of s.m) head-stands f.knows f.count inputs-known
 
-          pub end-broken : (r ≡ 0 → ⊥) → module_verdict k s.m s.later ≡ refused r k
-          end-broken some = verdict-here ∙ ap (λ (x : ℕ). ruled x k good) (sym at-end.0) ∙ ruled-broken r k good some
+          pub end-broken : {number : ℕ} → r ≡ Err number → module_verdict k s.m s.later ≡ refused number k
+          end-broken broken = verdict-here ∙ ap (λ (x : Ruling). ruled x k good) (sym at-end.0 ∙ broken)
 
-          pub settled : r ≡ 0 → (module_verdict k s.m s.later ≡ good) × Settled s.ms s.m k sizes rooms numbers'' nets sums
+          pub settled : r ≡ Ok tt → (module_verdict k s.m s.later ≡ good) × Settled s.ms s.m k sizes rooms numbers'' walked.nets walked.sums
           unfolding body
           settled none = (
-            verdict-here ∙ ap (λ (x : ℕ). ruled x k good) (sym at-end.0 ∙ none),
+            verdict-here ∙ ap (λ (x : Ruling). ruled x k good) (sym at-end.0 ∙ none),
             record {
               count = f.count ∙ length-of-nets s.m;
               written =

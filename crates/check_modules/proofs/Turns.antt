@@ -15,9 +15,10 @@ use Rattle.image.specs.Shapes.{length-of-nets}
 use Rattle.check_lists.specs.Filed.{At}
 use Rattle.check_lists.specs.Numbering.{first_repeat}
 use Rattle.check_lists.specs.Scene.{Scene}
-use Rattle.check_modules.specs.Heads.{head_rule}
+use Rattle.std.specs.Prelude.{Ok, Err}
+use Rattle.check_modules.specs.Heads.{Ruling, head_rule}
 use Rattle.check_modules.specs.Modules.{end_rule}
-use Rattle.check_modules.proofs.Rules.{ruled, ruled-broken, module_rules, fine-apart, disjoint-sym, subset-apart}
+use Rattle.check_modules.proofs.Rules.{ruled, module_rules, fine-apart, disjoint-sym, subset-apart}
 
 -- Up to the first module whose number stands on a later one, that module is the first of those that are left.
 repeat_drop : (ms : List Module) (k : ℕ) → k ≤ first_repeat ms → first_repeat ms ≡ k + first_repeat (drop k ms)
@@ -51,25 +52,25 @@ module _ {first inputs outputs : List ℕ} {k : ℕ} (s : Scene first inputs out
       and_then (body_verdict k s.m.occurrences s.m.inputs s.later)
       (ruled (end_rule s.m.outputs (driven s.m.occurrences) (net_count s.m)) k good)
 
-  module _ {rule : ℕ} (is : rule ≡ head_rule s.m.number s.m.inputs s.m.outputs) where
+  module _ {rule : Ruling} (is : rule ≡ head_rule s.m.number s.m.inputs s.m.outputs) where
     by-head : module_verdict k s.m s.later ≡ ruled rule k behind_head
     unfolding behind_head
     by-head =
         module_rules k s.m s.later (unrepeated-here s.ms k s.m s.later s.here s.unrepeated)
-        ∙ ap (λ (r : ℕ). ruled r k behind_head) (sym is)
+        ∙ ap (λ (r : Ruling). ruled r k behind_head) (sym is)
 
     -- A rule on the head that is broken is the verdict.
-    pub head-broken : (rule ≡ 0 → ⊥) → module_verdict k s.m s.later ≡ refused rule k
-    head-broken n = by-head ∙ ruled-broken rule k behind_head n
+    pub head-broken : {number : ℕ} → rule ≡ Err number → module_verdict k s.m s.later ≡ refused number k
+    head-broken broken = by-head ∙ ap (λ (r : Ruling). ruled r k behind_head) broken
 
-    module _ (z : rule ≡ 0) where
+    module _ (z : rule ≡ Ok tt) where
       -- Else the occurrences and the end decide.
       pub verdict-behind :
           module_verdict k s.m s.later
           ≡ and_then (body_verdict k s.m.occurrences s.m.inputs s.later)
           (ruled (end_rule s.m.outputs (driven s.m.occurrences) (net_count s.m)) k good)
       unfolding behind_head
-      verdict-behind = by-head ∙ ap (λ (r : ℕ). ruled r k behind_head) z
+      verdict-behind = by-head ∙ ap (λ (r : Ruling). ruled r k behind_head) z
 
       -- Rule 15 asks for driven nets; no output is an input, so known nets serve.
       pub end-here :

@@ -1,5 +1,5 @@
 -- What stands of a module in front of its occurrences: rules 6 and 8 to 10, and its part of the image.
-use Rattle.std.specs.Prelude.{ℕ, ◌+◌, ◌*◌, ◌<◌, ◌≤◌, ◌^◌, ◌≡◌, Bool, true, cond, List, map, length}
+use Rattle.std.specs.Prelude.{ℕ, Result, Ok, Err, ◌+◌, ◌*◌, ◌<◌, ◌≤◌, ◌^◌, ◌≡◌, Bool, true, cond, List, map, length}
 use Rattle.meaning.specs.Syntax.{Module}
 use Rattle.meaning.specs.Gates.{is_gate}
 use Rattle.meaning.specs.Layout.{module_numbers}
@@ -9,13 +9,18 @@ use Rattle.image.specs.Stands.{Stands}
 use Rattle.check_lists.specs.Places.{head_numbers, head_of}
 use Rattle.image.specs.Laid.{laid}
 
--- Rules 8 to 10 on a module's inputs and outputs: the one that is broken first, 0 where all hold.
-unfoldable pub ports_rule : (inputs outputs : List ℕ) → ℕ
-ports_rule inputs outputs = cond (duplicates inputs) 8 (cond (duplicates outputs) 9 (cond (disjoint inputs outputs) 0 10))
+-- Some rules hold, or the one that is broken first.
+abbrev pub Ruling : Type 0
+Ruling = Result (Unit {0}) ℕ
+
+-- Rules 8 to 10 on a module's inputs and outputs.
+unfoldable pub ports_rule : (inputs outputs : List ℕ) → Ruling
+ports_rule inputs outputs =
+    cond (duplicates inputs) (Err 8) (cond (duplicates outputs) (Err 9) (cond (disjoint inputs outputs) (Ok tt) (Err 10)))
 
 -- With rule 6 before them.
-unfoldable pub head_rule : (number : ℕ) → (inputs outputs : List ℕ) → ℕ
-head_rule number inputs outputs = cond (is_gate number) 6 (ports_rule inputs outputs)
+unfoldable pub head_rule : (number : ℕ) → (inputs outputs : List ℕ) → Ruling
+head_rule number inputs outputs = cond (is_gate number) (Err 6) (ports_rule inputs outputs)
 
 -- Nets of both lists are indices of the table, its entries are from modules before, and slots fit a number.
 pub record PortsReady (inputs outputs slots : List ℕ) (base : ℕ) : Type 0 where
@@ -26,9 +31,9 @@ pub record PortsReady (inputs outputs slots : List ℕ) (base : ℕ) : Type 0 wh
   pub based : base + length inputs < 2 ^ 32
 
 -- The rule, and where none is broken a table that knows the inputs. No entry is above the slots of the base.
-pub record PortsJudged (inputs outputs : List ℕ) (base : ℕ) (slots' : List ℕ) (r : ℕ) : Type 0 where
+pub record PortsJudged (inputs outputs : List ℕ) (base : ℕ) (slots' : List ℕ) (r : Ruling) : Type 0 where
   pub rule : r ≡ ports_rule inputs outputs
-  pub knows : r ≡ 0 → Knows slots' base inputs
+  pub knows : r ≡ Ok tt → Knows slots' base inputs
   pub low : Below (base + 65536) slots'
 
 -- The numbers of a module are given, and the table's entries are from modules before.
@@ -40,9 +45,9 @@ pub record HeadReady (numbers slots : List ℕ) (base : ℕ) : Type 0 where
   pub short : length numbers ≤ 65535
   pub based : base ≤ 65536 * 128
 
-pub record HeadJudged (numbers : List ℕ) (base : ℕ) (slots' : List ℕ) (r : ℕ) : Type 0 where
+pub record HeadJudged (numbers : List ℕ) (base : ℕ) (slots' : List ℕ) (r : Ruling) : Type 0 where
   pub rule : (m : Module) → numbers ≡ module_numbers m → r ≡ head_rule m.number m.inputs m.outputs
-  pub knows : (m : Module) → numbers ≡ module_numbers m → r ≡ 0 → Knows slots' base m.inputs
+  pub knows : (m : Module) → numbers ≡ module_numbers m → r ≡ Ok tt → Knows slots' base m.inputs
   pub low : Below (base + 65536) slots'
 
 -- The head of the module at position k in the image, where its nets are known in the order of their slots.

@@ -1,31 +1,31 @@
 // What stands of a module in front of its occurrences: rules 6 and 8 to 10, and its part of the image.
 ghost use Rattle.check_modules.specs.Heads.{PortsReady, PortsJudged, HeadReady, HeadJudged, HeadWritable, HeadWritten};
 
-// Rules 8 to 10: the one that is broken first, 0 where all hold. The table then knows the inputs.
-fn judge_ports(inputs: &[u16], outputs: &[u16], slots: &mut [u32], base: u32) -> u16
+// Rules 8 to 10, or the one that is broken first. Where all hold the table knows the inputs.
+fn judge_ports(inputs: &[u16], outputs: &[u16], slots: &mut [u32], base: u32) -> Result<(), u16>
     requires { PortsReady inputs.now outputs.now slots.old base }
     ensures { PortsJudged inputs.now outputs.now base slots.new result }
 {
     if nets::repeats::has_repeat(inputs) {
-        return 8;
+        return Err(8);
     }
     if nets::repeats::has_repeat(outputs) {
-        return 9;
+        return Err(9);
     }
     nets::table::learn(inputs, slots, base);
     if nets::table::any_known(outputs, slots, base) {
-        return 10;
+        return Err(10);
     }
-    0
+    Ok(())
 }
 
-// Rules 6 and 8 to 10 for the module whose numbers are given: the one that is broken first, 0 where all hold.
-pub fn judge_head(numbers: &[u16], slots: &mut [u32], base: u32) -> u16
+// Rules 6 and 8 to 10 for the module whose numbers are given, or the one that is broken first.
+pub fn judge_head(numbers: &[u16], slots: &mut [u32], base: u32) -> Result<(), u16>
     requires { HeadReady numbers.now slots.old base }
     ensures { HeadJudged numbers.now base slots.new result }
 {
     if numbers[0] < 16 {
-        return 6;
+        return Err(6);
     }
     let n = check_lists::lists::list_end(numbers, 1);
     let o = n + 1;

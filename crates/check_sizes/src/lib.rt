@@ -6,8 +6,15 @@ ghost use Rattle.std.specs.Prelude.{◌≡◌, ◌+◌, ◌<◌, ◌^◌, length
 ghost use Rattle.check_sizes.specs.Walks.{no_sums, plus_gate, plus_module};
 ghost use Rattle.check_sizes.specs.Kept.{Keepable, Kept};
 
-// Over some occurrences of a module: its expanded size, and the largest room among the modules that they refer to.
+// The figures of modules by their positions, as they are looked up: expanded sizes and rooms.
 #[derive(Clone, Copy)]
+pub struct Figures<'a> {
+    pub sizes: &'a [u32],
+    pub rooms: &'a [u32],
+}
+
+// Over some occurrences of a module: its expanded size, and the largest room among the modules that they refer to.
+#[derive(Clone, Copy, PartialEq, Eq, Debug)]
 pub struct Sums {
     pub size: u32,
     pub room: u32,
@@ -33,14 +40,14 @@ impl Sums {
     }
 
     // With the module at position j more.
-    pub fn with_module(self, j: usize, sizes: &[u32], rooms: &[u32]) -> Self
-        requires j_in_bounds { (j < length sizes.now) × (j < length rooms.now) }
-        requires j_bound { self.size + (1 + get_or sizes.now j 0) < 2 ^ 32 }
-        ensures { result ≡ plus_module sizes.now rooms.now self j }
+    pub fn with_module(self, j: usize, figures: Figures) -> Self
+        requires j_in_bounds { (j < length figures.sizes.now) × (j < length figures.rooms.now) }
+        requires j_bound { self.size + (1 + get_or figures.sizes.now j 0) < 2 ^ 32 }
+        ensures { result ≡ plus_module figures.entry.sizes.now figures.entry.rooms.now self j }
     {
         Self {
-            size: self.size + (1 + sizes[j]),
-            room: image::buffers::larger(self.room, rooms[j]),
+            size: self.size + (1 + figures.sizes[j]),
+            room: image::buffers::larger(self.room, figures.rooms[j]),
         }
     }
 }

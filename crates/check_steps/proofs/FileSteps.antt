@@ -20,11 +20,10 @@ use Rattle.check_sizes.specs.declared.Sums.{Sums}
 use Rattle.check_lists.specs.Filed.{At}
 use Rattle.check_bodies.specs.Bodies.{resolved_body}
 use Rattle.check_modules.specs.Modules.{ModuleChecked, Checks}
-use Rattle.check_steps.specs.Found.{EachReady, Judges, over_of}
-use Rattle.check_modules.specs.declared.modules.Checked.{Checked}
-use Rattle.check_modules.specs.declared.modules.Checked.TheVariants.{Fine, Broken}
-use Rattle.check_steps.specs.declared.found.Found.{Found}
-use Rattle.check_steps.specs.declared.found.Found.TheVariants.{Fine as AllFine, Broken as FirstBroken}
+use Rattle.std.specs.Prelude.{Result, Ok, Err}
+use Rattle.refusals.specs.Refused.{refusal_at}
+use Rattle.check_steps.specs.Found.{Found, EachReady, Judges, over_of}
+use Rattle.check_modules.specs.declared.modules.Measured.{Measured}
 use Rattle.check_lists.specs.Later.{repeat_inside}
 use Rattle.check_steps.specs.FileParts.{replaced, modules-few}
 use Rattle.check_steps.specs.Going.{Done, Going, Bounded, FileWalk}
@@ -36,7 +35,7 @@ module _
     (ready : EachReady numbers₀ starts modules found₀ first inputs outputs slots₀ nets₀ sizes₀ rooms₀)
     {numbers slots nets sizes rooms : List ℕ} {found : Found} {end base k : ℕ}
     (w : FileWalk numbers₀ starts modules found₀ first inputs outputs slots₀ nets₀ sizes₀ rooms₀ numbers slots nets sizes rooms found end base k)
-    (j : ℕ) (next : j + 1 ≡ k) {piece slots' : List ℕ} {r : Checked}
+    (j : ℕ) (next : j + 1 ≡ k) {piece slots' : List ℕ} {r : Result Measured ℕ}
     (c : ModuleChecked (part ready w j next) j first inputs outputs base sizes rooms piece slots' r)
   where
     abbrev Ready : Type 0
@@ -60,11 +59,11 @@ module _
 
     -- What the check of the module says in each file.
     said :
-        {r' : Checked} → r ≡ r' → (e : Ready)
+        {r' : Result Measured ℕ} → r ≡ r' → (e : Ready)
         → Checks r' (module_verdict j (m e) (later e)) e.ms (m e) j sizes rooms piece
     said same e =
         subst
-        (λ (x : Checked). Checks x (module_verdict j (m e) (later e)) e.ms (m e) j sizes rooms piece)
+        (λ (x : Result Measured ℕ). Checks x (module_verdict j (m e) (later e)) e.ms (m e) j sizes rooms piece)
         same (c.checks (scene ready w j next e) (part-is ready w j next e))
 
     -- The parts of the next turn's facts.
@@ -94,7 +93,7 @@ module _
 
       going_next :
           (e : Ready) {found' : Found} {nets' sizes' rooms' : List ℕ} → Judges found' j e.ms
-          → (found' ≡ AllFine → Done e.ms j (piece ++ (behind e).tail) nets' sizes' rooms')
+          → (found' ≡ Ok tt → Done e.ms j (piece ++ (behind e).tail) nets' sizes' rooms')
           → Going e.ms j (get_or starts j 0) found' numbers' nets' sizes' rooms'
       going_next e judged done =
           let g = behind e in
@@ -109,19 +108,25 @@ module _
 
       -- It breaks a rule.
       pub walk-broken :
-          (rule : ℕ) → r ≡ Broken rule
+          (rule : ℕ) → r ≡ Err rule
           → FileWalk numbers₀ starts modules found₀ first inputs outputs slots₀ nets₀ sizes₀ rooms₀ numbers' slots' nets sizes rooms
-          (FirstBroken rule j) (get_or starts j 0) (base + 65536) j
+          (Err (refusal_at rule j)) (get_or starts j 0) (base + 65536) j
       walk-broken rule same =
           record {
             bounded = bounded-next {nets' = nets} {sizes' = sizes} {rooms' = rooms} refl refl refl w.bounded.small higher;
             going = λ e.
                 going_next e (judged-broken e.ms j (at e) (said same e))
-                (λ fine. absurd (let z : ◌≡◌ {A = ℕ} 0 1 = cc in omega (arith, z)));
+                (λ fine. absurd (cc));
           }
 
       -- It is fine, with so many nets and these sums.
-      module _ (own : ℕ) (sums : Sums) (same : r ≡ Fine own sums) where
+      module _ (measured : Measured) (same : r ≡ Ok measured) where
+        abbrev own : ℕ
+        own = measured.nets
+
+        abbrev sums : Sums
+        sums = measured.sums
+
         own-few : own ≤ 4096
         own-few =
             let s = said same ready in

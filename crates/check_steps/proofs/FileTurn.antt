@@ -8,14 +8,12 @@ use native.Mathlib.Omega.{arith}
 use borrow.Author.Tests.{lt-ltb}
 use lib.ListN.{length, get_or, take, drop, set}
 use Rattle.check_sizes.specs.Kept.{Keepable, Kept}
-use Rattle.check_sizes.specs.declared.Sums.{Sums}
 use Rattle.check_modules.specs.Modules.{ModuleReady, ModuleChecked}
-use Rattle.check_steps.specs.Found.{over_of}
+use Rattle.std.specs.Prelude.{Result, Ok, Err}
+use Rattle.refusals.specs.Refused.{refusal_at}
+use Rattle.check_steps.specs.Found.{Found, over_of}
 use Rattle.check_steps.specs.Going.{FileWalk, Reached, Gone, end_before}
-use Rattle.check_modules.specs.declared.modules.Checked.{Checked}
-use Rattle.check_modules.specs.declared.modules.Checked.TheVariants.{Fine, Broken}
-use Rattle.check_steps.specs.declared.found.Found.{Found}
-use Rattle.check_steps.specs.declared.found.Found.TheVariants.{Broken as FirstBroken}
+use Rattle.check_modules.specs.declared.modules.Measured.{Measured}
 use Rattle.check_steps.specs.FileParts.{modules-few}
 use Rattle.check_steps.proofs.FileWalk.{module_ready, start-low, part-bounds}
 use Rattle.check_steps.proofs.FileSteps.{walk-broken, keepable, walk_kept, walk-over}
@@ -61,7 +59,7 @@ module _
   nets-long = omega (arith, b.inside, b.ready.nets_long, b.walk.bounded.nets_kept)
 
   module _
-      {piece slots' : List ℕ} {r : Checked} (c : ModuleChecked part k first inputs outputs base sizes rooms piece slots' r)
+      {piece slots' : List ℕ} {r : Result Measured ℕ} (c : ModuleChecked part k first inputs outputs base sizes rooms piece slots' r)
       (piece_kept : length piece ≡ length part) (slots_kept : length slots' ≡ length slots) where
     abbrev numbers' : List ℕ
     numbers' = take start numbers ++ (piece ++ drop (end - start) (drop start numbers))
@@ -80,16 +78,16 @@ module _
         (sym (rw (lt-ltb k modules b.inside)))
         (omega (arith, b.inside))
 
-    pub gone-broken : (rule : ℕ) → r ≡ Broken rule → Gone b numbers' slots' nets sizes rooms (FirstBroken rule k)
+    pub gone-broken : (rule : ℕ) → r ≡ Err rule → Gone b numbers' slots' nets sizes rooms (Err (refusal_at rule k))
     gone-broken rule same = gone (walk-broken b.ready walk k refl c piece_kept slots_kept rule same)
 
-    module _ (own : ℕ) (sums : Sums) (same : r ≡ Fine own sums) where
-      pub may_keep : Keepable own sums k sizes rooms
-      may_keep = keepable b.ready walk k refl c piece_kept slots_kept own sums same
+    module _ (measured : Measured) (same : r ≡ Ok measured) where
+      pub may_keep : Keepable measured.nets measured.sums k sizes rooms
+      may_keep = keepable b.ready walk k refl c piece_kept slots_kept measured same
 
-      module _ {sizes' rooms' : List ℕ} {within : Bool} (kept : Kept own sums k sizes rooms sizes' rooms' within) where
-        pub gone-kept : within ≡ true → Gone b numbers' slots' (set nets k own) sizes' rooms' found
-        gone-kept low = gone (walk_kept b.ready walk k refl c piece_kept slots_kept own sums same kept low)
+      module _ {sizes' rooms' : List ℕ} {within : Bool} (kept : Kept measured.nets measured.sums k sizes rooms sizes' rooms' within) where
+        pub gone-kept : within ≡ true → Gone b numbers' slots' (set nets k measured.nets) sizes' rooms' found
+        gone-kept low = gone (walk_kept b.ready walk k refl c piece_kept slots_kept measured same kept low)
 
-        pub gone-over : within ≡ false → Gone b numbers' slots' (set nets k own) sizes' rooms' (over_of found k)
-        gone-over high = gone (walk-over b.ready walk k refl c piece_kept slots_kept own sums same kept high)
+        pub gone-over : within ≡ false → Gone b numbers' slots' (set nets k measured.nets) sizes' rooms' (over_of found k)
+        gone-over high = gone (walk-over b.ready walk k refl c piece_kept slots_kept measured same kept high)

@@ -12,8 +12,7 @@ use Rattle.image.specs.ResolvedLayout.{start_of, stands-at-start}
 use Rattle.check_sizes.specs.Behind.{Here, here}
 use Rattle.check_lists.specs.Scene.{Scene}
 use Rattle.check_modules.specs.Modules.{ModuleReady}
-use Rattle.check_steps.specs.Found.{EachReady}
-use Rattle.check_steps.specs.declared.found.Found.{Found}
+use Rattle.check_steps.specs.Found.{Found, EachReady}
 use Rattle.check_lists.specs.Later.{repeat_inside}
 use Rattle.check_steps.specs.FileParts.{part-inside, own-part, modules-few}
 use Rattle.check_steps.specs.Going.{Going, FileWalk}

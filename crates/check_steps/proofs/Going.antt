@@ -2,7 +2,6 @@
 use Prim.Native.Nat.{ℕ, suc, ◌+◌, ◌≤◌, ◌<◌}
 use mathlib.Core.Path.{◌≡◌, refl, ◌∙◌}
 use mathlib.Core.List.{List, ◌++◌}
-use native.Mathlib.Omega.{arith}
 use native.Mathlib.Numerals.{add-one}
 use lib.ListN.{length, drop, set}
 use lib.Seq.{drop-drop}
@@ -18,17 +17,17 @@ use Rattle.check_sizes.specs.Measuring.{stored, measured_fine, measured_over, ta
 use Rattle.check_sizes.specs.declared.Sums.{Sums}
 use Rattle.check_lists.specs.Filed.{At}
 use Rattle.check_modules.specs.Modules.{Settled}
-use Rattle.check_steps.specs.Found.{Judges, over_of}
-use Rattle.check_steps.specs.declared.found.Found.{Found}
-use Rattle.check_steps.specs.declared.found.Found.TheVariants.{Fine, Over, Broken}
+use Rattle.std.specs.Prelude.{Ok, Err}
+use Rattle.refusals.specs.Refused.{refusal_at}
+use Rattle.check_steps.specs.Found.{Found, Judges, broken, over, over_of}
 use Rattle.check_steps.specs.Going.{Done}
 
 -- The module at k, in front of those that are done.
 module _ (ms : List Module) (k : ℕ) {m : Module} {later : List Module} (e : At ms k m later) where
   -- It breaks a rule: then that one counts.
-  pub judged-broken : {rule : ℕ} → module_verdict k m later ≡ refused rule k → Judges (Broken rule k) k ms
+  pub judged-broken : {rule : ℕ} → module_verdict k m later ≡ refused rule k → Judges (Err (refusal_at rule k)) k ms
   unfolding modules_verdict
-  judged-broken broken = rw (e, broken)
+  judged-broken breaks = broken (rw (e, breaks) refl)
 
   module _ (fine : module_verdict k m later ≡ good) where
     modules-behind : modules_verdict k (drop k ms) ≡ modules_verdict (k + 1) (drop (k + 1) ms)
@@ -44,23 +43,21 @@ module _ (ms : List Module) (k : ℕ) {m : Module} {later : List Module} (e : At
     module _ {tail nets sizes rooms piece : List ℕ} {own : ℕ} {sums : Sums} (s : Settled ms m k sizes rooms piece own sums) where
       -- It is within the limit, or above.
       pub judged-kept :
-          (found : Found) → (found ≡ Fine → Done ms (k + 1) tail nets sizes rooms) → Judges found (k + 1) ms → sums.size ≤ most_size → Judges found k ms
-      judged-kept Fine done j small = (
+          (found : Found) → (found ≡ Ok tt → Done ms (k + 1) tail nets sizes rooms) → Judges found (k + 1) ms → sums.size ≤ most_size → Judges found k ms
+      judged-kept (Ok tt) done j small = (
         modules-behind ∙ j.0,
         λ fits. rw e (measured_fine fits k e ((done refl).tabled fits) s.summed (sizes-behind (j.1 fits)) small),
       )
-      judged-kept (Over place) done j small = (modules-behind ∙ j.0, λ fits. over-behind (j.1 fits))
-      judged-kept (Broken rule place) done j small = modules-behind ∙ j
+      judged-kept (Err r) done (broken b) small = broken (modules-behind ∙ b)
+      judged-kept (Err r) done (over is fine_behind size) small = over is (modules-behind ∙ fine_behind) (λ fits. over-behind (size fits))
 
       pub judged-over :
-          (found : Found) → (found ≡ Fine → Done ms (k + 1) tail nets sizes rooms) → Judges found (k + 1) ms → most_size < sums.size → Judges (over_of found k) k ms
-      unfolding over_of
-      judged-over Fine done j large = (
-        modules-behind ∙ j.0,
-        λ fits. rw e (measured_over fits k e ((done refl).tabled fits) s.summed (sizes-behind (j.1 fits)) large),
-      )
-      judged-over (Over place) done j large = (modules-behind ∙ j.0, λ fits. over-behind (j.1 fits))
-      judged-over (Broken rule place) done j large = modules-behind ∙ j
+          (found : Found) → (found ≡ Ok tt → Done ms (k + 1) tail nets sizes rooms) → Judges found (k + 1) ms → most_size < sums.size → Judges (over_of found k) k ms
+      judged-over (Ok tt) done j large =
+          over refl (modules-behind ∙ j.0)
+          (λ fits. rw e (measured_over fits k e ((done refl).tabled fits) s.summed (sizes-behind (j.1 fits)) large))
+      judged-over (Err r) done (broken b) large = broken (modules-behind ∙ b)
+      judged-over (Err r) done (over is fine_behind size) large = over is (modules-behind ∙ fine_behind) (λ fits. over-behind (size fits))
 
       -- Its image, its nets and its figures join those of the others.
       pub done_more :
@@ -80,8 +77,6 @@ module _ (ms : List Module) (k : ℕ) {m : Module} {later : List Module} (e : At
               rw (s.written, d.image, ← drop-drop 1 k (resolve ms), there)
 
 -- A size over the limit is found, so the check is not fine any more.
-pub over_not_fine : (found : Found) (place : ℕ) → over_of found place ≡ Fine → ⊥
-unfolding over_of
-over_not_fine Fine place e = let z : ◌≡◌ {A = ℕ} 0 1 = cc in omega (arith, z)
-over_not_fine (Over before) place e = let z : ◌≡◌ {A = ℕ} 0 1 = cc in omega (arith, z)
-over_not_fine (Broken rule before) place e = let z : ◌≡◌ {A = ℕ} 0 1 = cc in omega (arith, z)
+pub over_not_fine : (found : Found) (place : ℕ) → over_of found place ≡ Ok tt → ⊥
+over_not_fine (Ok fine) place e = cc
+over_not_fine (Err before) place e = cc

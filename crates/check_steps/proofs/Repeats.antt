@@ -16,8 +16,9 @@ use Rattle.check_sizes.specs.Behind.{Here, here}
 use Rattle.check_lists.specs.Filed.{At}
 use Rattle.check_lists.specs.Numbering.{first_repeat}
 use Rattle.check_lists.specs.Later.{repeat_inside}
-use Rattle.check_steps.specs.Found.{Repeating, Known}
-use Rattle.check_steps.specs.declared.found.Found.TheVariants.{Fine, Broken}
+use Rattle.std.specs.Prelude.{Ok, Err}
+use Rattle.refusals.specs.Refused.{refusal_at}
+use Rattle.check_steps.specs.Found.{Repeating, Known, broken}
 use Rattle.check_steps.specs.FileParts.{filed-of}
 
 repeated_here :
@@ -53,7 +54,7 @@ module _ (ms : List Module) (k : ℕ) {m : Module} {later : List Module} (e : At
 
 -- What is known before the check of a file that is laid out.
 module _ {numbers starts : List ℕ} {modules repeated : ℕ} (b : Repeating numbers starts modules repeated) where
-  pub none-repeats : modules ≤ repeated → Known Fine repeated b.ms
+  pub none-repeats : modules ≤ repeated → Known (Ok tt) repeated b.ms
   unfolding modules_verdict sizes_verdict
   none-repeats h =
       let end = drop_of_length-le b.ms {i = repeated} (omega (arith, b.laidout.all)) in
@@ -62,8 +63,8 @@ module _ {numbers starts : List ℕ} {modules repeated : ℕ} (b : Repeating num
         none = λ fine. omega (arith, b.laidout.all, b.repeats, repeat_inside b.ms);
       }
 
-  broken : {rule : ℕ} → modules_verdict repeated (drop repeated b.ms) ≡ refused rule repeated → Known (Broken rule repeated) repeated b.ms
-  broken judged = record { judged = judged; none = λ fine. absurd (let z : ◌≡◌ {A = ℕ} 0 1 = cc in omega (arith, z)) }
+  breaks : {rule : ℕ} → modules_verdict repeated (drop repeated b.ms) ≡ refused rule repeated → Known (Err (refusal_at rule repeated)) repeated b.ms
+  breaks judged = record { judged = broken judged; none = λ fine. absurd (cc) }
 
   -- The module that is repeated begins among the numbers, and its number decides between the rules.
   module _ (some : repeated < modules) where
@@ -84,8 +85,8 @@ module _ {numbers starts : List ℕ} {modules repeated : ℕ} (b : Repeating num
     unfolding module_numbers
     repeat_starts = omega (arith, stands.within)
 
-    pub repeat_of-gate : get_or numbers start 0 < 16 → Known (Broken 6 repeated) repeated b.ms
-    repeat_of-gate h = broken (repeat_breaks_6 b.ms repeated there.at b.repeats (omega (arith, number_is)))
+    pub repeat_of-gate : get_or numbers start 0 < 16 → Known (Err (refusal_at 6 repeated)) repeated b.ms
+    repeat_of-gate h = breaks (repeat_breaks_6 b.ms repeated there.at b.repeats (omega (arith, number_is)))
 
-    pub repeat_of_module : 16 ≤ get_or numbers start 0 → Known (Broken 7 repeated) repeated b.ms
-    repeat_of_module h = broken (repeat_breaks_7 b.ms repeated there.at b.repeats (omega (arith, number_is)))
+    pub repeat_of_module : 16 ≤ get_or numbers start 0 → Known (Err (refusal_at 7 repeated)) repeated b.ms
+    repeat_of_module h = breaks (repeat_breaks_7 b.ms repeated there.at b.repeats (omega (arith, number_is)))

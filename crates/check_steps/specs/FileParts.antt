@@ -12,8 +12,7 @@ use Rattle.image.specs.ResolvedLayout.{start_of, stands-at-start}
 use Rattle.check_sizes.specs.Behind.{inside}
 use Rattle.check_lists.specs.Filed.{At, Filed}
 use Rattle.check_lists.specs.Later.{repeat_inside}
-use Rattle.check_steps.specs.declared.found.Found.{Found}
-use Rattle.check_steps.specs.Found.{Laidout, EachReady}
+use Rattle.check_steps.specs.Found.{Found, Laidout, EachReady}
 use Rattle.check_steps.specs.Going.{front, end_before}
 
 -- One more entry taken.

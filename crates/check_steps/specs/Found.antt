@@ -1,5 +1,5 @@
 -- What was found in the modules of a file that are done, and what the check of those that are left asks.
-use Rattle.std.specs.Prelude.{ℕ, ◌≤◌, ◌<◌, ◌≡◌, List, length, get_or, take, drop}
+use Rattle.std.specs.Prelude.{ℕ, ◌≤◌, ◌<◌, ◌≡◌, Result, Ok, Err, List, length, get_or, take, drop}
 use Rattle.meaning.specs.Syntax.{Module}
 use Rattle.meaning.specs.Layout.{file_numbers}
 use Rattle.meaning.specs.Verdict.{good, refused, modules_verdict, sizes_verdict}
@@ -8,8 +8,8 @@ use Rattle.image.specs.ResolvedLayout.{start_of}
 use Rattle.image.specs.Fitting.{Fits}
 use Rattle.check_lists.specs.Numbering.{Numbered, Ported, first_repeat}
 use Rattle.check_lists.specs.Scene.{Indexes, Figured}
-use Rattle.check_steps.specs.declared.found.Found.{Found}
-use Rattle.check_steps.specs.declared.found.Found.TheVariants.{Fine, Over, Broken}
+use Rattle.refusals.specs.Refused.{refusal_at}
+use Rattle.refusals.specs.declared.Refusal.{Refusal}
 
 -- The numbers are those of a file of so many modules, and each module's start is known.
 pub record Laidout (numbers starts : List ℕ) (modules : ℕ) (ms : List Module) : Type 0 where
@@ -19,17 +19,25 @@ pub record Laidout (numbers starts : List ℕ) (modules : ℕ) (ms : List Module
   pub few : length ms ≤ 128
   pub listed : length ms ≤ length starts
 
--- A size that is over its limit counts where nothing was found before.
-unfoldable pub over_of : Found → (place : ℕ) → Found
-over_of Fine place = Over place
-over_of (Over before) place = Over before
-over_of (Broken rule before) place = Broken rule before
+-- How the check ended: all fine, or what the file is refused with.
+abbrev pub Found : Type 0
+Found = Result (Unit {0}) Refusal
 
--- What was found in the modules from position k on. Sizes count only where the whole file keeps rules 6 to 16.
+-- A size that is over its limit counts where nothing was found before.
+abbrev pub over_of : Found → (place : ℕ) → Found
+over_of (Ok fine) place = Err (refusal_at 17 place)
+over_of (Err before) place = Err before
+
+-- Why the modules from position k on are refused: one of them breaks a rule of 6 to 16, the first that does; or none does, and a size is
+-- over its limit. Sizes count only where the whole file keeps rules 6 to 16.
+pub data Refuses (r : Refusal) (k : ℕ) (ms : List Module) : Type 0 where
+  broken : modules_verdict k (drop k ms) ≡ refused r.number r.place → Refuses r k ms
+  over : r.number ≡ 17 → modules_verdict k (drop k ms) ≡ good → (Fits ms → sizes_verdict k (drop k ms) ≡ refused 17 r.place) → Refuses r k ms
+
+-- What was found in the modules from position k on.
 abbrev pub Judges : Found → (k : ℕ) → (ms : List Module) → Type 0
-Judges Fine k ms = (modules_verdict k (drop k ms) ≡ good) × (Fits ms → sizes_verdict k (drop k ms) ≡ good)
-Judges (Over place) k ms = (modules_verdict k (drop k ms) ≡ good) × (Fits ms → sizes_verdict k (drop k ms) ≡ refused 17 place)
-Judges (Broken rule place) k ms = modules_verdict k (drop k ms) ≡ refused rule place
+Judges (Ok fine) k ms = (modules_verdict k (drop k ms) ≡ good) × (Fits ms → sizes_verdict k (drop k ms) ≡ good)
+Judges (Err r) k ms = Refuses r k ms
 
 -- The first position whose number stands on a later module too is known, of a file that is laid out; the count of modules where there is none.
 pub record Repeating (numbers starts : List ℕ) (modules repeated : ℕ) : Type 0 where
@@ -41,7 +49,7 @@ pub record Repeating (numbers starts : List ℕ) (modules repeated : ℕ) : Type
 -- What the modules from position k on come to is known without a check; where nothing was found there are none.
 pub record Known (found : Found) (k : ℕ) (ms : List Module) : Type 0 where
   pub judged : Judges found k ms
-  pub none : found ≡ Fine → k ≡ length ms
+  pub none : found ≡ Ok tt → k ≡ length ms
 
 -- So many modules of a file are left, which no later module repeats; their numbers stand in front. What was found behind them is known.
 pub record EachReady

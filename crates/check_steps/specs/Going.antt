@@ -1,6 +1,6 @@
 -- How far the check of a file's modules has come: what is known where those from position k on are done. The numbers in front of them are
 -- still the file's, and where nothing was found the rest of the image stands behind.
-use Rattle.std.specs.Prelude.{ℕ, ◌+◌, ◌-◌, ◌*◌, ◌≤◌, ◌<◌, ◌≡◌, cond, List, ◌∷◌, ◌++◌, ltb, length, get_or, take, drop}
+use Rattle.std.specs.Prelude.{ℕ, Ok, ◌+◌, ◌-◌, ◌*◌, ◌≤◌, ◌<◌, ◌≡◌, cond, List, ◌∷◌, ◌++◌, ltb, length, get_or, take, drop}
 use Rattle.meaning.specs.Syntax.{Module}
 use Rattle.meaning.specs.Layout.{each, module_numbers}
 use Rattle.meaning.specs.Limits.{net_count}
@@ -10,9 +10,7 @@ use Rattle.image.specs.ResolvedLayout.{start_of}
 use Rattle.image.specs.Fitting.{Fits}
 use Rattle.check_sizes.specs.Measured.{Tabled}
 use Rattle.check_lists.specs.Filed.{At}
-use Rattle.check_steps.specs.Found.{EachReady, Judges}
-use Rattle.check_steps.specs.declared.found.Found.{Found}
-use Rattle.check_steps.specs.declared.found.Found.TheVariants.{Fine}
+use Rattle.check_steps.specs.Found.{Found, EachReady, Judges}
 
 -- The count of modules, and the numbers of those in front of position k.
 unfoldable pub front : List Module → ℕ → List ℕ
@@ -29,7 +27,7 @@ pub record Going (ms : List Module) (k end : ℕ) (found : Found) (numbers nets 
   pub reached : end ≡ start_of ms k
   pub numbers_are : numbers ≡ front ms k ++ tail
   pub judged : Judges found k ms
-  pub done : found ≡ Fine → Done ms k tail nets sizes rooms
+  pub done : found ≡ Ok tt → Done ms k tail nets sizes rooms
 
 -- The tables where the modules in front of position k are left: as long as they were, and no entry too high. The base grows with each
 -- that is done by as many slots as a module's nets can have.

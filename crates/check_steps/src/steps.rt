@@ -2,8 +2,10 @@
 ghost use Rattle.std.specs.Prelude.{◌≡◌, ◌≤◌, length};
 ghost use Rattle.check_steps.specs.Going.{Reached, Gone, end_before};
 
-use crate::found::Found;
-use check_modules::modules::Checked;
+use check_lists::numbering::Numbering;
+use check_modules::modules::Measured;
+use check_sizes::Figures;
+use refusals::Refusal;
 
 // Where the modules in front of position k end, of so many: where the one at k starts, or behind the last.
 pub fn end_before(numbers: &[u16], starts: &[usize], modules: usize, k: usize) -> usize
@@ -23,17 +25,15 @@ pub fn check_at(
     starts: &[usize],
     modules: usize,
     k: usize,
-    found: Found,
-    first: &[u16],
-    inputs: &[u16],
-    outputs: &[u16],
+    found: Result<(), Refusal>,
+    numbering: Numbering,
     slots: &mut [u32],
     nets: &mut [usize],
     sizes: &mut [u32],
     rooms: &mut [u32],
-) -> Found
-    requires { Reached numbers.old starts.now modules k found first.now inputs.now outputs.now slots.old nets.old sizes.old rooms.old }
-    ensures { (b : Reached numbers.old starts.now modules k found first.now inputs.now outputs.now slots.old nets.old sizes.old rooms.old)
+) -> Result<(), Refusal>
+    requires { Reached numbers.old starts.now modules k found numbering.first.now numbering.inputs.now numbering.outputs.now slots.old nets.old sizes.old rooms.old }
+    ensures { (b : Reached numbers.old starts.now modules k found numbering.entry.first.now numbering.entry.inputs.now numbering.entry.outputs.now slots.old nets.old sizes.old rooms.old)
         → Gone b numbers.new slots.new nets.new sizes.new rooms.new result }
 {
     let start = starts[k];
@@ -42,16 +42,13 @@ pub fn check_at(
     match check_modules::modules::check_module(
         &mut numbers[start..end],
         k,
-        first,
-        inputs,
-        outputs,
+        numbering,
         slots,
         base,
-        sizes,
-        rooms,
+        Figures { sizes, rooms },
     ) {
-        Checked::Broken(rule) => Found::Broken { rule, place: k },
-        Checked::Fine { nets: own, sums } => {
+        Err(rule) => Err(Refusal::at(rule, k)),
+        Ok(Measured { nets: own, sums }) => {
             nets[k] = own;
             if check_sizes::keep(own, sums, k, sizes, rooms) {
                 found

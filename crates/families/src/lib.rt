@@ -6,7 +6,7 @@ ghost use Rattle.std.specs.Prelude.{◌≡◌};
 ghost use Rattle.meaning.specs.Family.{unit_family, delay_in, family_of};
 
 // Sixteen delays, in gate order.
-#[derive(Clone, Copy)]
+#[derive(Clone, Copy, PartialEq, Eq, Debug)]
 pub struct Family {
     pub delays: [u8; 16],
 }
@@ -37,8 +37,6 @@ pub fn of_bytes(bytes: &[u8]) -> Family
         return unit();
     }
     let mut delays = [0u8; 16];
-    for i in 0..16 {
-        delays[i] = bytes[i];
-    }
+    delays.copy_from_slice(bytes);
     Family { delays }
 }

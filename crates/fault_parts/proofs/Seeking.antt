@@ -1,7 +1,8 @@
 -- The search for a module by its number.
-use Prim.Native.Nat.{ℕ, ◌+◌, ◌-◌, ◌≤◌, ◌<◌}
+use Prim.Native.Nat.{ℕ, ◌+◌, ◌≤◌, ◌<◌}
 use native.Mathlib.Omega.{arith}
-use mathlib.Core.Path.{◌≡◌, refl, sym, ◌∙◌, ap}
+use mathlib.Core.Path.{◌≡◌, refl, sym, subst, ◌∙◌, ap}
+use Rattle.std.specs.Prelude.{Option, Some, None}
 use mathlib.Core.Bool.{true, false}
 use mathlib.Core.List.{List, []}
 use lib.Dec.{eqb}
@@ -45,7 +46,7 @@ module _ {numbers starts : List ℕ} {modules : ℕ} (p : Placed numbers starts 
   module_here = module_at m stands
 
 module _ {numbers starts : List ℕ} {modules : ℕ} (p : Placed numbers starts modules) (from number j : ℕ) (s : Seeking p from number j) where
-  pub seek_hit : (l : j < modules) → get_or numbers (get_or starts j 0) 0 ≡ number → Finds p.ms (assoc number (drop from p.ms)) j
+  pub seek_hit : (l : j < modules) → get_or numbers (get_or starts j 0) 0 ≡ number → Finds p.ms (assoc number (drop from p.ms)) (Some j)
   unfolding assoc
   seek_hit l e =
       let own : number ≡ (m p j l).number = sym e ∙ (module_here p j l).number in
@@ -62,18 +63,17 @@ module _ {numbers starts : List ℕ} {modules : ℕ} (p : Placed numbers starts 
             ∙ ap (assoc number) (sym (behind p.ms j (at p j l)));
       }
 
-  pub seek-none : modules ≤ j → Finds p.ms (assoc number (drop from p.ms)) j
+  pub seek-none : modules ≤ j → Finds p.ms (assoc number (drop from p.ms)) None
   unfolding assoc
   seek-none l =
-      let end : j ≡ length p.ms = omega (arith, s.few, p.counted) in
       let beyond : length p.ms ≤ j = omega (arith, p.counted) in
       let past : drop j p.ms ≡ [] = drop_of_length-le p.ms beyond in
-      rw (s.is, past, end) none
+      rw (s.is, past) none
 
 -- What a search came to.
-pub missed : {ms : List Module} {f : Found} {r : ℕ} → Finds ms f r → r ≡ length ms → f ≡ F
+pub missed : {ms : List Module} {f : Found} {r : Option ℕ} → Finds ms f r → r ≡ None → f ≡ F
 missed none e = refl
-missed {ms} (some {r = r} at) e = absurd (omega (arith, e, behind-inside ms r at))
+missed (some at) e = absurd (cc)
 
 pub record Hit (ms : List Module) (f : Found) (r : ℕ) : Type 0 where
   pub m : Module
@@ -81,9 +81,11 @@ pub record Hit (ms : List Module) (f : Found) (r : ℕ) : Type 0 where
   pub at : At ms r m later
   pub is : f ≡ box m
 
-pub hit : {ms : List Module} {f : Found} {r : ℕ} → Finds ms f r → (r ≡ length ms → ⊥) → Hit ms f r
-hit none n = absurd (n refl)
-hit (some {m = m} {later = later} at) n = record { m = m; later = later; at = at; is = refl }
+pub hit : {ms : List Module} {f : Found} {r : Option ℕ} {j : ℕ} → Finds ms f r → r ≡ Some j → Hit ms f j
+hit none e = absurd (cc)
+hit {ms} {j = j} (some {r = r} {m = m} {later = later} at) e =
+    let same : r ≡ j = cc in
+    record { m = m; later = later; at = subst (λ (k : ℕ). At ms k m later) same at; is = refl }
 
 -- The module that was met, where it stands.
 module _ {numbers starts : List ℕ} {modules : ℕ} (p : Placed numbers starts modules) {f : Found} {r : ℕ} (h : Hit p.ms f r) where

@@ -1,5 +1,5 @@
 -- What the functions ask: the numbers of a file, and where its modules stand among them; and what a table of marks knows.
-use Rattle.std.specs.Prelude.{ℕ, ◌≤◌, ◌≡◌, Bool, cond, List, length, get_or}
+use Rattle.std.specs.Prelude.{ℕ, Option, Some, None, ◌≤◌, ◌≡◌, Bool, cond, List, length, get_or}
 use Rattle.meaning.specs.Syntax.{Module}
 use Rattle.meaning.specs.Layout.{file_numbers}
 use Rattle.meaning.specs.Boxlist.{member, Found, box, F}
@@ -17,10 +17,10 @@ pub record Placed (numbers starts : List ℕ) (modules : ℕ) : Type 0 where
   pub filed : Filed numbers starts ms
   pub counted : modules ≡ length ms
 
--- The place of a module, as it was searched for.
-pub data Finds (ms : List Module) : Found → ℕ → Type 0 where
-  none : Finds ms F (length ms)
-  some : {r : ℕ} {m : Module} {later : List Module} → At ms r m later → Finds ms (box m) r
+-- The position of a module, as it was searched for.
+pub data Finds (ms : List Module) : Found → Option ℕ → Type 0 where
+  none : Finds ms F None
+  some : {r : ℕ} {m : Module} {later : List Module} → At ms r m later → Finds ms (box m) (Some r)
 
 -- A table of marks, 1 for the nets that are known.
 abbrev pub mark : Bool → ℕ

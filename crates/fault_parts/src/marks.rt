@@ -9,16 +9,14 @@ pub fn learn(list: &[u16], marks: &mut [u8]) -> usize
     ensures { (known : List ℕ) → Marked marks.old known → (result ≡ new_front list.now known)
         × (result ≡ length list.now → Marked marks.new (list.now ++ known)) }
 {
-    let mut i = 0;
-    while i < list.len() {
+    for i in 0..list.len() {
         let net = list[i] as usize;
         if marks[net] == 1 {
             return i;
         }
         marks[net] = 1;
-        i += 1;
     }
-    i
+    list.len()
 }
 
 // How many are known.
@@ -26,14 +24,12 @@ pub fn count_known(list: &[u16], marks: &[u8]) -> usize
     requires { 65536 ≤ length marks.now }
     ensures { (known : List ℕ) → Marked marks.now known → result ≡ known_front list.now known }
 {
-    let mut i = 0;
-    while i < list.len() {
+    for i in 0..list.len() {
         if marks[list[i] as usize] != 1 {
             return i;
         }
-        i += 1;
     }
-    i
+    list.len()
 }
 
 // All nets of a list become known.
@@ -41,9 +37,7 @@ pub fn mark_all(list: &[u16], marks: &mut [u8])
     requires { 65536 ≤ length marks.old }
     ensures { (known : List ℕ) → Marked marks.old known → Marked marks.new (list.now ++ known) }
 {
-    let mut i = 0;
-    while i < list.len() {
-        marks[list[i] as usize] = 1;
-        i += 1;
+    for net in list {
+        marks[*net as usize] = 1;
     }
 }

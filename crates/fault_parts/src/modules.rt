@@ -11,6 +11,14 @@ ghost use Rattle.fault_parts.specs.Asked.{Whole, Placed, Finds};
 use gates::Kind;
 use image::places::{module_at, occurrence_at};
 
+// The numbers of a file, with the places where its modules begin and how many these are.
+#[derive(Clone, Copy)]
+pub struct FileModules<'a> {
+    pub numbers: &'a [u16],
+    pub starts: &'a [usize],
+    pub count: usize,
+}
+
 // The place behind a module.
 fn module_end(numbers: &[u16], from: usize) -> usize
     requires { ModuleThere numbers.now from }
@@ -18,11 +26,8 @@ fn module_end(numbers: &[u16], from: usize) -> usize
 {
     let header = module_at(numbers, from);
     let mut at = header.to + 1;
-    let mut left = header.count;
-    while 0 < left {
-        let o = occurrence_at(numbers, at);
-        at = o.to;
-        left -= 1;
+    for _ in 0..header.count {
+        at = occurrence_at(numbers, at).to;
     }
     at
 }
@@ -34,50 +39,37 @@ pub fn place_modules(numbers: &[u16], modules: usize, starts: &mut [usize])
     ensures { (w : Whole numbers.now) → Filed numbers.now starts.new w.ms }
 {
     let mut at = 1;
-    let mut k = 0;
-    while k < modules {
+    for k in 0..modules {
         starts[k] = at;
         at = module_end(numbers, at);
-        k += 1;
     }
 }
 
-// The first module from a position on that has a number; the count of modules where none has.
-fn find(numbers: &[u16], starts: &[usize], modules: usize, from: usize, number: u16) -> usize
-    requires placed { Placed numbers.now starts.now modules }
-    requires from_le_modules { from ≤ modules }
-    ensures { (p : Placed numbers.now starts.now modules) → Finds p.ms (assoc number (drop from p.ms)) result }
+// The position of the first module from one on that has a number.
+fn find(file: FileModules, from: usize, number: u16) -> Option<usize>
+    requires placed { Placed file.numbers.now file.starts.now file.count }
+    requires from_le_modules { from ≤ file.count }
+    ensures { (p : Placed file.entry.numbers.now file.entry.starts.now file.entry.count) → Finds p.ms (assoc number (drop from p.ms)) result }
 {
-    let mut j = from;
-    while j < modules {
-        let start = starts[j];
-        if numbers[start] == number {
-            return j;
+    for j in from..file.count {
+        let start = file.starts[j];
+        if file.numbers[start] == number {
+            return Some(j);
         }
-        j += 1;
     }
-    j
+    None
 }
 
-fn fits_module(
-    numbers: &[u16],
-    starts: &[usize],
-    modules: usize,
-    from: usize,
-    number: u16,
-    taken: usize,
-    driven: usize,
-) -> bool
-    requires placed { Placed numbers.now starts.now modules }
-    requires from_le_modules { from ≤ modules }
-    ensures { (p : Placed numbers.now starts.now modules) (takes drives : List ℕ) → taken ≡ length takes → driven ≡ length drives
+fn fits_module(file: FileModules, from: usize, number: u16, taken: usize, driven: usize) -> bool
+    requires placed { Placed file.numbers.now file.starts.now file.count }
+    requires from_le_modules { from ≤ file.count }
+    ensures { (p : Placed file.entry.numbers.now file.entry.starts.now file.entry.count) (takes drives : List ℕ) → taken ≡ length takes → driven ≡ length drives
         → result ≡ submodule_okp (assoc number (drop from p.ms)) takes drives }
 {
-    let j = find(numbers, starts, modules, from, number);
-    if j == modules {
+    let Some(j) = find(file, from, number) else {
         return false;
-    }
-    let header = module_at(numbers, starts[j]);
+    };
+    let header = module_at(file.numbers, file.starts[j]);
     if taken != header.inputs {
         return false;
     }
@@ -85,18 +77,10 @@ fn fits_module(
 }
 
 // Rules 13 and 14: whether what an occurrence refers to is a gate or a module from a position on, and its counts fit.
-pub fn fits(
-    numbers: &[u16],
-    starts: &[usize],
-    modules: usize,
-    from: usize,
-    number: u16,
-    taken: usize,
-    driven: usize,
-) -> bool
-    requires placed { Placed numbers.now starts.now modules }
-    requires from_le_modules { from ≤ modules }
-    ensures { (p : Placed numbers.now starts.now modules) (takes drives : List ℕ) → taken ≡ length takes → driven ≡ length drives
+pub fn fits(file: FileModules, from: usize, number: u16, taken: usize, driven: usize) -> bool
+    requires placed { Placed file.numbers.now file.starts.now file.count }
+    requires from_le_modules { from ≤ file.count }
+    ensures { (p : Placed file.entry.numbers.now file.entry.starts.now file.entry.count) (takes drives : List ℕ) → taken ≡ length takes → driven ≡ length drives
         → result ≡ arity_okp number takes drives (drop from p.ms) }
 {
     match gates::kind_of(number) {
@@ -106,6 +90,6 @@ pub fn fits(
             }
             1 == driven
         }
-        Kind::Module => fits_module(numbers, starts, modules, from, number, taken, driven),
+        Kind::Module => fits_module(file, from, number, taken, driven),
     }
 }

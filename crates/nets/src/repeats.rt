@@ -7,17 +7,13 @@ pub fn repeats(list: &[u16]) -> bool
     ensures { result ≡ duplicates list.now }
 {
     let mut met = false;
-    let mut i = 0;
-    'search: while i < list.len() {
-        let mut j = i + 1;
-        while j < list.len() {
+    'search: for i in 0..list.len() {
+        for j in i + 1..list.len() {
             if list[i] == list[j] {
                 met = true;
                 break 'search;
             }
-            j += 1;
         }
-        i += 1;
     }
     met
 }
@@ -27,12 +23,10 @@ pub fn repeats(list: &[u16]) -> bool
 pub fn ascends(list: &[u16]) -> bool
     ensures { result ≡ true → duplicates list.now ≡ false }
 {
-    let mut i = 1;
-    while i < list.len() {
+    for i in 1..list.len() {
         if list[i] <= list[i - 1] {
             return false;
         }
-        i += 1;
     }
     true
 }

@@ -10,12 +10,10 @@ pub fn any_known(list: &[u16], table: &[u32], base: u32) -> bool
     requires { Below (length table.now) list.now }
     ensures { (nets : List ℕ) → Knows table.now base nets → result ≡ not (disjoint list.now nets) }
 {
-    let mut i = 0;
-    while i < list.len() {
-        if base <= table[list[i] as usize] {
+    for net in list {
+        if base <= table[*net as usize] {
             return true;
         }
-        i += 1;
     }
     false
 }
@@ -26,17 +24,15 @@ pub fn learn(list: &[u16], table: &mut [u32], base: u32)
     requires list_bound { base + length list.now < 2 ^ 32 }
     ensures { Knows table.old base [] → duplicates list.now ≡ false → Knows table.new base list.now }
 {
-    let mut i = 0;
-    while i < list.len() {
+    for i in 0..list.len() {
         table[list[i] as usize] = base + i as u32;
-        i += 1;
     }
 }
 
 // How many nets at the front of the list, no two of which are the same, the table does not know: all of them, or those in front of the
 // first that it knows. One pass asks, learns and writes: each net takes the next slot from `first` on, and its slot takes its place in the list. The
 // answer is a count and not a yes or no, so that the place behind the list comes from the loop, whose end the processor foresees, and
-// the next list need not wait for a count to be loaded.
+// the next list need not wait for a count to be loaded: so the counter is kept by hand, since a `for` has none behind its end.
 pub fn learn_new(list: &mut [u16], table: &mut [u32], base: u32, first: u32) -> usize
     requires { Learnable list.old table.old base first }
     ensures learnt { (nets : List ℕ) → Knows table.old base nets → first ≡ length nets → Learnt nets list.old base list.new table.new result }

@@ -1,5 +1,5 @@
 -- How far the nets of a list are new or known: all of them exactly where the tests of rules 11 and 12 hold; else the next one is at fault.
-use Rattle.std.specs.Prelude.{ℕ, suc, ◌+◌, ◌≤◌, ◌<◌, ◌⊎◌, ◌≡◌, refl, Bool, true, false, cond, not, ◌&&◌, ◌||◌, List, [], ◌∷◌, ◌++◌, ltb, length}
+use Rattle.std.specs.Prelude.{ℕ, suc, ◌≤◌, ◌<◌, ◌⊎◌, ◌≡◌, refl, Bool, true, false, cond, not, ◌&&◌, ◌||◌, List, [], ◌∷◌, ◌++◌, ltb, length}
 use Rattle.std.proofs.Common.{arith, inl, inr, ◌∙◌, ap, lt-ltb, le-ltb, ltb-true, ltb-false}
 use Rattle.meaning.specs.Boxlist.{member, disjoint, duplicates, subset}
 use Rattle.meaning.specs.Members.{◌∈◌}

@@ -8,7 +8,7 @@ mod walks; // walks.rt: occurrence after occurrence
 pub use walks::first_fault;
 
 // The occurrence, how many nets it drives, and how many of its atoms stand in front of the one at fault.
-#[derive(Clone, Copy)]
+#[derive(Clone, Copy, PartialEq, Eq, Debug)]
 pub struct Fault {
     pub occurrence: usize,
     pub driven: usize,

@@ -1,9 +1,10 @@
 -- `check_bodies::occurrences::check_occurrence` meets its contract: each way out is one of the verdict's answers, and behind the last two the
 -- occurrence has become its part of the image. Assumes nothing.
-use Rattle.std.proofs.Common.{◌≡◌, ◌+◌, ◌≤◌, ◌<◌, refl, ◌∙◌, length, arith}
+use Rattle.std.proofs.Common.{◌≡◌, ◌+◌, ◌≤◌, ◌<◌, refl, ap, Ok, ◌∙◌, length, arith}
 use lib.ListN.{length-set}
 use Rattle.image.specs.Stands.{stands-tail}
 use Rattle.image.specs.Pieces.{length-of-occurrence}
+use Rattle.std.proofs.lemmas.Result.{err_from_is_err_and}
 use Rattle.check_bodies.proofs.OccurrenceParts.{drives-stand, drives-below, takes-below, refers-below}
 use Rattle.check_bodies.proofs.Passing.{list-ready, Learning, driven-here, Writing, taken_here}
 use Rattle.check_bodies.proofs.Stepping.{judged, step-drives, step-takes, step-broken, step-gate, step_module}
@@ -13,7 +14,7 @@ use Rattle.check_bodies.proofs.occurrences.check_occurrence.Goals.{Else-learnt-d
 -- The nets of the first list are new.
 learning :
     (c : Else-learnt-driven)
-    → Learning c.args.numbers.now c.args.slots.now c.args.base c.args.at c.args.filled c.entry-driven.result
+    → Learning c.args.numbers.now c.args.slots.now c.args.base c.args.walked.next c.args.walked.nets c.entry-driven.result
     c.learn_list-learnt.result c.learn_list-learnt.new.slots c.learn_list-learnt.new.numbers
 learning c =
     record { counted = c.entry-driven.ensures; list = c.learn_list-learnt.ensures; all = c.if-learnt-driven.false }
@@ -21,7 +22,7 @@ learning c =
 -- Behind them places fit.
 fits :
     (c : Else-learnt-driven)
-    → ((c.args.at + 3 + c.learn_list-learnt.result ≤ length c.learn_list-learnt.new.numbers) × (length c.learn_list-learnt.new.numbers ≤ 65535))
+    → ((c.args.walked.next + 3 + c.learn_list-learnt.result ≤ length c.learn_list-learnt.new.numbers) × (length c.learn_list-learnt.new.numbers ≤ 65535))
 fits c =
     let p = c.requires in
     (omega (arith, (driven-here (learning c) p).behind.within), omega (arith, c.learn_list-learnt.auto.numbers, p.placed.short))
@@ -29,7 +30,7 @@ fits c =
 -- Those of the second list are known.
 writing :
     (c : Else-written-taken)
-    → Writing c.args.numbers.now c.args.slots.now c.args.base c.args.at c.args.filled c.entry-driven.result
+    → Writing c.args.numbers.now c.args.slots.now c.args.base c.args.walked.next c.args.walked.nets c.entry-driven.result
     c.learn_list-learnt.result c.entry-taken.result c.write_list-written.result c.learn_list-learnt.new.slots
     c.learn_list-learnt.new.numbers c.write_list-written.new.numbers
 writing c =
@@ -46,8 +47,8 @@ sized c = c.write_list-written.auto.numbers ∙ c.learn_list-learnt.auto.numbers
 
 room :
     (c : Else-written-taken)
-    → (c.args.filled + c.entry-driven.result ≤ length c.write_list-written.new.numbers)
-    × (c.args.at + 3 + c.learn_list-learnt.result + c.write_list-written.result ≤ length c.write_list-written.new.numbers)
+    → (c.args.walked.nets + c.entry-driven.result ≤ length c.write_list-written.new.numbers)
+    × (c.args.walked.next + 3 + c.learn_list-learnt.result + c.write_list-written.result ≤ length c.write_list-written.new.numbers)
     × (length c.write_list-written.new.numbers ≤ 65535)
 room c =
     let p = c.requires in
@@ -64,7 +65,7 @@ inside : (c : In-Module) → c.in-Module.j < length c.requires.scene.ms
 inside c =
     let p = c.requires in
     let w :
-    Writing c.args.numbers.now c.args.slots.now c.args.base c.args.at c.args.filled c.entry-driven.result
+    Writing c.args.numbers.now c.args.slots.now c.args.base c.args.walked.next c.args.walked.nets c.entry-driven.result
     c.learn_list-learnt.result c.entry-taken.result c.write_list-written.result c.learn_list-learnt.new.slots
     c.learn_list-learnt.new.numbers c.write_list-written.new.numbers =
     record {
@@ -73,7 +74,7 @@ inside c =
       list = c.write_list-written.ensures;
       all = c.if-written-taken.false;
     } in
-    (judged w c.judge_reference.ensures c.in-Module.is p.scene p.o p.nets p.nets p.stands
+    (judged w c.judge_reference.ensures (c.in_ok-judge_reference.was ∙ ap Ok c.in-Module.is) p.scene p.o p.nets p.nets p.stands
     p.knows p.wide (record { same = λ x. refl })).2
 
 pub entry-driven-requires : goal.entry-driven-requires
@@ -127,14 +128,14 @@ judge_reference-requires c =
       index = omega (arith, (taken_here (writing (goal.at.judge_reference-requires c).Else-written-taken) p).refers, refers-below p.o p.indexes.in_first);
     }
 
-pub overflow_add-result : goal.overflow_add-result
-overflow_add-result c = let h = room (goal.at.overflow_add-result c).Else-written-taken in omega arith
+pub overflow_add-next : goal.overflow_add-next
+overflow_add-next c = let h = room (goal.at.overflow_add-next c).Else-written-taken in omega arith
 
-pub overflow_add-result-in-Gate : goal.overflow_add-result-in-Gate
-overflow_add-result-in-Gate c = let h = room (goal.at.overflow_add-result-in-Gate c).Else-written-taken in omega arith
+pub overflow_add-next-2 : goal.overflow_add-next-2
+overflow_add-next-2 c = let h = room (goal.at.overflow_add-next-2 c).Else-written-taken in omega arith
 
-pub overflow_add-result-in-Gate-2 : goal.overflow_add-result-in-Gate-2
-overflow_add-result-in-Gate-2 c = let h = room (goal.at.overflow_add-result-in-Gate-2 c).Else-written-taken in omega arith
+pub overflow_add-nets : goal.overflow_add-nets
+overflow_add-nets c = let h = room (goal.at.overflow_add-nets c).Else-written-taken in omega arith
 
 pub overflow_add-numbers : goal.overflow_add-numbers
 overflow_add-numbers c = let h = inside c in omega (arith, c.requires.scene.few)
@@ -148,15 +149,6 @@ offset_bounds-numbers-r-in-Module c = let h = room (goal.at.offset_bounds-number
 pub bounds-numbers-r-in-Module : goal.bounds-numbers-r-in-Module
 bounds-numbers-r-in-Module c = let h = room (goal.at.bounds-numbers-r-in-Module c).Else-written-taken in omega arith
 
-pub overflow_add-result-in-Module : goal.overflow_add-result-in-Module
-overflow_add-result-in-Module c = let h = room (goal.at.overflow_add-result-in-Module c).Else-written-taken in omega arith
-
-pub overflow_add-result-in-Module-2 : goal.overflow_add-result-in-Module-2
-overflow_add-result-in-Module-2 c = let h = room (goal.at.overflow_add-result-in-Module-2 c).Else-written-taken in omega arith
-
-pub overflow_add-result-in-Module-3 : goal.overflow_add-result-in-Module-3
-overflow_add-result-in-Module-3 c = let h = room (goal.at.overflow_add-result-in-Module-3 c).Else-written-taken in omega arith
-
 pub with_module-requires-clause-j_in_bounds : goal.with_module-requires-clause-j_in_bounds
 with_module-requires-clause-j_in_bounds c =
     let h = inside (goal.at.with_module-requires-clause-j_in_bounds c).In-Module in
@@ -168,16 +160,19 @@ with_module-requires-clause-j_bound c =
     let p = c.requires in
     omega (arith, p.fits, p.figured.small.below c.in-Module.j)
 
-pub returns-in-Broken : goal.returns-in-Broken
-returns-in-Broken c = step-broken (writing (goal.at.returns-in-Broken c).Else-written-taken) c.judge_reference.ensures c.in-Broken.is
+pub returns-in_err-judge_reference : goal.returns-in_err-judge_reference
+returns-in_err-judge_reference c =
+    let p = err_from_is_err_and c.from_residual.result c.from_residual.ensures.1 in
+    rw (p.1, p.2)
+    (step-broken (writing (goal.at.returns-in_err-judge_reference c).Else-written-taken) c.judge_reference.ensures c.in_err-judge_reference.was)
 
 pub returns-in-Gate : goal.returns-in-Gate
 returns-in-Gate c =
-    step-gate (writing (goal.at.returns-in-Gate c).Else-written-taken) c.judge_reference.ensures c.in-Gate.is c.with_gate.ensures
+    step-gate (writing (goal.at.returns-in-Gate c).Else-written-taken) c.judge_reference.ensures (c.in_ok-judge_reference.was ∙ ap Ok c.in-Gate.is) c.with_gate.ensures
 
 pub shape_of-numbers-in-Module : goal.shape_of-numbers-in-Module
 shape_of-numbers-in-Module c = simp length-set (sized (goal.at.shape_of-numbers-in-Module c).Else-written-taken)
 
 pub returns-in-Module : goal.returns-in-Module
 returns-in-Module c =
-    step_module (writing (goal.at.returns-in-Module c).Else-written-taken) c.judge_reference.ensures c.in-Module.is c.with_module.ensures
+    step_module (writing (goal.at.returns-in-Module c).Else-written-taken) c.judge_reference.ensures (c.in_ok-judge_reference.was ∙ ap Ok c.in-Module.is) c.with_module.ensures

@@ -1,7 +1,6 @@
 -- `check_files::files::check_from` meets its contract: behind the last module nothing is done yet, and each module has its turn once the
 -- later ones are done. Assumes nothing.
 use Rattle.std.proofs.Common.{arith}
-use Rattle.check_steps.specs.Going.{Reached}
 use Rattle.check_files.proofs.FileEnds.{walk_none}
 use Rattle.check_files.proofs.files.+check_from.Goals as goal
 

@@ -1,5 +1,6 @@
 -- `check_modules::modules::check_module` meets its contract: the verdict goes by the head, then the occurrences, then the end. Assumes nothing.
 use Rattle.std.proofs.Common.{◌∙◌, arith}
+use Rattle.std.proofs.lemmas.Result.{err_from_is_err_and}
 use Rattle.image.specs.Stands.{stands-whole}
 use Rattle.image.specs.Pieces.{module_at}
 use Rattle.check_lists.specs.Parts.{below-sized}
@@ -7,28 +8,30 @@ use Rattle.check_lists.specs.Places.{inputs-stand, outputs-stand, places}
 use Rattle.check_modules.proofs.Turns.{head-broken}
 use Rattle.check_modules.proofs.Settling.{Opened, ready-body, body-broken, ready-end, end-broken, settled}
 use Rattle.check_modules.proofs.modules.check_module.Goals as goal
-use Rattle.check_modules.proofs.modules.check_module.Goals.{After-check_body-arg-1}
+use Rattle.check_modules.proofs.modules.check_module.Goals.{After-entry-count}
 
 -- The head is fine, and its parts are read.
 opened :
-    (c : After-check_body-arg-1)
-    → Opened c.args.numbers.now c.args.base c.judge_head-rule.new.slots c.list_end-n.result c.list_end-e.result
+    (c : After-entry-count)
+    → Opened c.args.numbers.now c.args.base c.judge_head.new.slots c.list_end-n.result c.list_end-e.result
     c.entry-width.result c.entry-count.result
 opened c =
     record {
-      rule = c.judge_head-rule.result;
-      judged = c.judge_head-rule.ensures;
-      fine = c.if-rule-ne0.false;
+      rule = c.judge_head.result;
+      judged = c.judge_head.ensures;
+      fine = c.in_ok-judge_head.was;
       behind_inputs = c.list_end-n.ensures;
       behind_outputs = c.list_end-e.ensures;
       wide = c.entry-width.ensures;
       counted = c.entry-count.ensures;
     }
 
-pub returns-then-rule-ne0 : goal.returns-then-rule-ne0
-returns-then-rule-ne0 c =
-    let j = c.judge_head-rule.ensures in
-    record { checks = λ s own. head-broken s (j.rule s.m own) c.if-rule-ne0.true; low = j.low }
+pub returns-in_err-judge_head : goal.returns-in_err-judge_head
+returns-in_err-judge_head c =
+    let j = c.judge_head.ensures in
+    let p = err_from_is_err_and c.from_residual.result c.from_residual.ensures.1 in
+    rw (p.1, p.2)
+    (record { checks = λ s own. head-broken s (j.rule s.m own) c.in_err-judge_head.was; low = j.low })
 
 pub entry-width-requires : goal.entry-width-requires
 entry-width-requires c = let p = c.requires in omega (arith, (module_at p.scene.m (stands-whole p.own)).end)
@@ -61,43 +64,41 @@ overflow_add-e c =
 pub check_body-requires : goal.check_body-requires
 check_body-requires c =
     let p = c.requires in
-    ready-body p.scene (opened (goal.at.check_body-requires c).After-check_body-arg-1) p.own
-    (record { in_first = p.indexes.in_first; in_slots = below-sized c.judge_head-rule.auto.slots p.indexes.in_slots })
+    ready-body p.scene (opened (goal.at.check_body-requires c).After-entry-count) p.own
+    (record { in_first = p.indexes.in_first; in_slots = below-sized c.judge_head.auto.slots p.indexes.in_slots })
     p.figured p.based p.short
 
-pub finish_module-broken-requires : goal.finish_module-broken-requires
-finish_module-broken-requires c =
+pub finish_module-requires : goal.finish_module-requires
+finish_module-requires c =
     let p = c.requires in
-    ready-end p.scene (opened (goal.at.finish_module-broken-requires c).After-check_body-arg-1) p.own c.check_body.ensures c.in-Fine.is
-    (below-sized (c.check_body.auto.slots ∙ c.judge_head-rule.auto.slots) p.indexes.in_slots) p.based p.short c.check_body.auto.numbers
+    ready-end p.scene (opened (goal.at.finish_module-requires c).After-entry-count) p.own c.check_body.ensures c.in_ok-walked.was
+    (below-sized (c.check_body.auto.slots ∙ c.judge_head.auto.slots) p.indexes.in_slots) p.based p.short c.check_body.auto.numbers
 
-pub returns-in-Broken : goal.returns-in-Broken
-returns-in-Broken c =
-    record {
-      checks = λ s own. body-broken s (opened (goal.at.returns-in-Broken c).After-check_body-arg-1) own c.check_body.ensures c.in-Broken.is;
-      low = c.check_body.ensures.low c.judge_head-rule.ensures.low;
-    }
+pub returns-in_err-walked : goal.returns-in_err-walked
+returns-in_err-walked c =
+    let p = err_from_is_err_and c.from_residual-in_err-walked.result c.from_residual-in_err-walked.ensures.1 in
+    rw (p.1, p.2)
+    (record {
+      checks = λ s own. body-broken s (opened (goal.at.returns-in_err-walked c).After-entry-count) own c.check_body.ensures c.in_err-walked.was;
+      low = c.check_body.ensures.low c.judge_head.ensures.low;
+    })
 
-pub shape_of-slots-then-broken-eq0 : goal.shape_of-slots-then-broken-eq0
-shape_of-slots-then-broken-eq0 c = c.check_body.auto.slots ∙ c.judge_head-rule.auto.slots
+pub returns-in_err-finish_module : goal.returns-in_err-finish_module
+returns-in_err-finish_module c =
+    let p = err_from_is_err_and c.from_residual-in_err-finish_module.result c.from_residual-in_err-finish_module.ensures.1 in
+    rw (p.1, p.2)
+    (record {
+      checks = λ s own.
+          end-broken s (opened (goal.at.returns-in_err-finish_module c).After-entry-count) own c.check_body.ensures c.in_ok-walked.was
+          c.finish_module.ensures c.in_err-finish_module.was;
+      low = c.check_body.ensures.low c.judge_head.ensures.low;
+    })
 
-pub returns-then-broken-eq0 : goal.returns-then-broken-eq0
-returns-then-broken-eq0 c =
+pub returns : goal.returns
+returns c =
     record {
       checks = λ s own.
-          settled s (opened (goal.at.returns-then-broken-eq0 c).After-check_body-arg-1) own c.check_body.ensures c.in-Fine.is
-          c.finish_module-broken.ensures c.if-broken-eq0.true;
-      low = c.check_body.ensures.low c.judge_head-rule.ensures.low;
-    }
-
-pub shape_of-slots-else-broken-eq0 : goal.shape_of-slots-else-broken-eq0
-shape_of-slots-else-broken-eq0 c = c.check_body.auto.slots ∙ c.judge_head-rule.auto.slots
-
-pub returns-else-broken-eq0 : goal.returns-else-broken-eq0
-returns-else-broken-eq0 c =
-    record {
-      checks = λ s own.
-          end-broken s (opened (goal.at.returns-else-broken-eq0 c).After-check_body-arg-1) own c.check_body.ensures c.in-Fine.is
-          c.finish_module-broken.ensures c.if-broken-eq0.false;
-      low = c.check_body.ensures.low c.judge_head-rule.ensures.low;
+          settled s (opened (goal.at.returns c).After-entry-count) own c.check_body.ensures c.in_ok-walked.was
+          c.finish_module.ensures c.in_ok-finish_module.was;
+      low = c.check_body.ensures.low c.judge_head.ensures.low;
     }

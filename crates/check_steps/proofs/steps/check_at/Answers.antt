@@ -33,20 +33,21 @@ bounds-nets-k c = nets-long c.requires c.end_before-end.ensures
 
 pub keep-requires : goal.keep-requires
 keep-requires c =
-    may_keep c.requires c.end_before-end.ensures c.check_module.ensures c.check_module.auto.numbers c.check_module.auto.slots _ _
-    c.in-Fine.is
+    may_keep c.requires c.end_before-end.ensures c.check_module.ensures c.check_module.auto.numbers c.check_module.auto.slots _
+    c.in-Ok.is
 
-pub returns-in-Broken : goal.returns-in-Broken
-returns-in-Broken c b =
-    gone-broken b c.end_before-end.ensures c.check_module.ensures c.check_module.auto.numbers c.check_module.auto.slots _ c.in-Broken.is
+pub returns-in-Err : goal.returns-in-Err
+returns-in-Err c b =
+    rw c.at.ensures
+    (gone-broken b c.end_before-end.ensures c.check_module.ensures c.check_module.auto.numbers c.check_module.auto.slots _ c.in-Err.is)
 
 pub returns-then-keep : goal.returns-then-keep
 returns-then-keep c b =
-    gone-kept b c.end_before-end.ensures c.check_module.ensures c.check_module.auto.numbers c.check_module.auto.slots _ _ c.in-Fine.is
+    gone-kept b c.end_before-end.ensures c.check_module.ensures c.check_module.auto.numbers c.check_module.auto.slots _ c.in-Ok.is
     c.keep.ensures c.if-keep.true
 
 pub returns-else-keep : goal.returns-else-keep
 returns-else-keep c b =
     rw c.over.ensures
-    (gone-over b c.end_before-end.ensures c.check_module.ensures c.check_module.auto.numbers c.check_module.auto.slots _ _ c.in-Fine.is
+    (gone-over b c.end_before-end.ensures c.check_module.ensures c.check_module.auto.numbers c.check_module.auto.slots _ c.in-Ok.is
     c.keep.ensures c.if-keep.false)

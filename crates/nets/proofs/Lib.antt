@@ -1,0 +1,3 @@
+-- Facts that the proofs cite.
+pub mod Pairs
+pub mod Climbs
