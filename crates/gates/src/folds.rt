@@ -9,7 +9,7 @@ ghost use Rattle.gates.specs.Tables.{table_of};
 const UNKNOWN: u32 = 2;
 
 // What is asked of the arguments: whether all of them are 1, whether any is, or whether an odd number of them is.
-#[derive(Clone, Copy)]
+#[derive(Clone, Copy, PartialEq, Eq, Debug)]
 pub enum Fold {
     All,
     Any,

@@ -8,7 +8,7 @@ pub mod folds;
 pub mod pairs;
 
 // What a gate makes of its arguments, however many they are. With one argument B-BUF is an AND and B-NOT a NAND.
-#[derive(Clone, Copy)]
+#[derive(Clone, Copy, PartialEq, Eq, Debug)]
 pub enum Rule {
     And,
     Nand,
@@ -19,7 +19,7 @@ pub enum Rule {
 }
 
 // What a number stands for: a gate, with its rule and its count of arguments, or a module.
-#[derive(Clone, Copy)]
+#[derive(Clone, Copy, PartialEq, Eq, Debug)]
 pub enum Kind {
     Gate(Rule, usize),
     Module,

@@ -1,12 +1,15 @@
 // Where the parts of a module and of an occurrence stand in the image.
+ghost use Rattle.std.specs.Prelude.{◌<◌, length, get_or};
 ghost use Rattle.meaning.specs.Syntax.{Occurrence, Module};
 ghost use Rattle.meaning.specs.Layout.{occurrence_numbers, module_numbers};
 ghost use Rattle.image.specs.Stands.{Stands};
-ghost use Rattle.image.specs.Places.{ModuleThere, HeaderOf, OccurrenceThere, PlaceOf};
+ghost use Rattle.image.specs.Places.{ModuleThere, HeaderOf, Headed, OccurrenceThere, PlaceOf};
+
+use crate::Image;
 
 // Of a module: how many inputs it has, the places of its outputs, and how many occurrences it has. Their count is at `to`, and the
 // occurrences stand behind it.
-#[derive(Clone, Copy)]
+#[derive(Clone, Copy, PartialEq, Eq, Debug)]
 pub struct Header {
     pub inputs: usize,
     pub from: usize,
@@ -30,9 +33,20 @@ pub fn module_at(image: &[u16], at: usize) -> Header
     }
 }
 
+impl<'a> Image<'a> {
+    // The header of the module at position k.
+    pub fn module(self, k: usize) -> Header
+        requires starts_in_bounds { k < length self.starts.now }
+        requires module_there { ModuleThere self.numbers.now (get_or self.starts.now k 0) }
+        ensures { Headed self.entry.numbers.now (get_or self.entry.starts.now k 0) result }
+    {
+        module_at(self.numbers, self.starts[k])
+    }
+}
+
 // Of an occurrence: how many nets it drives, the number that it refers to, and the places of its arguments. The nets that it drives end
 // two places before `from`, and the next occurrence stands at `to`.
-#[derive(Clone, Copy)]
+#[derive(Clone, Copy, PartialEq, Eq, Debug)]
 pub struct Place {
     pub drives: usize,
     pub refers: u16,

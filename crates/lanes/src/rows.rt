@@ -1,5 +1,5 @@
 // Rows of values packed: eight rows into a byte for each net, 64 into a word, 256 into an entry.
-ghost use Rattle.std.specs.Prelude.{◌≡◌, ◌≤◌, ◌<◌, min, length, drop};
+ghost use Rattle.std.specs.Prelude.{◌≡◌, ◌≤◌, ◌<◌, length, drop};
 ghost use Rattle.meaning.specs.Values.{value};
 ghost use Rattle.meaning.specs.Rows.{rows_of};
 ghost use Rattle.lanes.specs.Lanes.{surely, maybe};
@@ -49,13 +49,9 @@ fn take_rows(
     ensures { Packed surely (rows_of count inputs (drop from values.now)) inputs low.new
         × Packed maybe (rows_of count inputs (drop from values.now)) inputs high.new }
 {
-    let mut left = count;
-    let mut at = from + count * inputs;
-    while 0 < left {
-        let end = at;
-        at -= inputs;
-        left -= 1;
-        take_row(&values[at..end], low, high);
+    for row in (0..count).rev() {
+        let start = from + row * inputs;
+        take_row(&values[start..start + inputs], low, high);
     }
 }
 
@@ -88,16 +84,15 @@ fn take_word(
     ensures { Packed surely (rows_of count inputs (drop from values.now)) inputs low.new
         × Packed maybe (rows_of count inputs (drop from values.now)) inputs high.new }
 {
-    let mut left = count;
-    while 0 < left {
-        let some = (left - 1) % 8 + 1;
-        left -= some;
+    for group in (0..count.div_ceil(8)).rev() {
+        let start = group * 8;
+        let some = (count - start).min(8);
         let mut sure = [0u8; 192];
         let mut may = [0u8; 192];
         take_rows(
             values,
             inputs,
-            from + left * inputs,
+            from + start * inputs,
             some,
             &mut sure,
             &mut may,
@@ -129,12 +124,6 @@ fn store(
     }
 }
 
-pub fn least(a: usize, b: usize) -> usize
-    ensures { result ≡ min a b }
-{
-    if a < b { a } else { b }
-}
-
 // Of up to 256 rows that stand end to end from a place on, those of one word, 64 to a word.
 fn take_part(
     values: &[u8],
@@ -149,8 +138,8 @@ fn take_part(
     ensures { Packed surely (word_rows values.now inputs from count word) inputs low.new
         × Packed maybe (word_rows values.now inputs from count word) inputs high.new }
 {
-    let start = least(word * 64, count);
-    let end = least(word * 64 + 64, count);
+    let start = count.min(word * 64);
+    let end = count.min(word * 64 + 64);
     take_word(
         values,
         inputs,

@@ -8,78 +8,24 @@ ghost use Rattle.meaning.specs.Rows.{rows_of, row_outputs};
 ghost use Rattle.image.specs.Laid.{laid};
 ghost use Rattle.run_rows.specs.Running.{RowsRun};
 
+use image::Image;
 use open_finding::Site;
 
-// A small module, which should not pay for clearing many entries.
-fn in_256(
-    image: &[u16],
-    starts: &[usize],
-    nets: &[usize],
+// In N entries. A small module should not pay for clearing many.
+fn in_entries<const N: usize>(
+    image: Image<'_>,
     site: Site,
     rows: usize,
     values: &[u8],
     out: &mut [u8],
 )
-    requires { RowsRun image.now starts.now nets.now site rows values.now 256 (length out.old) }
-    ensures { (s : RowsRun image.now starts.now nets.now site rows values.now 256 (length out.old))
+    requires entries_bound { N ≤ 65536 }
+    requires rows_run { RowsRun image.numbers.now image.starts.now image.nets.now site rows values.now N (length out.old) }
+    ensures { (s : RowsRun image.entry.numbers.now image.entry.starts.now image.entry.nets.now site rows values.now N (length out.old))
         → out.new ≡ laid out.old 0 (each (row_outputs s.standing.ms site.number) (rows_of rows (length s.standing.found.m.inputs) values.now)) }
 {
-    let mut entries = [[0u64; 8]; 256];
-    run_rows::blocks::run_rows(image, starts, nets, site, rows, values, &mut entries, out);
-}
-
-// A module of some hundred gates.
-fn in_1024(
-    image: &[u16],
-    starts: &[usize],
-    nets: &[usize],
-    site: Site,
-    rows: usize,
-    values: &[u8],
-    out: &mut [u8],
-)
-    requires { RowsRun image.now starts.now nets.now site rows values.now 1024 (length out.old) }
-    ensures { (s : RowsRun image.now starts.now nets.now site rows values.now 1024 (length out.old))
-        → out.new ≡ laid out.old 0 (each (row_outputs s.standing.ms site.number) (rows_of rows (length s.standing.found.m.inputs) values.now)) }
-{
-    let mut entries = [[0u64; 8]; 1024];
-    run_rows::blocks::run_rows(image, starts, nets, site, rows, values, &mut entries, out);
-}
-
-// A module of some thousand gates.
-fn in_8192(
-    image: &[u16],
-    starts: &[usize],
-    nets: &[usize],
-    site: Site,
-    rows: usize,
-    values: &[u8],
-    out: &mut [u8],
-)
-    requires { RowsRun image.now starts.now nets.now site rows values.now 8192 (length out.old) }
-    ensures { (s : RowsRun image.now starts.now nets.now site rows values.now 8192 (length out.old))
-        → out.new ≡ laid out.old 0 (each (row_outputs s.standing.ms site.number) (rows_of rows (length s.standing.found.m.inputs) values.now)) }
-{
-    let mut entries = [[0u64; 8]; 8192];
-    run_rows::blocks::run_rows(image, starts, nets, site, rows, values, &mut entries, out);
-}
-
-// Any module: its room is at most as many as the numbers of its file.
-fn in_65536(
-    image: &[u16],
-    starts: &[usize],
-    nets: &[usize],
-    site: Site,
-    rows: usize,
-    values: &[u8],
-    out: &mut [u8],
-)
-    requires { RowsRun image.now starts.now nets.now site rows values.now 65536 (length out.old) }
-    ensures { (s : RowsRun image.now starts.now nets.now site rows values.now 65536 (length out.old))
-        → out.new ≡ laid out.old 0 (each (row_outputs s.standing.ms site.number) (rows_of rows (length s.standing.found.m.inputs) values.now)) }
-{
-    let mut entries = [[0u64; 8]; 65536];
-    run_rows::blocks::run_rows(image, starts, nets, site, rows, values, &mut entries, out);
+    let mut entries = [[0u64; 8]; N];
+    run_rows::blocks::run_rows(image, site, rows, values, &mut entries, out);
 }
 
 // The next size.
@@ -94,30 +40,21 @@ fn larger(size: u32) -> u32
 }
 
 // The rows of any module, in the least size from one on that has its room.
-pub fn run(
-    size: u32,
-    image: &[u16],
-    starts: &[usize],
-    nets: &[usize],
-    site: Site,
-    rows: usize,
-    values: &[u8],
-    out: &mut [u8],
-)
-    requires { RowsRun image.now starts.now nets.now site rows values.now 65536 (length out.old) }
-    ensures { (s : RowsRun image.now starts.now nets.now site rows values.now 65536 (length out.old))
+pub fn run(size: u32, image: Image<'_>, site: Site, rows: usize, values: &[u8], out: &mut [u8])
+    requires { RowsRun image.numbers.now image.starts.now image.nets.now site rows values.now 65536 (length out.old) }
+    ensures { (s : RowsRun image.entry.numbers.now image.entry.starts.now image.entry.nets.now site rows values.now 65536 (length out.old))
         → out.new ≡ laid out.old 0 (each (row_outputs s.standing.ms site.number) (rows_of rows (length s.standing.found.m.inputs) values.now)) }
 {
     let room = site.room;
     if size < room {
-        run(larger(size), image, starts, nets, site, rows, values, out);
+        run(larger(size), image, site, rows, values, out);
     } else if size <= 256 {
-        in_256(image, starts, nets, site, rows, values, out);
+        in_entries::<256>(image, site, rows, values, out);
     } else if size <= 1024 {
-        in_1024(image, starts, nets, site, rows, values, out);
+        in_entries::<1024>(image, site, rows, values, out);
     } else if size <= 8192 {
-        in_8192(image, starts, nets, site, rows, values, out);
+        in_entries::<8192>(image, site, rows, values, out);
     } else {
-        in_65536(image, starts, nets, site, rows, values, out);
+        in_entries::<65536>(image, site, rows, values, out);
     }
 }

@@ -87,9 +87,9 @@ pub fn give_block(
         → out.new ≡ laid out.old at (given g.values count) }
 {
     let outputs = to - from;
-    let mut done = 0;
-    while done < count {
-        let some = lanes::rows::least(8, count - done);
+    for group in 0..count.div_ceil(8) {
+        let done = group * 8;
+        let some = (count - done).min(8);
         give_some(
             image,
             from,
@@ -100,6 +100,5 @@ pub fn give_block(
             at + done * outputs,
             out,
         );
-        done += some;
     }
 }

@@ -9,7 +9,7 @@ use families::Family;
 use image::buffers::larger;
 
 // When a net arrives: with one for every gate, and by a family.
-#[derive(Clone, Copy)]
+#[derive(Clone, Copy, PartialEq, Eq, Debug)]
 pub struct Times {
     pub unit: u32,
     pub family: u32,

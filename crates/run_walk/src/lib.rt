@@ -5,3 +5,4 @@
 pub mod gate;
 pub mod slots;
 pub mod walk;
+pub mod work;

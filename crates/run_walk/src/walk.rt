@@ -1,59 +1,51 @@
 // A module and its list of occurrences, evaluated through each other: a module by the walk over its occurrences, which evaluates each
 // module that it meets, in the part of scratch behind its own frame. So the stack grows with the nesting of modules only. An occurrence
 // that drives no net leaves nothing behind, so the module that it refers to is not evaluated.
-ghost use Rattle.run_walk.specs.Valuing.{value_work};
 ghost use Rattle.run_walk.specs.Running.{Runnable, Walkable, Ran};
 
+use crate::work::Work;
 use gates::Kind;
+use image::Image;
 use image::places::Header;
 
 // The module at position k. Its inputs stand at the front of scratch, and then its whole frame does.
 #[cycle(run_module_walk)]
-pub fn run_module(image: &[u16], starts: &[usize], nets: &[usize], k: usize, scratch: &mut [u32])
-    requires { Runnable image.now starts.now nets.now k scratch.old }
-    ensures { (s : Runnable image.now starts.now nets.now k scratch.old)
-        → Ran value_work s.scene.m s.scene.later scratch.old scratch.new }
+pub fn run_module<W: Work>(image: Image<'_>, k: usize, scratch: &mut [W::Entry])
+    requires { Runnable image.numbers.now image.starts.now image.nets.now k scratch.old }
+    ensures { (s : Runnable image.entry.numbers.now image.entry.starts.now image.entry.nets.now k scratch.old)
+        → Ran W.work s.scene.m s.scene.later scratch.old scratch.new }
 {
-    let header = image::places::module_at(image, starts[k]);
-    walk(image, starts, nets, k, header, scratch);
+    walk::<W>(image, k, image.module(k), scratch);
 }
 
 // Its occurrences, from first to last. Each fills the next slots of the frame.
 #[cycle(run_module_walk)]
-fn walk(
-    image: &[u16],
-    starts: &[usize],
-    nets: &[usize],
-    k: usize,
-    header: Header,
-    scratch: &mut [u32],
-)
-    requires { Walkable image.now starts.now nets.now k header scratch.old }
-    ensures { (s : Walkable image.now starts.now nets.now k header scratch.old)
-        → Ran value_work s.runnable.scene.m s.runnable.scene.later scratch.old scratch.new }
+fn walk<W: Work>(image: Image<'_>, k: usize, header: Header, scratch: &mut [W::Entry])
+    requires { Walkable image.numbers.now image.starts.now image.nets.now k header scratch.old }
+    ensures { (s : Walkable image.entry.numbers.now image.entry.starts.now image.entry.nets.now k header scratch.old)
+        → Ran W.work s.runnable.scene.m s.runnable.scene.later scratch.old scratch.new }
 {
-    let frame = nets[k];
+    let numbers = image.numbers;
+    let frame = image.nets[k];
     let mut at = header.to + 1;
-    let mut left = header.count;
     let mut filled = header.inputs;
-    while 0 < left {
-        let o = image::places::occurrence_at(image, at);
+    for _ in 0..header.count {
+        let o = image::places::occurrence_at(numbers, at);
         let here = filled;
         at = o.to;
-        left -= 1;
         filled += o.drives;
         match gates::kind_of(o.refers) {
             Kind::Gate(rule, _) => {
-                scratch[here] = crate::gate::result(rule, image, o.from, o.to, scratch);
+                scratch[here] = W::at_gate(rule, numbers, o.from, o.to, scratch);
             }
             Kind::Module => {
                 // A module that gives nothing need not run.
                 if 0 < o.drives {
                     let j = o.refers as usize - 16;
-                    let sub = image::places::module_at(image, starts[j]);
-                    crate::slots::copy(image, o.from, o.to, 0, frame, scratch);
-                    run_module(image, starts, nets, j, &mut scratch[frame..]);
-                    crate::slots::copy(image, sub.from, sub.to, frame, here, scratch);
+                    let sub = image.module(j);
+                    crate::slots::copy(numbers, o.from, o.to, 0, frame, scratch);
+                    run_module::<W>(image, j, &mut scratch[frame..]);
+                    crate::slots::copy(numbers, sub.from, sub.to, frame, here, scratch);
                 }
             }
         }

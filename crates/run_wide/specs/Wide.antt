@@ -1,5 +1,5 @@
 -- What a run works out for each net in 256 rows at once.
-use Rattle.std.specs.Prelude.{ℕ, ◌≡◌, List, [], ◌∷◌, length}
+use Rattle.std.specs.Prelude.{ℕ, ◌≡◌, refl, List, [], ◌∷◌, length}
 use Rattle.std.proofs.Common.{sym, ap, ◌∙◌}
 use Rattle.laws.specs.Folds.{firsts, firsts-all}
 use Rattle.gates.specs.Kind.{kind_of}
@@ -10,6 +10,7 @@ use Rattle.gates.specs.declared.Kind.TheVariants.{Gate, Module}
 use Rattle.gates.specs.declared.folds.Fold.{Fold}
 use Rattle.gates.specs.declared.folds.Fold.TheVariants.{All, Any, Odd}
 use Rattle.lanes.specs.Entries.{not_of, step_of, start_of}
+use Rattle.run_walk.specs.Ruling.{ruled}
 use Rattle.run_walk.specs.Work.{Work}
 
 abbrev pub rows_on : Fold → List ℕ → List (List ℕ) → List ℕ
@@ -26,6 +27,16 @@ rows_result Or xs = rows_fold Any xs
 rows_result Nor xs = not_of (rows_fold Any xs)
 rows_result Xor xs = rows_fold Odd xs
 rows_result Eqv xs = not_of (rows_fold Odd xs)
+
+-- It is what the rule gives by folds and negations of such entries.
+pub ruled-rows : (rule : Rule) (xs : List (List ℕ)) → ruled rows_fold not_of rule xs ≡ rows_result rule xs
+unfolding ruled rows_result
+ruled-rows And xs = refl
+ruled-rows Nand xs = refl
+ruled-rows Or xs = refl
+ruled-rows Nor xs = refl
+ruled-rows Xor xs = refl
+ruled-rows Eqv xs = refl
 
 -- A gate on as many arguments as it takes, a missing one read as nothing.
 unfoldable pub rows_kind : Kind → List (List ℕ) → List ℕ

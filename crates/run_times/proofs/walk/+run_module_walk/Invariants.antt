@@ -8,16 +8,17 @@ use Rattle.run_times.specs.Times.{one_each, times_work}
 use Rattle.run_times.proofs.walk.+run_module_walk.Given as goal
 
 abbrev pub decreases-run_module : goal.decreases-run_module
-decreases-run_module l = 2 * (length l.starts.now - l.k) + 1
+decreases-run_module l = 2 * (length l.image.starts.now - l.k) + 1
 
 abbrev pub decreases-walk : goal.decreases-walk
-decreases-walk l = 2 * (length l.starts.now - l.k)
+decreases-walk l = 2 * (length l.image.starts.now - l.k)
 
-abbrev pub invariant-walk-loop-left : goal.invariant-walk-loop-left
-invariant-walk-loop-left l =
-    Walking (times_work one_each) l.image l.starts l.nets l.k l.initial.units l.initial.at l.initial.left l.initial.filled l.at l.left l.filled l.units
-    × Walking (times_work (delay_in l.family.delays)) l.image l.starts l.nets l.k l.initial.others l.initial.at l.initial.left l.initial.filled l.at
-    l.left l.filled l.others
-
-abbrev pub decreases-walk-loop-left : goal.decreases-walk-loop-left
-decreases-walk-loop-left l = l.left
+abbrev pub invariant-walk-loop : goal.invariant-walk-loop
+invariant-walk-loop l =
+    let i = l.fn.image in
+    let first = l.initial in
+    let count = l.fn.header.count in
+    Walking (times_work one_each) i.numbers.now i.starts.now i.nets.now l.fn.k first.units first.at count first.filled l.at (l.end - l.counter)
+    l.filled l.units
+    × Walking (times_work (delay_in l.fn.family.delays)) i.numbers.now i.starts.now i.nets.now l.fn.k first.others first.at count first.filled l.at
+    (l.end - l.counter) l.filled l.others
