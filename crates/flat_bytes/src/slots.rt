@@ -17,10 +17,8 @@ pub fn put(
 {
     let count = to - from;
     let mut end = bytes_out::put(count as u16, bytes, at);
-    let mut i = 0;
-    while i < count {
+    for i in 0..count {
         end = bytes_out::put(scratch[image::entry(image, from + i)], bytes, end);
-        i += 1;
     }
     end
 }

@@ -7,7 +7,7 @@ ghost use Rattle.meaning.specs.Calls.{fitting};
 ghost use Rattle.answers.specs.Settled.{Settles};
 ghost use Rattle.flat_ending.specs.Order.{front_first};
 
-use answers::Writing;
+use refusals::Refusal;
 
 // So many bytes, those from a place on, to a place of `out`.
 fn copy(bytes: &[u8], from: usize, count: usize, out: &mut [u8], at: usize)
@@ -29,7 +29,7 @@ pub fn answer(
     room: usize,
     scratch: &mut [u32],
     out: &mut [u8],
-) -> Writing
+) -> Result<usize, Refusal>
     requires gates_le_whole { gates ≤ whole }
     requires whole_in_bounds { whole ≤ length bytes.now }
     requires room_in_bounds { room ≤ length scratch.old }
@@ -41,11 +41,11 @@ pub fn answer(
         image::buffers::clear(room, scratch);
         copy(bytes, gates, front, out, 0);
         copy(bytes, 0, gates, out, front);
-        Writing::Wrote(whole)
+        Ok(whole)
     } else {
-        Writing::Refused {
+        Err(Refusal {
             number: 22,
             place: 0,
-        }
+        })
     }
 }

@@ -28,11 +28,7 @@ pub(crate) fn number_inputs(count: usize, scratch: &mut [u16])
     requires count_bound { count ≤ 4096 }
     ensures { scratch.new ≡ laid scratch.old 0 (up_from 0 count) }
 {
-    let mut net = 0u16;
-    let mut i = 0;
-    while i < count {
-        scratch[i] = net;
-        net += 1;
-        i += 1;
+    for i in 0..count {
+        scratch[i] = i as u16;
     }
 }

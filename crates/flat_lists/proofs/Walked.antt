@@ -1,5 +1,7 @@
 -- The walk of a module that can be placed, and the bytes that it leaves: the gates of the flattened file, and behind them what stands in
 -- front of them there.
+use Rattle.std.specs.Prelude.{Result}
+use Rattle.refusals.specs.declared.Refusal.{Refusal}
 use Prim.Native.Nat.{ℕ, ◌-◌, ◌≤◌}
 use mathlib.Core.Path.{◌≡◌, sym, ap, ap₂, subst, ◌∙◌}
 use mathlib.Core.List.{List, ◌++◌, append_assoc}
@@ -8,7 +10,6 @@ use lib.ListN.{length, take, drop, length-append}
 use lib.Seq.{take_at, drop_at}
 use Rattle.meaning.specs.Syntax.{Module}
 use Rattle.meaning.specs.Calls.{flat_file, fitting}
-use Rattle.answers.specs.declared.Writing.{Writing}
 use Rattle.bytes_out.specs.Puts.{front-within}
 use Rattle.flat_engine.specs.Flat.{gates_of, front_of, flat_of, Flattenable, Flattened}
 use Rattle.flat_engine.specs.FlatBytes.{parts-of-flat}
@@ -51,7 +52,7 @@ module _ {image starts nets : List ℕ} {site : Site} {entries bytes bytes' : Li
       ∙ sym (parts-of-flat p.here.ms site.number p.here.found.m)
 
   pub parts_flatten :
-      {scratch out scratch' out' : List ℕ} {result : Writing}
+      {scratch out scratch' out' : List ℕ} {result : Result ℕ Refusal}
       → Settles (fitting (front_first bytes' ends.gates ends.whole) site.room (length out)) scratch out scratch' out' result
       → Settles (fitting (flat_file p.here.ms site.number p.here.found.m) site.room (length out)) scratch out scratch' out' result
   parts_flatten {scratch} {out} {scratch'} {out'} {result} answered =

@@ -9,6 +9,7 @@ ghost use Rattle.tally_engine.specs.Rows.{marks, Tallying, Tallied};
 ghost use Rattle.load_engine.specs.Loads.{Loadable, Workable, Loaded};
 
 use gates::Kind;
+use image::Image;
 use image::buffers::{clear, larger};
 use load_steps::{add_inside, add_loads, keep, kept_at, largest};
 use tally_engine::Tally;
@@ -24,20 +25,18 @@ pub struct Weighed {
 // both are kept: the tally in its row, and the entry is the largest load plus 1. What is kept is looked up, so the work is bounded by the
 // length of the file.
 fn weigh_once(
-    image: &[u16],
-    starts: &[usize],
-    nets: &[usize],
+    image: Image,
     k: usize,
     scratch: &mut [u32],
     loads: &mut [u32],
     rows: &mut [u32],
     known: &mut [u32],
 ) -> Weighed
-    requires workable { Workable image.now starts.now nets.now k (length scratch.old) loads.old known.old }
-    requires tallying { Tallying image.now starts.now k rows.old (marks known.old) }
-    ensures load { (s : Workable image.now starts.now nets.now k (length scratch.old) loads.old known.old)
-        → Loaded image.now starts.now s.loadable.rs s.loadable.scene.m k result.load scratch.old scratch.new loads.new known.new }
-    ensures tally { (s : Tallying image.now starts.now k rows.old (marks known.old))
+    requires workable { Workable image.numbers.now image.starts.now image.nets.now k (length scratch.old) loads.old known.old }
+    requires tallying { Tallying image.numbers.now image.starts.now k rows.old (marks known.old) }
+    ensures load { (s : Workable image.entry.numbers.now image.entry.starts.now image.entry.nets.now k (length scratch.old) loads.old known.old)
+        → Loaded image.entry.numbers.now image.entry.starts.now s.loadable.rs s.loadable.scene.m k result.load scratch.old scratch.new loads.new known.new }
+    ensures tally { (s : Tallying image.entry.numbers.now image.entry.starts.now k rows.old (marks known.old))
         → Tallied s.countable.rs k result.tally.counts rows.new (marks known.new) }
 {
     let kept = kept_at(known, k);
@@ -47,74 +46,53 @@ fn weigh_once(
             load: kept - 1,
         };
     }
-    let frame = nets[k];
+    let frame = image.nets[k];
     clear(frame, scratch);
-    let start = starts[k];
-    let header = image::places::module_at(image, start);
+    let start = image.starts[k];
+    let header = image::places::module_at(image.numbers, start);
     let mut at = header.to + 1;
-    let mut left = header.count;
     let mut most = 0;
     let mut tally = Tally::nothing();
-    while 0 < left {
-        let o = image::places::occurrence_at(image, at);
+    for _ in 0..header.count {
+        let o = image::places::occurrence_at(image.numbers, at);
         at = o.to;
-        left -= 1;
         match gates::kind_of(o.refers) {
             Kind::Gate(_, _) => {
                 tally = tally.with_gate(o.refers as usize);
-                add_loads(image, o.from, o.to, false, 0, loads, scratch);
+                add_loads(image.numbers, o.from, o.to, false, 0, loads, scratch);
             }
             Kind::Module => {
                 let j = o.refers as usize - 16;
-                let inner = weigh_once(
-                    image,
-                    starts,
-                    nets,
-                    j,
-                    &mut scratch[frame..],
-                    loads,
-                    rows,
-                    known,
-                );
+                let inner = weigh_once(image, j, &mut scratch[frame..], loads, rows, known);
                 most = larger(most, inner.load);
                 let reached = inner.tally;
                 tally = tally.with_tally(reached);
-                add_inside(image, o, starts[j], loads, scratch);
+                add_inside(image.numbers, o, image.starts[j], loads, scratch);
             }
         }
     }
     let load = larger(largest(scratch, frame), most);
-    keep(image, start, header, k, load, scratch, loads, known);
+    keep(image.numbers, start, header, k, load, scratch, loads, known);
     tally_engine::rows::write_row(tally, k, known.len(), rows);
     Weighed { tally, load }
 }
 
 // Tally and largest load of the module at position k, over the modules reached too. The first `room` entries of scratch are 0 afterwards;
 // `loads` has an entry for each of the image. A file has at most 128 modules, so each is kept.
-pub fn weigh(
-    image: &[u16],
-    starts: &[usize],
-    nets: &[usize],
-    k: usize,
-    room: usize,
-    scratch: &mut [u32],
-    loads: &mut [u32],
-) -> Weighed
-    requires loadable { Loadable image.now starts.now nets.now k room }
-    requires countable { Countable image.now starts.now k }
+pub fn weigh(image: Image, k: usize, room: usize, scratch: &mut [u32], loads: &mut [u32]) -> Weighed
+    requires loadable { Loadable image.numbers.now image.starts.now image.nets.now k room }
+    requires countable { Countable image.numbers.now image.starts.now k }
     requires room_in_bounds { room ≤ length scratch.old }
-    requires image_in_bounds { length image.now ≤ length loads.old }
-    ensures most { (s : Loadable image.now starts.now nets.now k room)
+    requires image_in_bounds { length image.numbers.now ≤ length loads.old }
+    ensures most { (s : Loadable image.entry.numbers.now image.entry.starts.now image.entry.nets.now k room)
         → result.load ≡ largest_load s.rs (16 + k) }
-    ensures tally { (s : Countable image.now starts.now k)
+    ensures tally { (s : Countable image.entry.numbers.now image.entry.starts.now k)
         → result.tally.counts ≡ tally s.rs (16 + k) }
     ensures cleared { scratch.new ≡ replicate room 0 ++ drop room scratch.old }
 {
     let mut rows = [0u32; 2048];
     let mut known = [0u32; 128];
-    let weighed = weigh_once(
-        image, starts, nets, k, scratch, loads, &mut rows, &mut known,
-    );
+    let weighed = weigh_once(image, k, scratch, loads, &mut rows, &mut known);
     clear(room, scratch);
     weighed
 }

@@ -15,8 +15,7 @@ pub fn mark_body(numbers: &[u16], place: usize, count: usize, table: &mut [u8], 
         → Stamped table.new stamp (λ x. used x || member x (body_nets s.os)) }
 {
     let mut at = place;
-    let mut left = count;
-    while 0 < left {
+    for _ in 0..count {
         let o = image::places::occurrence_at(numbers, at);
         let drives = o.drives;
         let takes = o.from;
@@ -24,7 +23,6 @@ pub fn mark_body(numbers: &[u16], place: usize, count: usize, table: &mut [u8], 
         crate::used::mark(&numbers[at + 1..at + 1 + drives], table, stamp);
         crate::used::mark(&numbers[takes..next], table, stamp);
         at = next;
-        left -= 1;
     }
 }
 
@@ -58,15 +56,13 @@ pub fn put_body(
         → Put (body_of s.w) out.old to out.new result }
 {
     let mut at = place;
-    let mut left = count;
     let mut from = 0;
     let mut end = to;
-    while 0 < left {
+    for _ in 0..count {
         let o = image::places::occurrence_at(numbers, at);
         let here = at;
         let takes = o.from;
         at = o.to;
-        left -= 1;
         if rewrite_counts::fours::is_withdrawn(o.refers) {
             let first = crate::used::seek(table, stamp, from);
             let second = crate::used::seek(table, stamp, first + 1);

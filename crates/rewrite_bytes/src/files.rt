@@ -64,21 +64,18 @@ pub fn put_file(
 {
     let mut table = [0u8; 16384];
     let mut at = bytes_out::put(modules as u16, out, 0);
-    let mut k = 0;
-    while k < modules {
-        let here = k;
-        k += 1;
-        if own[here] == 0 {
-            let from = offsets[here];
-            let to = offsets[k];
+    for k in 0..modules {
+        if own[k] == 0 {
+            let from = offsets[k];
+            let to = offsets[k + 1];
             at = write_pieces::bytes::copy(&file[from..to], out, at);
         } else {
             at = put_module(
                 numbers,
-                starts[here],
-                own[here],
+                starts[k],
+                own[k],
                 &mut table,
-                k as u8,
+                (k + 1) as u8,
                 out,
                 at,
             );

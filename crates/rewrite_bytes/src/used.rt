@@ -15,7 +15,7 @@ pub fn mark(list: &[u16], table: &mut [u8], stamp: u8)
     }
 }
 
-// The lowest unused number from one on. There is one.
+// The lowest unused number from one on. There is one, so the search has no end to test: `position` would answer an Option that is never None.
 pub fn seek(table: &[u8], stamp: u8, from: usize) -> usize
     requires { Seekable table.now stamp from }
     ensures { (s : Seekable table.now stamp from) → Found s result }

@@ -1,5 +1,5 @@
 -- What deciding the ceilings of the new file asks: tables by position of a file's modules.
-use Rattle.std.specs.Prelude.{ℕ, ◌≤◌, ◌<◌, ◌≡◌, List, ◌∷◌, length, get_or, drop}
+use Rattle.std.specs.Prelude.{ℕ, ◌≤◌, ◌<◌, ◌≡◌, Option, None, Some, List, ◌∷◌, length, get_or, drop}
 use Rattle.meaning.specs.Syntax.{Module}
 use Rattle.meaning.specs.Limits.{net_count, body_size, expanded_size, most_module_nets, most_size}
 use Rattle.meaning.specs.Figures.{body_weight}
@@ -9,12 +9,11 @@ use Rattle.laws.specs.Withdrawn.Suits.{fours}
 use Rattle.laws.specs.Withdrawn.Counts.{four_weight, fours_reached}
 use Rattle.image.specs.Stands.{Stands}
 use Rattle.meaning.specs.Layout.{module_numbers}
-use Rattle.rewrite_counts.specs.declared.ceilings.Kept.{Kept}
-use Rattle.rewrite_counts.specs.declared.ceilings.Kept.TheVariants.{All, Broken}
 
-abbrev pub verdict_by : (number : ℕ) → Kept → Verdict
-verdict_by number All = good
-verdict_by number (Broken k) = refused number k
+-- All modules keep to the rule of a number, or the one at a position breaks it.
+abbrev pub verdict_by : (number : ℕ) → Option ℕ → Verdict
+verdict_by number None = good
+verdict_by number (Some k) = refused number k
 
 -- Module m is at position k of a list, the modules `later` behind it.
 abbrev pub Entry : (ms : List Module) (table : List ℕ) (figure : Module → List Module → ℕ) → Type 0

@@ -36,13 +36,11 @@ fn fours_of(image: &[u16], starts: &[usize], k: usize, reached: &[u32]) -> Fours
 {
     let header = image::places::module_at(image, starts[k]);
     let mut at = header.to + 1;
-    let mut left = header.count;
     let mut own = 0u32;
     let mut sum = 0u32;
-    while 0 < left {
+    for _ in 0..header.count {
         let o = image::places::occurrence_at(image, at);
         at = o.to;
-        left -= 1;
         if is_withdrawn(o.refers) {
             own += 1;
             sum += 1;
@@ -65,9 +63,7 @@ pub fn count_fours(
     ensures { (s : Countable image.now starts.now modules (length own.old) (length reached.old))
         → Counted s.rs 0 own.new reached.new }
 {
-    let mut k = modules;
-    while 0 < k {
-        k -= 1;
+    for k in (0..modules).rev() {
         let found = fours_of(image, starts, k, reached);
         own[k] = found.own;
         reached[k] = found.reached;

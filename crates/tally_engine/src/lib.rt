@@ -50,7 +50,7 @@ impl Tally {
 }
 
 // The tally of the module at position k: a gate counts for itself, and a module adds its tally each time it is referred to. What is
-// kept is looked up, so the work is bounded by the length of the file.
+// kept is looked up, so the work is bounded by the length of the file. No count of nets is read, so a caller need have no whole `Image`.
 fn tally_once(
     image: &[u16],
     starts: &[usize],
@@ -67,12 +67,10 @@ fn tally_once(
     }
     let header = image::places::module_at(image, starts[k]);
     let mut at = header.to + 1;
-    let mut left = header.count;
     let mut tally = Tally::nothing();
-    while 0 < left {
+    for _ in 0..header.count {
         let o = image::places::occurrence_at(image, at);
         at = o.to;
-        left -= 1;
         match gates::kind_of(o.refers) {
             Kind::Gate(_, _) => {
                 tally = tally.with_gate(o.refers as usize);

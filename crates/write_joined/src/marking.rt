@@ -7,9 +7,7 @@ pub fn mark(names: &[u16], modules: usize, marks: &mut [u8])
     requires { Markable names.now modules marks.old }
     ensures { (s : Searchable names.now modules) → Marks marks.new s.ms }
 {
-    let mut k = modules;
-    while 0 < k {
-        k -= 1;
+    for k in (0..modules).rev() {
         let x = image::entry(names, k);
         marks[x] = 1;
     }

@@ -6,11 +6,11 @@ use Rattle.flat_engine.proofs.FlatPlan.{scene, gates-few, inputs-inside, ready}
 use Rattle.flat_engine.proofs.FlatDone.{last-next, frontable, flattened}
 use Rattle.flat_engine.proofs.flatten.Goals as goal
 
-pub offset_bounds-starts-k : goal.offset_bounds-starts-k
-offset_bounds-starts-k c = omega (arith, in_starts (scene c.requires))
+pub offset_bounds-image-k : goal.offset_bounds-image-k
+offset_bounds-image-k c = omega (arith, in_starts (scene c.requires))
 
-pub bounds-starts-k : goal.bounds-starts-k
-bounds-starts-k c = in_starts (scene c.requires)
+pub bounds-image-k : goal.bounds-image-k
+bounds-image-k c = in_starts (scene c.requires)
 
 pub module_at-header-requires : goal.module_at-header-requires
 module_at-header-requires c = module_there (scene c.requires)

@@ -9,14 +9,11 @@ use Rattle.load_engine.proofs.Loading.{Loading}
 use Rattle.load_engine.proofs.+weigh_once.Given as goal
 
 abbrev pub decreases-weigh_once : goal.decreases-weigh_once
-decreases-weigh_once l = length l.starts.now - l.k
+decreases-weigh_once l = length l.image.starts.now - l.k
 
-abbrev pub invariant-loop-left : goal.invariant-loop-left
-invariant-loop-left l =
-    ((s : Workable l.image l.starts l.nets l.k (length l.initial.scratch) l.fn.loads l.fn.known)
-    → Loading s.loadable l.initial.scratch l.at l.left l.most l.scratch × LoadsKept l.image l.starts s.loadable.rs l.loads l.known)
-    × ((s : Tallying l.image l.starts l.k l.fn.rows (marks l.fn.known))
-    → Counting s.countable l.at l.left l.tally.counts × Kept s.countable.rs l.rows (marks l.known))
-
-abbrev pub decreases-loop-left : goal.decreases-loop-left
-decreases-loop-left l = l.left
+abbrev pub invariant-loop : goal.invariant-loop
+invariant-loop l =
+    ((s : Workable l.image.numbers.now l.image.starts.now l.image.nets.now l.k (length l.initial.scratch) l.fn.loads l.fn.known)
+    → Loading s.loadable l.initial.scratch l.at (l.end - l.counter) l.most l.scratch × LoadsKept l.image.numbers.now l.image.starts.now s.loadable.rs l.loads l.known)
+    × ((s : Tallying l.image.numbers.now l.image.starts.now l.k l.fn.rows (marks l.fn.known))
+    → Counting s.countable l.at (l.end - l.counter) l.tally.counts × Kept s.countable.rs l.rows (marks l.known))

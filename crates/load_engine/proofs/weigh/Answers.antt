@@ -3,7 +3,7 @@
 use native.Mathlib.Omega.{arith}
 use mathlib.Core.Path.{ap, ◌∙◌}
 use mathlib.Core.List.{◌++◌}
-use lib.ListN.{length, replicate}
+use lib.ListN.{replicate}
 use Rattle.image.specs.Entries.{same-further}
 use Rattle.load_engine.specs.Loads.{Loadable}
 use Rattle.load_engine.proofs.Loading.{moved}
@@ -21,7 +21,7 @@ weigh_once-weighed-requires c = record {
 pub returns : goal.returns
 returns c =
     let work =
-    λ (s : Loadable c.args.image.now c.args.starts.now c.args.nets.now c.args.k c.args.room).
+    λ (s : Loadable c.args.image.numbers.now c.args.image.starts.now c.args.image.nets.now c.args.k c.args.room).
     none-worked (moved s (omega (arith, s.room, c.requires.room_in_bounds))) c.requires.image_in_bounds
     in
     record {

@@ -9,10 +9,7 @@ use Rattle.tally_engine.proofs.+tally_once.Given as goal
 abbrev pub decreases-tally_once : goal.decreases-tally_once
 decreases-tally_once l = length l.starts.now - l.k
 
-abbrev pub invariant-loop-left : goal.invariant-loop-left
-invariant-loop-left l =
+abbrev pub invariant-loop : goal.invariant-loop
+invariant-loop l =
     (s : Tallying l.image l.starts l.k l.fn.rows l.fn.filled)
-    → Counting s.countable l.at l.left l.tally.counts × Kept s.countable.rs l.rows l.filled
-
-abbrev pub decreases-loop-left : goal.decreases-loop-left
-decreases-loop-left l = l.left
+    → Counting s.countable l.at (l.end - l.counter) l.tally.counts × Kept s.countable.rs l.rows l.filled

@@ -6,15 +6,12 @@ use Rattle.flat_engine.proofs.Progress.{Walking}
 use Rattle.flat_engine.proofs.walk.+place_module_walk.Given as goal
 
 abbrev pub decreases-place_module : goal.decreases-place_module
-decreases-place_module l = 2 * (length l.starts.now - l.k) + 1
+decreases-place_module l = 2 * (length l.image.starts.now - l.k) + 1
 
 abbrev pub decreases-walk : goal.decreases-walk
-decreases-walk l = 2 * (length l.starts.now - l.k)
+decreases-walk l = 2 * (length l.image.starts.now - l.k)
 
-abbrev pub invariant-walk-loop-left : goal.invariant-walk-loop-left
-invariant-walk-loop-left l =
-    Walking l.image l.starts l.nets l.k (record { next = l.initial.next; at = l.initial.end }) l.initial.scratch l.initial.bytes l.initial.at
-    l.initial.left l.initial.filled l.at l.left l.filled l.scratch l.bytes (record { next = l.next; at = l.end })
-
-abbrev pub decreases-walk-loop-left : goal.decreases-walk-loop-left
-decreases-walk-loop-left l = l.left
+abbrev pub invariant-walk-loop : goal.invariant-walk-loop
+invariant-walk-loop l =
+    Walking l.image.numbers.now l.image.starts.now l.image.nets.now l.k (record { next = l.initial.next; at = l.initial.behind }) l.initial.scratch l.initial.bytes l.initial.at
+    l.end l.initial.filled l.at (l.end - l.counter) l.filled l.scratch l.bytes (record { next = l.next; at = l.behind })

@@ -13,7 +13,7 @@ use Rattle.open_finding.specs.Here.{Here, here-at}
 use Rattle.rewrite_bytes.specs.Modules.{ModuleWritable, Part, Rewritable}
 use Rattle.rewrite_bytes.proofs.Modules.{next_module, kept-part, suited-here, older-now, file-long}
 use Rattle.rewrite_bytes.proofs.files.put_file.Goals as goal
-use Rattle.rewrite_bytes.proofs.files.put_file.Goals.{In-loop-k}
+use Rattle.rewrite_bytes.proofs.files.put_file.Goals.{In-loop-k, then-own-k-eq0, else-own-k-eq0}
 
 -- The count, and the modules behind it.
 file_length :
@@ -93,7 +93,7 @@ module _
     in_file = omega (arith, part.next, part.stands.within)
 
 pub bounds-offsets-k : goal.bounds-offsets-k
-bounds-offsets-k c = in_offsets (goal.at.bounds-offsets-k c).In-loop-k c.requires
+bounds-offsets-k c = omega (arith, in_offsets (goal.at.bounds-offsets-k c).In-loop-k c.requires)
 
 pub slice_bounds-copy-count : goal.slice_bounds-copy-count
 slice_bounds-copy-count c = ends (goal.at.slice_bounds-copy-count c).In-loop-k c.requires
@@ -114,18 +114,6 @@ copy-at-requires c =
     let none : fours m.occurrences ≡ 0 = omega (arith, owned turn s) in
     omega (arith, ap length (kept-part m (part turn s) none), room turn s)
 
-pub loop-k-preserved-then-own-here-eq0 : goal.loop-k-preserved-then-own-here-eq0
-loop-k-preserved-then-own-here-eq0 c =
-    let turn = (goal.at.loop-k-preserved-then-own-here-eq0 c).In-loop-k in (
-      c.loop-k.invariant.0,
-      (λ x. omega (arith, c.loop-k.invariant.1 x)),
-      λ s.
-          let m = (here turn s).m in
-          let none : fours m.occurrences ≡ 0 = omega (arith, owned turn s) in
-          laying-more (c.loop-k.invariant.2 s) (module_bytes (rewrite_module m)) _ (next_module (here turn s))
-          (rw (kept-part m (part turn s) none) at c.copy-at.ensures),
-    )
-
 pub overflow_cast-k : goal.overflow_cast-k
 overflow_cast-k c = omega (arith, few (goal.at.overflow_cast-k c).In-loop-k c.requires)
 
@@ -134,18 +122,32 @@ put_module-at-requires c = writable (goal.at.put_module-at-requires c).In-loop-k
 
 pub loop-k-preserved : goal.loop-k-preserved
 loop-k-preserved c =
-    let turn = (goal.at.loop-k-preserved c).In-loop-k in (
-      c.put_module-at.auto.table ∙ c.loop-k.invariant.0,
-      older-now _ (c.put_module-at.ensures (writable turn c.requires)).1,
-      λ s.
-          laying-more (c.loop-k.invariant.2 s) (module_bytes (rewrite_module (here turn s).m)) _ (next_module (here turn s))
-          (c.put_module-at.ensures (writable turn s)).0,
-    )
+    let turn = (goal.at.loop-k-preserved c).In-loop-k in
+    elim c.if-own-k-eq0.branch [
+      | then-own-k-eq0 w ↦
+          rw (w.at-is, w.out-is, w.table-is) (
+            c.loop-k.invariant.0,
+            (λ x. omega (arith, c.loop-k.invariant.1 x)),
+            λ s.
+                let m = (here turn s).m in
+                let none : fours m.occurrences ≡ 0 = omega (arith, owned turn s, w.if-own-k-eq0.true) in
+                laying-more (c.loop-k.invariant.2 s) (module_bytes (rewrite_module m)) _ (next_module (here turn s))
+                (rw (kept-part m (part turn s) none) at w.copy-at.ensures),
+          )
+      | else-own-k-eq0 w ↦
+          rw (w.at-is, w.out-is, w.table-is) (
+            w.put_module-at.auto.table ∙ c.loop-k.invariant.0,
+            older-now _ (w.put_module-at.ensures (writable turn c.requires)).1,
+            λ s.
+                laying-more (c.loop-k.invariant.2 s) (module_bytes (rewrite_module (here turn s).m)) _ (next_module (here turn s))
+                (w.put_module-at.ensures (writable turn s)).0,
+          )
+    ]
 
 pub returns : goal.returns
 unfolding each rewrite_file
 returns c s =
-    let none = drop_of_length-le s.ms {i = c.loop-k.k} (omega (arith, c.loop-k-test.false, s.all)) in
+    let none = drop_of_length-le s.ms {i = c.loop-k.k} (omega (arith, s.all)) in
     rw (file-long s.ms c.args.modules s.all)
     (put-more c.put-at.ensures zero-le
     (laying-all (c.loop-k.invariant.2 s) (ap (λ (ms : List Module). each module_bytes (rewrite_file ms)) none)))

@@ -1,4 +1,4 @@
-use Rattle.std.proofs.Common.{ℕ, ◌≡◌, ◌+◌, ◌-◌, ◌<◌, length, get_or, drop}
+use Rattle.std.proofs.Common.{ℕ, ◌≡◌, ◌+◌, ◌<◌, length, get_or, drop}
 use Rattle.meaning.specs.Layout.{each}
 use Rattle.meaning.specs.Withdrawn.{rewrite_file}
 use Rattle.laws.specs.Written.{module_bytes}
@@ -13,6 +13,3 @@ invariant-loop-k l =
     × ((x : ℕ) → get_or l.table x 0 < l.k + 1)
     × ((s : Rewritable l.file l.numbers l.starts l.offsets l.modules l.own (length l.fn.out))
     → Laying (each module_bytes (rewrite_file s.ms)) (each module_bytes (rewrite_file (drop l.k s.ms))) l.initial.out l.initial.at l.out l.at)
-
-abbrev pub decreases-loop-k : goal.decreases-loop-k
-decreases-loop-k l = l.modules - l.k

@@ -1,4 +1,4 @@
--- `rewrite_counts::ceilings::last_large` meets its contract: the modules are passed from the last on. Assumes nothing.
+-- The modules are passed from the last on: one that is over is the last one, and the verdict on all is its refusal. Assumes nothing.
 use Rattle.std.proofs.Common.{ℕ, ◌+◌, ◌-◌, ◌≤◌, ◌<◌, ◌≡◌, List, length, drop, subst, arith}
 use native.Mathlib.Nat.{zero-add}
 use Rattle.meaning.specs.Verdict.{good, sizes_verdict}
@@ -20,48 +20,23 @@ module _ {sizes reached : List ℕ} {modules k : ℕ} (s : Sized sizes reached m
       let again : k ≡ k - 1 + 1 = omega arith in subst (λ (n : ℕ). sizes_verdict n (rewrite_file (drop n s.ms)) ≡ good) again kept
 
 pub loop-k-init : goal.loop-k-init
-loop-k-init c = record { within = omega arith; kept = λ s. small-left s.ms _ (omega (arith, s.all)) }
-
-pub offset_bounds-sizes-k : goal.offset_bounds-sizes-k
-offset_bounds-sizes-k c = let s = c.requires in omega (arith, inside s c.loop-k-test.true c.loop-k.invariant.within, s.sizes_long)
-
-pub bounds-sizes-k : goal.bounds-sizes-k
-bounds-sizes-k c = let s = c.requires in omega (arith, inside s c.loop-k-test.true c.loop-k.invariant.within, s.sizes_long)
-
-pub offset_bounds-reached-k : goal.offset_bounds-reached-k
-offset_bounds-reached-k c = let s = c.requires in omega (arith, inside s c.loop-k-test.true c.loop-k.invariant.within, s.reached_long)
-
-pub bounds-reached-k : goal.bounds-reached-k
-bounds-reached-k c = let s = c.requires in omega (arith, inside s c.loop-k-test.true c.loop-k.invariant.within, s.reached_long)
-
-pub overflow_mul-reached : goal.overflow_mul-reached
-overflow_mul-reached c =
-    let s = c.requires in omega (arith, (s.low (c.loop-k.k - 1) (inside s c.loop-k-test.true c.loop-k.invariant.within)).1)
-
-pub overflow_add-sizes : goal.overflow_add-sizes
-overflow_add-sizes c =
-    let s = c.requires in
-    let low = s.low (c.loop-k.k - 1) (inside s c.loop-k-test.true c.loop-k.invariant.within) in omega (arith, low.0, low.1)
+loop-k-init c s = small-left s.ms _ (omega (arith, s.all))
 
 pub returns-then-sizes-k-gt65535 : goal.returns-then-sizes-k-gt65535
 returns-then-sizes-k-gt65535 c s =
     let k : ℕ = c.loop-k.k - 1 in
-    let h = here-at s.ms k (inside s c.loop-k-test.true c.loop-k.invariant.within) in
+    let h = here-at s.ms k (inside s c.loop-k-test.true c.loop-k.auto.k) in
     large-whole 0 k s.ms
     (rw (zero-add k)
-    (large-here h (behind s c.loop-k-test.true c.loop-k.invariant.within (c.loop-k.invariant.kept s))
+    (large-here h (behind s c.loop-k-test.true c.loop-k.auto.k (c.loop-k.invariant s))
     (omega (arith, s.size k h.m h.later h.here, s.reach k h.m h.later h.here))))
 
 pub loop-k-preserved : goal.loop-k-preserved
-loop-k-preserved c =
-    record {
-      within = omega arith;
-      kept = λ s.
-          let k : ℕ = c.loop-k.k - 1 in
-          let h = here-at s.ms k (inside s c.loop-k-test.true c.loop-k.invariant.within) in
-          small-here h (behind s c.loop-k-test.true c.loop-k.invariant.within (c.loop-k.invariant.kept s))
-          (omega (arith, s.size k h.m h.later h.here, s.reach k h.m h.later h.here));
-    }
+loop-k-preserved c s =
+    let k : ℕ = c.loop-k.k - 1 in
+    let h = here-at s.ms k (inside s c.loop-k-test.true c.loop-k.auto.k) in
+    small-here h (behind s c.loop-k-test.true c.loop-k.auto.k (c.loop-k.invariant s))
+    (omega (arith, s.size k h.m h.later h.here, s.reach k h.m h.later h.here))
 
 pub returns : goal.returns
-returns c s = let none : c.loop-k.k ≡ 0 = omega arith in rw none at (c.loop-k.invariant.kept s)
+returns c s = let none : c.loop-k.k ≡ 0 = omega arith in rw none at (c.loop-k.invariant s)
