@@ -4,9 +4,8 @@ ghost use Rattle.bytes_out.specs.Filled.{Put};
 ghost use Rattle.write_pieces.specs.Rooms.{Room};
 ghost use Rattle.write_ahead.specs.Carries.{one_bytes, two_bytes, join_bytes};
 
+use write_pieces::gates::Gate;
 use write_pieces::numbers::put_list;
-
-const AND3: u16 = 11;
 
 // The carry behind a tree, by module 42.
 pub fn over_one(width: u16, net: u16, carry: u16, p: u16, bytes: &mut [u8], at: usize) -> usize
@@ -41,6 +40,6 @@ pub fn join(width: u16, p: u16, x: u16, y: u16, z: u16, bytes: &mut [u8], at: us
     requires { (width ≤ 64) × (p ≤ 1000) × (x ≤ 1000) × (y ≤ 1000) × (z ≤ 1000) × Room (join_bytes width p x y z) bytes.old at }
     ensures { Put (join_bytes width p x y z) bytes.old at bytes.new result }
 {
-    let makes = put_list(&[1, p, AND3, 3, x, y, z], bytes, at);
+    let makes = put_list(&[1, p, Gate::And3 as u16, 3, x, y, z], bytes, at);
     over_two(width, p + width, x + width, y, z, bytes, makes)
 }

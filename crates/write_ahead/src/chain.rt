@@ -6,7 +6,7 @@ use crate::trees::ahead;
 use write_trees::{Parts, Tree, leaves, split};
 
 // Steps that are laid: the place behind their bytes, and over how many trees they go.
-#[derive(Clone, Copy)]
+#[derive(Clone, Copy, PartialEq, Eq, Debug)]
 pub struct Steps {
     pub at: usize,
     pub trees: u16,

@@ -23,8 +23,8 @@ pub fn lookahead(width: u16, bytes: &mut [u8], at: usize) -> usize
     requires { (1 ≤ width) × (width ≤ 64) × Room (each number_bytes (module_numbers (lookaheadOf width (steps_of width)))) bytes.old at }
     ensures { Put (each number_bytes (module_numbers (lookaheadOf width (steps_of width)))) bytes.old at bytes.new result }
 {
-    let outputs = carry_and_bits(41, width, width + 1, bytes, at);
-    let count = carries(width, bytes, outputs);
+    let outputs = carry_and_bits(41, width, 0, width + 1, bytes, at);
+    let count = carries(width, 0, bytes, outputs);
     let spine = Tree::Spine {
         step: 0,
         height: height(width),

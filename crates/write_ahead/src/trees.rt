@@ -5,7 +5,7 @@ use crate::carries::{join, over_one, over_two};
 use write_trees::{Parts, Tree, split};
 
 // A tree that is laid: the place behind its bytes, the bit behind its bits, and the net of its P.
-#[derive(Clone, Copy)]
+#[derive(Clone, Copy, PartialEq, Eq, Debug)]
 pub struct Laid {
     pub at: usize,
     pub end: u16,

@@ -1,5 +1,5 @@
 -- The bytes of the ALU in the order in which they are written: its file module by module, and module 48 piece by piece.
-use Prim.Native.Nat.{ℕ, suc, ◌+◌, ◌*◌}
+use Prim.Native.Nat.{ℕ, ◌+◌, ◌*◌}
 use native.Mathlib.Omega.{arith}
 use mathlib.Core.Path.{◌≡◌, refl, ap, ◌∙◌}
 use mathlib.Core.List.{List, [], ◌∷◌, ◌++◌, append_assoc, append-nil}
@@ -8,7 +8,7 @@ use Rattle.meaning.specs.Layout.{each, occurrence_numbers, module_numbers, file_
 use Rattle.meaning.specs.Adder.{up_from}
 use Rattle.meaning.specs.Counter.{XOR}
 use Rattle.meaning.specs.FastAdder.{gate_row, carry_one, carry_two, lookahead, steps}
-use Rattle.meaning.specs.Alu.{b_net, carry_net, p_net, q_net, out_net, result_net, lines_net, control, cell, copies, copy_count, carries_ahead, carry_out, overflows, controlled, cells, alu_module, alu_over, alu}
+use Rattle.meaning.specs.Alu.{b_net, carry_net, q_net, out_net, result_net, lines_net, control, cell, copies, copy_count, carries_ahead, carry_out, overflows, controlled, cells, alu_module, alu_over, alu}
 use Rattle.laws.specs.Lists.{each_append}
 use Rattle.laws.specs.Adder.Nets.{length-up_from}
 use Rattle.laws.specs.FastAdder.Shape.{steps-width}
@@ -16,7 +16,6 @@ use Rattle.laws.specs.Alu.Figures.{alu-length}
 use Rattle.write_pieces.specs.Heads.{head_numbers}
 use Rattle.write_pieces.specs.HeadNumbers.{numbers-of_module}
 use Rattle.write_alu.specs.Heads.{head_bytes}
-use Rattle.write_alu.proofs.Occurrences.{control_list, numbers-of-control, out_list, numbers-of-out}
 
 -- The head of module 48.
 abbrev pub head_pieces : (n copied : ℕ) → List ℕ
@@ -51,32 +50,6 @@ bytes-of-head n copied =
       ← bytes-of-pieces (2 * n + 5) (n + 2) (2 * n + 4 + 6 * copied) (up_from 0 (n + 1)) (up_from (b_net n) (n + 4)) (up_from (out_net n) (n + 2)),
     )
 
--- The carries by module 41.
-abbrev pub ahead_pieces : ℕ → List ℕ
-ahead_pieces n =
-    each number_bytes (n ∷ [])
-    ++ (each number_bytes (up_from (carry_net n + 1) n)
-    ++ (each number_bytes (41 ∷ (2 * n + 1) ∷ carry_net n ∷ []) ++ each number_bytes (up_from (p_net n) (2 * n))))
-
-bytes-of-lists : (driven taken carry : ℕ) (xs ys : List ℕ)
-    → each number_bytes ((driven ∷ xs) ++ (41 ∷ taken ∷ carry ∷ ys))
-    ≡ each number_bytes (driven ∷ [])
-    ++ (each number_bytes xs ++ (each number_bytes (41 ∷ taken ∷ carry ∷ []) ++ each number_bytes ys))
-unfolding each
-bytes-of-lists driven taken carry xs ys = simp (each_append, append_assoc, append-nil)
-
-pub bytes-of-ahead : (n : ℕ) → each number_bytes (occurrence_numbers (carries_ahead n)) ≡ ahead_pieces n
-unfolding occurrence_numbers
-bytes-of-ahead n =
-    let next : carry_net n + 1 ≡ suc (carry_net n) = omega arith in
-    let taken : length (carry_net n ∷ up_from (p_net n) (2 * n)) ≡ 2 * n + 1 = omega (arith, length-up_from (p_net n) (2 * n)) in
-    rw (
-      next,
-      length-up_from (suc (carry_net n)) n,
-      taken,
-      ← bytes-of-lists n (2 * n + 1) (carry_net n) (up_from (suc (carry_net n)) n) (up_from (p_net n) (2 * n)),
-    )
-
 -- Module 48: its head, the control, the copies, the cells, the carries, carry and overflow, and the result.
 abbrev pub copies_bytes : (n copied : ℕ) → List ℕ
 copies_bytes n copied = each number_bytes (each occurrence_numbers (copies (lines_net n) (lines_net n + 6) copied))
@@ -90,10 +63,10 @@ row_bytes n = each number_bytes (each occurrence_numbers (gate_row XOR (result_n
 abbrev pub alu_bytes : (n copied : ℕ) → List ℕ
 alu_bytes n copied =
     head_bytes n copied
-    ++ (each number_bytes (control_list n)
+    ++ (each number_bytes (occurrence_numbers (controlled n))
     ++ (copies_bytes n copied
     ++ (cells_bytes n copied
-    ++ (each number_bytes (occurrence_numbers (carries_ahead n)) ++ (each number_bytes (out_list n) ++ row_bytes n)))))
+    ++ (each number_bytes (occurrence_numbers (carries_ahead n)) ++ (each number_bytes (occurrence_numbers (carry_out n) ++ occurrence_numbers (overflows n)) ++ row_bytes n)))))
 
 bytes-of-occurrences : (n copied : ℕ)
     → each number_bytes (each occurrence_numbers (alu_module n copied).occurrences)
@@ -122,7 +95,7 @@ pub bytes-of-alu : (n copied : ℕ) → each number_bytes (module_numbers (alu_m
 bytes-of-alu n copied =
     head-and-rest n copied
     ∙ ap (λ (bytes : List ℕ). head_bytes n copied ++ bytes)
-    (bytes-of-occurrences n copied ∙ rw (numbers-of-control n, numbers-of-out n))
+    (bytes-of-occurrences n copied)
 
 -- No number of modules 49, 50, 43 and 42 passes 127: their numbers are their bytes.
 bytes-of-control : each number_bytes (module_numbers control) ≡ module_numbers control

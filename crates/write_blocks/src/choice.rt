@@ -5,7 +5,7 @@ ghost use Rattle.meaning.specs.Counter.{choose as chooseOf};
 ghost use Rattle.bytes_out.specs.Filled.{Put};
 ghost use Rattle.write_pieces.specs.Rooms.{Room};
 
-use crate::kinds::{AND, OR};
+use write_pieces::gates::Gate;
 use write_pieces::rows::gate;
 
 // For each bit an AND and an OR: the high part's bit or, where the high part is empty, the low one's.
@@ -24,8 +24,8 @@ pub fn choose(
 {
     let mut at = at;
     for i in 0..count {
-        let or = gate(ands + i, AND, empty, low + i, bytes, at);
-        at = gate(ors + i, OR, high + i, ands + i, bytes, or);
+        let or = gate(ands + i, Gate::And as u8, empty, low + i, bytes, at);
+        at = gate(ors + i, Gate::Or as u8, high + i, ands + i, bytes, or);
     }
     at
 }

@@ -2,7 +2,6 @@
 #![tactic(auto)]
 
 pub mod choice;
-mod kinds;
 
 ghost use Rattle.std.specs.Prelude.{◌≤◌, ◌^◌, ◌≡◌};
 ghost use Rattle.meaning.specs.Layout.{each, module_numbers};
@@ -11,7 +10,7 @@ ghost use Rattle.bytes_out.specs.Filled.{Put};
 ghost use Rattle.write_pieces.specs.Rooms.{Room};
 
 use crate::choice::choose;
-use crate::kinds::{AND, NOR, NOT, XOR};
+use write_pieces::gates::Gate;
 use write_pieces::rows::{gate, head, reference};
 
 // How many bits the block of a level counts.
@@ -27,7 +26,11 @@ pub fn block_number(level: u8) -> u8
     requires { level ≤ 6 }
     ensures { result ≡ block_number level }
 {
-    if level == 0 { NOT } else { 32 + level }
+    if level == 0 {
+        Gate::Not as u8
+    } else {
+        32 + level
+    }
 }
 
 // Module 33, the block of level 1: a pair of bits.
@@ -36,8 +39,8 @@ fn pair_block(bytes: &mut [u8], at: usize) -> usize
     ensures { Put (module_numbers pair_block) bytes.old at bytes.new result }
 {
     let empty = head(33, 2, 2, 2, 2, bytes, at);
-    let count = gate(3, NOR, 0, 1, bytes, empty);
-    gate(2, NOR, 1, 3, bytes, count)
+    let count = gate(3, Gate::Nor as u8, 0, 1, bytes, empty);
+    gate(2, Gate::Nor as u8, 1, 3, bytes, count)
 }
 
 // The block of level j + 1: one of level j on the low and one on the high half of its bits, the choice between their counts, and
@@ -60,8 +63,8 @@ fn join_block(j: u8, bytes: &mut [u8], at: usize) -> usize
     let high_half = reference(low, j + 1, block, 0, half, bytes, low_half);
     let choice = reference(high, j + 1, block, half, half, bytes, high_half);
     let both = choose(high_empty, high, low, ands, ors, j, bytes, choice);
-    let top_bit = gate(empty, AND, high_empty, low_empty, bytes, both);
-    gate(top, XOR, high_empty, empty, bytes, top_bit)
+    let top_bit = gate(empty, Gate::And as u8, high_empty, low_empty, bytes, both);
+    gate(top, Gate::Xor as u8, high_empty, empty, bytes, top_bit)
 }
 
 // The block of level j + 1.
@@ -81,10 +84,8 @@ pub fn blocks(level: u8, bytes: &mut [u8], at: usize) -> usize
     ensures { Put (each module_numbers (blocksOf level)) bytes.old at bytes.new result }
 {
     let mut at = at;
-    let mut left = level;
-    while 0 < left {
-        left -= 1;
-        at = block(left, bytes, at);
+    for j in (0..level).rev() {
+        at = block(j, bytes, at);
     }
     at
 }

@@ -1,12 +1,14 @@
 -- The numbers of a copy of the lines and of a cell as they are put, and what is left of the copies and of the cells once the first of them are
 -- laid.
 use Prim.Native.Nat.{ℕ, suc, ◌+◌, ◌*◌, ◌-◌, ◌<◌, ◌≤◌}
+use native.Mathlib.Nat.{add-zero}
 use native.Mathlib.Omega.{arith}
-use mathlib.Core.Path.{◌≡◌}
+use mathlib.Core.Path.{◌≡◌, refl}
 use mathlib.Core.List.{List, [], ◌∷◌, ◌++◌}
 use Rattle.meaning.specs.Layout.{each, occurrence_numbers}
 use Rattle.meaning.specs.Adder.{up_from}
 use Rattle.meaning.specs.Alu.{BUF, copy_row, copies, lines_of, cell_at, cells}
+use Rattle.laws.specs.Lists.{each_append}
 use Rattle.write_cells.specs.Lists.{cell_list}
 
 -- Numbers of a row, as sums and as successors.
@@ -26,33 +28,46 @@ module _ (s : ℕ) where
   pub five : s + 5 ≡ suc (suc (suc (suc (suc s))))
   five = omega arith
 
+-- The buffer of a line, and the buffers from one on.
+abbrev pub buffer_at : (lines net i : ℕ) → List ℕ
+buffer_at lines net i = 1 ∷ (net + i) ∷ BUF ∷ 1 ∷ (lines + i) ∷ []
+
+abbrev pub buffers_from : (lines net count i : ℕ) → List ℕ
+buffers_from lines net count i = each occurrence_numbers (copy_row (net + i) (lines + i) (count - i))
+
+numbers-of_buffer : (lines net n : ℕ)
+    → each occurrence_numbers (copy_row net lines (suc n))
+    ≡ (1 ∷ net ∷ BUF ∷ 1 ∷ lines ∷ []) ++ each occurrence_numbers (copy_row (suc net) (suc lines) n)
+unfolding each copy_row occurrence_numbers
+numbers-of_buffer lines net n = refl
+
+next-net : (net i : ℕ) → net + (i + 1) ≡ suc (net + i)
+next-net net i = omega arith
+
+module _ (lines net count : ℕ) where
+  pub all_buffers : buffers_from lines net count 0 ≡ each occurrence_numbers (copy_row net lines count)
+  all_buffers =
+      let all : count - 0 ≡ count = omega arith in
+      rw all (simp add-zero)
+
+  pub rest-of_buffers : (i : ℕ) → i < count
+      → buffers_from lines net count i ≡ buffer_at lines net i ++ buffers_from lines net count (i + 1)
+  rest-of_buffers i h =
+      let left : count - i ≡ suc (count - (i + 1)) = omega arith in
+      rw left (simp next-net (numbers-of_buffer (lines + i) (net + i) (count - (i + 1))))
+
+  pub no_buffers : (i : ℕ) → count ≤ i → buffers_from lines net count i ≡ []
+  unfolding each copy_row
+  no_buffers i h = let left : count - i ≡ 0 = omega arith in rw left
+
 -- A copy of the lines.
 abbrev pub copy_list : (lines net : ℕ) → List ℕ
-copy_list lines net =
-    1 ∷ net ∷ BUF ∷ 1 ∷ lines
-    ∷ 1 ∷ (net + 1) ∷ BUF ∷ 1 ∷ (lines + 1)
-    ∷ 1 ∷ (net + 2) ∷ BUF ∷ 1 ∷ (lines + 2)
-    ∷ 1 ∷ (net + 3) ∷ BUF ∷ 1 ∷ (lines + 3)
-    ∷ 1 ∷ (net + 4) ∷ BUF ∷ 1 ∷ (lines + 4)
-    ∷ 1 ∷ (net + 5) ∷ BUF ∷ 1 ∷ (lines + 5)
-    ∷ []
+copy_list lines net = each occurrence_numbers (copy_row net lines 6)
 
 numbers-of_copy : (lines net count : ℕ)
     → each occurrence_numbers (copies lines net (suc count)) ≡ copy_list lines net ++ each occurrence_numbers (copies lines (net + 6) count)
-unfolding each copies copy_row occurrence_numbers
-numbers-of_copy lines net count =
-    rw (
-      one lines,
-      two lines,
-      three lines,
-      four lines,
-      five lines,
-      one net,
-      two net,
-      three net,
-      four net,
-      five net,
-    )
+unfolding copies
+numbers-of_copy lines net count = each_append occurrence_numbers (copy_row net lines 6) (copies lines (net + 6) count)
 
 -- The copies from one on.
 abbrev pub copies_from : (lines net count i : ℕ) → List ℕ

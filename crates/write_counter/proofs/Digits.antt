@@ -1,13 +1,16 @@
 -- The binary digits of a number, taken from the low end: 0 has none, and any other number has its low digit and the digits of its
 -- half. A number up to 64 has at most seven.
-use Prim.Native.Nat.{ℕ, zero, suc, ◌/◌, ◌%◌, ◌≤◌, ◌<◌}
+use Prim.Native.Nat.{ℕ, zero, suc, ◌+◌, ◌/◌, ◌%◌, ◌^◌, ◌≤◌, ◌<◌}
+use native.Mathlib.Nat.{pow-suc}
+use native.Mathlib.Numerals.{add-one}
 use native.Mathlib.Omega.{arith}
-use mathlib.Core.Path.{◌≡◌, refl}
+use mathlib.Core.Path.{◌≡◌, refl, ap, sym}
 use mathlib.Core.Bool.{true, false}
 use mathlib.Core.List.{[], ◌∷◌}
 use lib.Dec.{eqb}
 use lib.ListN.{length}
 use borrow.Author.Tests.{eq-eqb, ne_eqb}
+use Rattle.std.proofs.Math.Nat.{div-div-eq-div-mul}
 use Rattle.meaning.specs.Counter.{digits_within, digits}
 use Rattle.laws.specs.Counter.Digits.{digits_fewest}
 
@@ -45,3 +48,19 @@ some-digit n some = rw (low_digit n some) (omega arith)
 
 pub few-digits : (n : ℕ) → n ≤ 64 → length (digits n) ≤ 7
 few-digits n most = digits_fewest n 7 (omega arith)
+
+-- A number that has a digit is not 0, and one that has none is.
+pub some-number : (n : ℕ) → 1 ≤ length (digits n) → 0 < n
+some-number zero some = absurd (omega (arith, ap length (no_digits zero (omega arith))))
+some-number (suc n) some = omega arith
+
+pub no_number : (n : ℕ) → length (digits n) ≤ 0 → n ≤ 0
+no_number zero none = omega arith
+no_number (suc n) none = absurd (omega (arith, some-digit (suc n) (omega arith)))
+
+-- What is left of a number behind its lowest digits.
+pub all_left : (n : ℕ) → n / 2 ^ 0 ≡ n
+all_left n = omega arith
+
+pub next_left : (n level : ℕ) → n / 2 ^ (level + 1) ≡ n / 2 ^ level / 2
+next_left n level = rw (add-one, pow-suc 2 level) (sym (div-div-eq-div-mul n (2 ^ level) 2))

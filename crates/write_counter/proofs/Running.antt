@@ -8,7 +8,7 @@ use mathlib.Core.Path.{◌≡◌, refl, ap, sym, ◌∙◌}
 use lib.ListN.{length}
 use Rattle.meaning.specs.Counter.{digits, last_count, counter_module}
 use Rattle.write_counter.specs.Shapes.{Shaped}
-use Rattle.write_counter.proofs.Digits.{digit-one, digit-zero, no_digits, some-digit, few-digits}
+use Rattle.write_counter.proofs.Digits.{digit-one, digit-zero, no_digits, some-digit, few-digits, some-number, no_number}
 use Rattle.write_counter.proofs.PartNumbers.{part_count, length-of-parts}
 
 pub record Running (width left level count below : ℕ) : Type 0 where
@@ -27,6 +27,17 @@ module _ {width left level count below : ℕ} (r : Running width left level coun
 
   pub level_within : 0 < left → level ≤ 6
   level_within some = omega (arith, few-digits width r.width-within, some-digit left some)
+
+  -- A level below the count of digits is at most 6, and something is left there; at that count nothing is.
+  module _ {count-of-digits : ℕ} (is : count-of-digits ≡ length (digits width)) where
+    pub level_below : level < count-of-digits → level ≤ 6
+    level_below more = omega (arith, few-digits width r.width-within, is)
+
+    pub some-left : level < count-of-digits → 0 < left
+    some-left more = some-number left (omega (arith, r.passed, is))
+
+    pub none-left : count-of-digits ≤ level → left ≤ 0
+    none-left all = no_number left (omega (arith, r.passed, is))
 
   pub running-one : left % 2 ≡ 1 → Running width (left / 2) (level + 1) (level + 1) (below + 3 * count)
   running-one one =
@@ -84,14 +95,15 @@ module _ {width left level count below occurrences : ℕ} (s : Shaping width lef
         last = rw add-one (sym (ap (last_count level count below) digit) ∙ s.last);
       }
 
-  pub shaping_end : left ≤ 0 → Shaped width (record { occurrences = occurrences; last = below; digits = level })
+  pub shaping_end : {count-of-digits : ℕ} → count-of-digits ≡ length (digits width) → count-of-digits ≤ level
+      → Shaped width (record { occurrences = occurrences; last = below; digits = count-of-digits })
   unfolding part_count last_count counter_module
-  shaping_end none =
-      let end = no_digits left none in
+  shaping_end is all =
+      let end = no_digits left (none-left s.running is all) in
       let most = level_most s.running in
       record {
         occurrences = omega (arith, ap (part_count level count) end, length-of-parts 0 0 0 width (digits width));
         last = sym (ap (last_count level count below) end) ∙ s.last;
         nets = omega (arith, s.running);
-        digits = omega (arith, s.running, ap length end);
+        digits = is;
       }

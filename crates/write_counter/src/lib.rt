@@ -2,9 +2,9 @@
 // named after what is to stand there. No number of a counter passes 127: each is a byte as it stands.
 #![tactic(auto)]
 
-ghost use Rattle.std.specs.Prelude.{◌≤◌, true, [], ◌∷◌, length};
+ghost use Rattle.std.specs.Prelude.{◌≤◌, ◌≡◌, true, [], ◌∷◌, length};
 ghost use Rattle.meaning.specs.Layout.{each, occurrence_numbers, module_numbers, encode};
-ghost use Rattle.meaning.specs.Counter.{join_parts, counter_module, counter as counterOf};
+ghost use Rattle.meaning.specs.Counter.{digits as digits_of, join_parts, counter_module, counter as counterOf};
 ghost use Rattle.bytes_out.specs.Filled.{Put, Filled};
 ghost use Rattle.write_pieces.specs.Rooms.{Room};
 ghost use Rattle.write_counter.specs.Shapes.{Shaped};
@@ -16,11 +16,19 @@ use write_pieces::rows::{head, row};
 
 // What module 32 of a width comes to: how many occurrences it has, on which net its last count begins, and how many binary digits
 // the width has, which is the number of its outputs and of the file's modules.
-#[derive(Clone, Copy)]
+#[derive(Clone, Copy, PartialEq, Eq, Debug)]
 struct Shape {
     occurrences: u8,
     last: u8,
     digits: u8,
+}
+
+// How many binary digits a width has.
+fn digits_of(width: u8) -> u8
+    requires { width ≤ 64 }
+    ensures { result ≡ length (digits_of width) }
+{
+    (u8::BITS - width.leading_zeros()) as u8
 }
 
 // The shape at a width, by its digits from the low end. At a digit 1 a part is joined to the `count` bits that count what lies
@@ -29,24 +37,21 @@ fn shape_of(width: u8) -> Shape
     requires { width ≤ 64 }
     ensures { Shaped width result }
 {
-    let mut left = width;
-    let mut level: u8 = 0;
+    let digits = digits_of(width);
     let mut count: u8 = 0;
     let mut below = width;
     let mut occurrences: u8 = 0;
-    while 0 < left {
-        if left % 2 == 1 {
+    for level in 0..digits {
+        if (width >> level) % 2 == 1 {
             occurrences += 1 + 2 * count;
             below += 3 * count;
             count = level + 1;
         }
-        level += 1;
-        left /= 2;
     }
     Shape {
         occurrences,
         last: below,
-        digits: level,
+        digits,
     }
 }
 
@@ -69,25 +74,21 @@ fn part(level: u8, bits: u8, count: u8, below: u8, bytes: &mut [u8], at: usize) 
 }
 
 // The parts of module 32, from the low end.
-fn parts(width: u8, bytes: &mut [u8], at: usize) -> usize
-    requires { (width ≤ 64) × Room (each occurrence_numbers (counter_module width).occurrences) bytes.old at }
+fn parts(width: u8, digits: u8, bytes: &mut [u8], at: usize) -> usize
+    requires { (width ≤ 64) × (digits ≡ length (digits_of width)) × Room (each occurrence_numbers (counter_module width).occurrences) bytes.old at }
     ensures { Put (each occurrence_numbers (counter_module width).occurrences) bytes.old at bytes.new result }
 {
     let mut at = at;
-    let mut left = width;
-    let mut level: u8 = 0;
     let mut bits: u8 = 0;
     let mut count: u8 = 0;
     let mut below = width;
-    while 0 < left {
-        if left % 2 == 1 {
+    for level in 0..digits {
+        if (width >> level) % 2 == 1 {
             at = part(level, bits, count, below, bytes, at);
             bits += bits_of(level);
             below += 3 * count;
             count = level + 1;
         }
-        level += 1;
-        left /= 2;
     }
     at
 }
@@ -106,7 +107,7 @@ fn counter_module(width: u8, shape: Shape, bytes: &mut [u8], at: usize) -> usize
         bytes,
         at,
     );
-    parts(width, bytes, first_part)
+    parts(width, shape.digits, bytes, first_part)
 }
 
 // The whole file, and how many bytes it has.

@@ -37,16 +37,6 @@ bytes-of-head n =
     omega (arith, length-append (up_from (5 * n + 1) n) (n ∷ []), length-up_from (5 * n + 1) n) in
     rw (outs, ← bytes-of-pieces (n + 1) n (3 * n + 1) (list_numbers (0 ∷ up_from (n + 1) (2 * n))) (up_from (5 * n + 1) n))
 
--- The carries by module 41.
-abbrev pub ahead_pieces : ℕ → List ℕ
-ahead_pieces n =
-    each number_bytes (list_numbers (up_from 1 n)) ++ each number_bytes (41 ∷ list_numbers (0 ∷ up_from (3 * n + 1) (2 * n)))
-
-pub bytes-of-ahead : (n : ℕ) → each number_bytes (occurrence_numbers (carries_ahead n)) ≡ ahead_pieces n
-unfolding occurrence_numbers
-bytes-of-ahead n =
-    each_append number_bytes (list_numbers (up_from 1 n)) (41 ∷ list_numbers (0 ∷ up_from (3 * n + 1) (2 * n)))
-
 -- Module 40: its head, p and g, the carries, and the sums.
 abbrev pub row_bytes : (kind net a b count : ℕ) → List ℕ
 row_bytes kind net a b count = each number_bytes (each occurrence_numbers (gate_row kind net a b count))

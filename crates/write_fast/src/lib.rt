@@ -11,15 +11,12 @@ ghost use Rattle.bytes_out.specs.Filled.{Put, Filled};
 ghost use Rattle.write_pieces.specs.Rooms.{Room};
 ghost use Rattle.write_fast.specs.Heads.{head_bytes};
 
-use crate::rows::{gate_row, look_ahead};
-use write_ahead::rows::carry_and_bits;
+use crate::rows::gate_row;
+use write_ahead::rows::{carry_and_bits, look_ahead};
 use write_ahead::{carry_one, carry_two, lookahead};
 use write_pieces::bytes::copy;
+use write_pieces::gates::Gate;
 use write_pieces::numbers::{put_list, put_run};
-
-const XOR: u16 = 9;
-
-const AND: u16 = 10;
 
 // What stands in module 40 in front of its occurrences: its number, its inputs, its outputs (the sums, then the last carry), and how many
 // occurrences it has.
@@ -27,7 +24,7 @@ fn fast_head(width: u16, bytes: &mut [u8], at: usize) -> usize
     requires { (width ≤ 64) × Room (head_bytes width) bytes.old at }
     ensures { Put (head_bytes width) bytes.old at bytes.new result }
 {
-    let outputs = carry_and_bits(40, width, width + 1, bytes, at);
+    let outputs = carry_and_bits(40, width, 0, width + 1, bytes, at);
     let sums = put_list(&[width + 1], bytes, outputs);
     let last = put_run(5 * width + 1, width, bytes, sums);
     put_list(&[width, 3 * width + 1], bytes, last)
@@ -42,10 +39,10 @@ fn fast_module(width: u16, bytes: &mut [u8], at: usize) -> usize
     let b = 2 * width + 1;
     let p = 3 * width + 1;
     let passes = fast_head(width, bytes, at);
-    let makes = gate_row(XOR, p, a, b, width, bytes, passes);
-    let carries = gate_row(AND, 4 * width + 1, a, b, width, bytes, makes);
-    let sums = look_ahead(width, bytes, carries);
-    gate_row(XOR, 5 * width + 1, p, 0, width, bytes, sums)
+    let makes = gate_row(Gate::Xor, p, a, b, width, bytes, passes);
+    let carries = gate_row(Gate::And, 4 * width + 1, a, b, width, bytes, makes);
+    let sums = look_ahead(width, 0, p, bytes, carries);
+    gate_row(Gate::Xor, 5 * width + 1, p, 0, width, bytes, sums)
 }
 
 // The whole file, and how many bytes it has.

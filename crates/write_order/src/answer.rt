@@ -3,19 +3,19 @@ ghost use Rattle.std.specs.Prelude.{length};
 ghost use Rattle.meaning.specs.Calls.{fitting};
 ghost use Rattle.answers.specs.Answers.{Answers};
 
-use answers::Writing;
+use refusals::Refusal;
 use write_pieces::bytes::copy;
 
 // Writes the bytes, or gives 22 where the buffer is shorter.
-pub fn answer(bytes: &[u8], out: &mut [u8]) -> Writing
+pub fn answer(bytes: &[u8], out: &mut [u8]) -> Result<usize, Refusal>
     ensures { Answers (fitting bytes.now 0 (length out.old)) out.old out.new result }
 {
     if bytes.len() <= out.len() {
-        Writing::Wrote(copy(bytes, out, 0))
+        Ok(copy(bytes, out, 0))
     } else {
-        Writing::Refused {
+        Err(Refusal {
             number: 22,
             place: 0,
-        }
+        })
     }
 }

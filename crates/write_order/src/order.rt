@@ -11,7 +11,7 @@ ghost use Rattle.answers.specs.Answers.{Answers};
 ghost use Rattle.write_order.specs.Orders.{modules_of, enough_for};
 
 use crate::answer::answer;
-use answers::Writing;
+use refusals::Refusal;
 
 // What is written to order.
 #[derive(Clone, Copy)]
@@ -54,69 +54,69 @@ fn file(order: Order, width: usize, bytes: &mut [u8]) -> usize
     }
 }
 
-// Writes the file into a list, and answers from there.
-fn by_list(order: Order, width: usize, list: &mut [u8], out: &mut [u8]) -> Writing
-    requires { (1 ≤ width) × (width ≤ 64) × (enough_for order width ≤ length list.old) }
+// Writes the file into a list of N bytes, and answers from there.
+fn by_list<const N: usize>(order: Order, width: usize, out: &mut [u8]) -> Result<usize, Refusal>
+    requires { (1 ≤ width) × (width ≤ 64) × (enough_for order width ≤ N) × (N ≤ 7120) }
     ensures { Answers (fitting (encode (modules_of order width)) 0 (length out.old)) out.old out.new result }
 {
-    let count = file(order, width, list);
+    let mut list = [0u8; N];
+    let count = file(order, width, &mut list);
     answer(&list[..count], out)
 }
 
 // Writes straight into a buffer that has room for any file of the order and the width. Of a shorter one nothing may be touched before the
 // file is sure to fit: its bytes are written into a list of the writer's own first, a short one where that will do.
-fn deliver(order: Order, width: usize, out: &mut [u8]) -> Writing
+fn deliver(order: Order, width: usize, out: &mut [u8]) -> Result<usize, Refusal>
     requires { (1 ≤ width) × (width ≤ 64) }
     ensures { Answers (fitting (encode (modules_of order width)) 0 (length out.old)) out.old out.new result }
 {
     let bytes = enough(order, width);
     if bytes <= out.len() {
-        return Writing::Wrote(file(order, width, out));
+        return Ok(file(order, width, out));
     }
     if bytes <= SHORT {
-        let mut list = [0u8; SHORT];
-        return by_list(order, width, &mut list, out);
+        by_list::<SHORT>(order, width, out)
+    } else {
+        by_list::<LONG>(order, width, out)
     }
-    let mut list = [0u8; LONG];
-    by_list(order, width, &mut list, out)
 }
 
 // 23 where the width is outside 1 to 64, then 22.
-fn write(order: Order, width: usize, out: &mut [u8]) -> Writing
+fn write(order: Order, width: usize, out: &mut [u8]) -> Result<usize, Refusal>
     ensures { Answers (writing (modules_of order) width (length out.old)) out.old out.new result }
 {
     match width {
         1..=64 => deliver(order, width, out),
-        _ => Writing::Refused {
+        _ => Err(Refusal {
             number: 23,
             place: 0,
-        },
+        }),
     }
 }
 
 // Writes the adder of a width into `out`.
-pub fn adder(width: usize, out: &mut [u8]) -> Writing
+pub fn adder(width: usize, out: &mut [u8]) -> Result<usize, Refusal>
     ensures { Answers (writing adderOf width (length out.old)) out.old out.new result }
 {
     write(Order::Adder, width, out)
 }
 
 // Writes the propagate-generate adder of a width into `out`.
-pub fn fast_adder(width: usize, out: &mut [u8]) -> Writing
+pub fn fast_adder(width: usize, out: &mut [u8]) -> Result<usize, Refusal>
     ensures { Answers (writing fastAdderOf width (length out.old)) out.old out.new result }
 {
     write(Order::FastAdder, width, out)
 }
 
 // Writes the leading-zero counter of a width into `out`.
-pub fn counter(width: usize, out: &mut [u8]) -> Writing
+pub fn counter(width: usize, out: &mut [u8]) -> Result<usize, Refusal>
     ensures { Answers (writing counterOf width (length out.old)) out.old out.new result }
 {
     write(Order::Counter, width, out)
 }
 
 // Writes the ALU of a width into `out`.
-pub fn alu(width: usize, out: &mut [u8]) -> Writing
+pub fn alu(width: usize, out: &mut [u8]) -> Result<usize, Refusal>
     ensures { Answers (writing aluOf width (length out.old)) out.old out.new result }
 {
     write(Order::Alu, width, out)

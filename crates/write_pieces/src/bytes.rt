@@ -8,12 +8,9 @@ pub fn copy(piece: &[u8], bytes: &mut [u8], at: usize) -> usize
     requires { at + length piece.now ≤ length bytes.old }
     ensures { Put piece.now bytes.old at bytes.new result }
 {
-    let mut at = at;
-    for i in 0..piece.len() {
-        bytes[at] = piece[i];
-        at += 1;
-    }
-    at
+    let end = at + piece.len();
+    bytes[at..end].copy_from_slice(piece);
+    end
 }
 
 // The numbers from one on, as many as said.

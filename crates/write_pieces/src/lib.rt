@@ -2,5 +2,6 @@
 #![tactic(auto)]
 
 pub mod bytes;
+pub mod gates;
 pub mod numbers;
 pub mod rows;

@@ -15,8 +15,8 @@ pub fn put_list(numbers: &[u16], bytes: &mut [u8], at: usize) -> usize
     ensures { Put (each number_bytes numbers.now) bytes.old at bytes.new result }
 {
     let mut at = at;
-    for i in 0..numbers.len() {
-        at = put(numbers[i], bytes, at);
+    for number in numbers {
+        at = put(*number, bytes, at);
     }
     at
 }

@@ -18,7 +18,7 @@ pub fn row(first: u8, count: u8, bytes: &mut [u8], at: usize) -> usize
     run(first, count, bytes, list)
 }
 
-// A gate of two arguments.
+// A gate of two arguments, by the number of its kind: callers name it by a `Gate`, and any number is written as well as one of these.
 pub fn gate(net: u8, kind: u8, a: u8, b: u8, bytes: &mut [u8], at: usize) -> usize
     requires { Room (occurrence_numbers (gate_on net kind a b)) bytes.old at }
     ensures { Put (occurrence_numbers (gate_on net kind a b)) bytes.old at bytes.new result }

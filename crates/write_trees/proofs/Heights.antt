@@ -46,3 +46,10 @@ module _ {n h : ℕ} (s : Searching n h) where
 
   pub searching_end : n < leaves (spine 0 h) → h ≡ height n
   searching_end tall = rw (← s.search, found h (n - h) n tall)
+
+  -- Each width has fewer bits than the spine of height 5.
+  pub searching_top : n ≤ 64 → 5 ≤ h → 5 ≡ height n
+  searching_top most high =
+      let top : h ≡ 5 = omega (arith, s.low) in
+      let tall : n < leaves (spine 0 h) = omega (arith, ap (λ (h : ℕ). leaves (spine 0 h)) top, leaves-at_5) in
+      omega (arith, top, searching_end tall)

@@ -8,14 +8,14 @@ ghost use Rattle.write_trees.specs.Trees.{tree_of, Sound, Parted};
 
 // The largest tree whose G is there at time `late` and in which a carry passes at most `height` nodes; or what a carry goes over from a step
 // of the chain on.
-#[derive(Clone, Copy)]
+#[derive(Clone, Copy, PartialEq, Eq, Debug)]
 pub enum Tree {
     Grown { late: u8, height: u8 },
     Spine { step: u8, height: u8 },
 }
 
 // A single bit, or the three trees of a node, the lowest bits in x.
-#[derive(Clone, Copy)]
+#[derive(Clone, Copy, PartialEq, Eq, Debug)]
 pub enum Parts {
     Leaf,
     Node { x: Tree, y: Tree, z: Tree },
@@ -82,14 +82,18 @@ pub fn leaves(tree: Tree) -> u16
     }
 }
 
+// A spine of this height has more bits than any width.
+const TALLEST: u8 = 5;
+
 // The least height at which the spine has more bits than the width.
 pub fn height(width: u16) -> u8
     requires { width ≤ 64 }
     ensures { (result ≡ heightOf width) × (result ≤ 5) }
 {
-    let mut height: u8 = 0;
-    while leaves(Tree::Spine { step: 0, height }) <= width {
-        height += 1;
+    for height in 0..TALLEST {
+        if leaves(Tree::Spine { step: 0, height }) > width {
+            return height;
+        }
     }
-    height
+    TALLEST
 }

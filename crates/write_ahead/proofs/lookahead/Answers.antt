@@ -7,7 +7,7 @@ use Rattle.write_ahead.proofs.lookahead.Goals as goal
 pub carries-count-requires : goal.carries-count-requires
 carries-count-requires c =
     let pre = c.requires in
-    (pre.1, outputs-room pre.0 pre.1 pre.2 c.carry_and_bits-outputs.ensures)
+    (pre.1, omega arith, outputs-room pre.0 pre.1 pre.2 c.carry_and_bits-outputs.ensures)
 
 pub overflow_add-count : goal.overflow_add-count
 overflow_add-count c =
@@ -22,7 +22,7 @@ chain-laid-requires c =
 pub carry_and_bits-outputs-requires : goal.carry_and_bits-outputs-requires
 carry_and_bits-outputs-requires c =
     let pre = c.requires in
-    (omega arith, pre.1, omega arith, inputs-room pre.0 pre.1 pre.2)
+    (omega arith, pre.1, omega arith, omega arith, inputs-room pre.0 pre.1 pre.2)
 
 pub overflow_sub-bytes : goal.overflow_sub-bytes
 overflow_sub-bytes c =

@@ -1,9 +1,8 @@
 -- `write_alu::alu_head` meets its contract: its pieces, put one behind the other. Assumes nothing.
 use native.Mathlib.Omega.{arith}
-use Rattle.write_pieces.specs.Rooms.{Room}
 use Rattle.write_pieces.specs.Laying.{laying-start, laying-left, laying-put, laying-last, room-first}
 use Rattle.write_ahead.proofs.Smalls.{all_small}
-use Rattle.write_alu.proofs.AluBytes.{head_pieces, bytes-of-head}
+use Rattle.write_alu.proofs.AluBytes.{bytes-of-head}
 use Rattle.write_alu.proofs.alu_head.Goals as goal
 
 pub put_list-a-requires : goal.put_list-a-requires

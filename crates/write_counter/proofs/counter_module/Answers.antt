@@ -30,7 +30,7 @@ head-first_part-requires c =
 
 pub parts-requires : goal.parts-requires
 parts-requires c =
-    (c.requires.0, laying-left (laying-put c.head-first_part.ensures (laying-start (room _ _ _ _ c.requires.1 c.requires.2))))
+    (c.requires.0, c.requires.1.digits, laying-left (laying-put c.head-first_part.ensures (laying-start (room _ _ _ _ c.requires.1 c.requires.2))))
 
 pub returns : goal.returns
 returns c =

@@ -1,14 +1,13 @@
 -- `write_fast::fast_head` meets its contract: its pieces, put one behind the other. Assumes nothing.
 use native.Mathlib.Omega.{arith}
-use Rattle.write_pieces.specs.Rooms.{Room}
 use Rattle.write_pieces.specs.Laying.{laying-start, laying-left, laying-put, laying-last, room-first}
 use Rattle.write_ahead.proofs.Smalls.{all_small}
-use Rattle.write_fast.proofs.FastBytes.{head_pieces, bytes-of-head}
+use Rattle.write_fast.proofs.FastBytes.{bytes-of-head}
 use Rattle.write_fast.proofs.fast_head.Goals as goal
 
 pub carry_and_bits-outputs-requires : goal.carry_and_bits-outputs-requires
 carry_and_bits-outputs-requires c =
-    (omega arith, c.requires.0, omega arith, room-first _ (rw (bytes-of-head c.args.width) at c.requires.1))
+    (omega arith, c.requires.0, omega arith, omega arith, room-first _ (rw (bytes-of-head c.args.width) at c.requires.1))
 
 pub put_list-sums-requires : goal.put_list-sums-requires
 put_list-sums-requires c =

@@ -26,14 +26,14 @@ module _ (n copied i lines : ℕ) (found : lines ≡ lines_of n copied i) where
 put-list-requires : tie.Need-put_list-requires
 put-list-requires c κs =
     let a = c.args in (
-      all_small _ (omega (arith, c.lines_of-l.ensures)),
-      room-with a.width a.copied a.i _ c.lines_of-l.ensures c.requires.3,
+      all_small _ (omega (arith, c.lines_of-lines.ensures)),
+      room-with a.width a.copied a.i _ c.lines_of-lines.ensures c.requires.3,
     )
 
 returns : tie.Need-returns
 returns c =
     let a = c.args in
-    put-with a.width a.copied a.i _ c.lines_of-l.ensures c.put_list.ensures
+    put-with a.width a.copied a.i _ c.lines_of-lines.ensures c.put_list.ensures
 
 pub cell_at_spec : {M : Type 1} → statement M
 cell_at_spec =
