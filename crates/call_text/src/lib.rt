@@ -7,68 +7,41 @@ ghost use Rattle.meaning.specs.ListCall.{list_reading};
 ghost use Rattle.answers.specs.Answers.{Answers};
 ghost use Rattle.text_reader.specs.Reading.{Reads};
 ghost use Rattle.text_file.specs.Filing.{after_reading};
-ghost use Rattle.call_text.specs.Rooms.{Short, Middle, Long};
+ghost use Rattle.call_text.specs.Rooms.{InTree, Long, InLists};
 
-use answers::Writing;
+use refusals::Refusal;
 use text_file::answer;
-use text_reader::{Extent, read};
+use text_reader::read;
 
-// Reading in a tree that is long enough for a text of 2,048 bytes.
-fn read_short(text: &[u8], numbers: &mut [u16]) -> Extent
-    requires { Short text.now numbers.old }
+// Reading in a tree of so many entries.
+fn read_in<const TREE: usize>(text: &[u8], numbers: &mut [u16]) -> Result<usize, Refusal>
+    requires { InTree text.now numbers.old TREE }
     ensures { Reads text.now numbers.new result }
 {
-    let mut tree = [0u32; 8704];
+    let mut tree = [0u32; TREE];
     read(text, numbers, &mut tree)
 }
 
-// Of 32,768 bytes.
-fn read_middle(text: &[u8], numbers: &mut [u16]) -> Extent
-    requires { Middle text.now numbers.old }
-    ensures { Reads text.now numbers.new result }
-{
-    let mut tree = [0u32; 131584];
-    read(text, numbers, &mut tree)
-}
-
-// And of 262,144 bytes.
-pub fn read_long(text: &[u8], numbers: &mut [u16]) -> Extent
+// In a tree that is long enough for every text.
+pub fn read_long(text: &[u8], numbers: &mut [u16]) -> Result<usize, Refusal>
     requires { Long text.now numbers.old }
     ensures { Reads text.now numbers.new result }
 {
-    let mut tree = [0u32; 1049088];
-    read(text, numbers, &mut tree)
+    read_in::<1049088>(text, numbers)
 }
 
-// Short texts should not pay for clearing long lists.
-fn file_short(text: &[u8], out: &mut [u8]) -> Writing
-    requires { length text.now ≤ 2048 }
+// In lists of so many entries.
+fn file_in<const TREE: usize, const NUMBERS: usize, const BYTES: usize>(
+    text: &[u8],
+    out: &mut [u8],
+) -> Result<usize, Refusal>
+    requires { InLists text.now TREE NUMBERS BYTES }
     ensures { Answers (after_reading text.now (length out.old)) out.old out.new result }
 {
-    let mut numbers = [0u16; 4098];
-    let extent = read_short(text, &mut numbers);
-    let mut bytes = [0u8; 8196];
-    answer(text, extent, &numbers, &mut bytes, out)
-}
-
-fn file_middle(text: &[u8], out: &mut [u8]) -> Writing
-    requires { length text.now ≤ 32768 }
-    ensures { Answers (after_reading text.now (length out.old)) out.old out.new result }
-{
-    let mut numbers = [0u16; 65538];
-    let extent = read_middle(text, &mut numbers);
-    let mut bytes = [0u8; 65535];
-    answer(text, extent, &numbers, &mut bytes, out)
-}
-
-fn file_long(text: &[u8], out: &mut [u8]) -> Writing
-    requires { length text.now ≤ 262144 }
-    ensures { Answers (after_reading text.now (length out.old)) out.old out.new result }
-{
-    let mut numbers = [0u16; 524290];
-    let extent = read_long(text, &mut numbers);
-    let mut bytes = [0u8; 65535];
-    answer(text, extent, &numbers, &mut bytes, out)
+    let mut numbers = [0u16; NUMBERS];
+    let read = read_in::<TREE>(text, &mut numbers);
+    let mut bytes = [0u8; BYTES];
+    answer(text, read, &numbers, &mut bytes, out)
 }
 
 // The next size.
@@ -79,9 +52,9 @@ fn larger(size: usize) -> usize
     if size < 32768 { 32768 } else { 262144 }
 }
 
-// In the lists for texts of so many bytes, or in longer ones. The function calls itself: into such a function LLVM takes no large array of another, so a
+// In the lists for texts of so many bytes, or in longer ones: short texts should not pay for clearing long lists. The function calls itself: into such a function LLVM takes no large array of another, so a
 // text does not pay for the stack of a longer one.
-fn file(size: usize, text: &[u8], out: &mut [u8]) -> Writing
+fn file(size: usize, text: &[u8], out: &mut [u8]) -> Result<usize, Refusal>
     requires { length text.now ≤ 262144 }
     ensures { Answers (after_reading text.now (length out.old)) out.old out.new result }
 {
@@ -89,23 +62,23 @@ fn file(size: usize, text: &[u8], out: &mut [u8]) -> Writing
         return file(larger(size), text, out);
     }
     if size <= 2048 {
-        file_short(text, out)
+        file_in::<8704, 4098, 8196>(text, out)
     } else if size <= 32768 {
-        file_middle(text, out)
+        file_in::<131584, 65538, 65535>(text, out)
     } else {
-        file_long(text, out)
+        file_in::<1049088, 524290, 65535>(text, out)
     }
 }
 
 // The file of a text, or the refusal.
-pub fn read_text(text: &[u8], out: &mut [u8]) -> Writing
+pub fn read_text(text: &[u8], out: &mut [u8]) -> Result<usize, Refusal>
     ensures { Answers (list_reading text.now (length out.old)) out.old out.new result }
 {
     if 262144 < text.len() {
-        return Writing::Refused {
+        return Err(Refusal {
             number: 33,
             place: 0,
-        };
+        });
     }
     file(2048, text, out)
 }

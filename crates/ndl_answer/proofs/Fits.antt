@@ -1,4 +1,5 @@
 -- The text of a file's numbers, and the room that it needs.
+use Rattle.std.specs.Prelude.{Ok}
 use Prim.Native.Nat.{ℕ, ◌+◌, ◌*◌, ◌≤◌}
 use mathlib.Core.Path.{◌≡◌}
 use mathlib.Core.List.{List}
@@ -8,7 +9,6 @@ use Rattle.meaning.specs.Calls.{fitting}
 use Rattle.meaning.specs.Ndl.{ndl_text}
 use Rattle.laws.specs.Ndl.Long.{long-text}
 use Rattle.answers.specs.Answers.{Answers}
-use Rattle.answers.specs.declared.Writing.TheVariants.{Wrote}
 use Rattle.bytes_out.specs.Filled.{Put}
 use Rattle.bytes_out.specs.Puts.{put_front}
 use Rattle.write_order.proofs.Answering.{answers-file}
@@ -36,5 +36,5 @@ module _ {numbers : List ℕ} {size : ℕ} (t : Numbered numbers size) (names : 
 
   -- Written at once.
   pub told_straight : {after : List ℕ} {count : ℕ} → 8 * size + 4654 ≤ length out → Put (ndl_text names t.ms) out 0 after count
-      → Answers (fitting (ndl_text names t.ms) 0 (length out)) out after (Wrote count)
+      → Answers (fitting (ndl_text names t.ms) 0 (length out)) out after (Ok count)
   told_straight room put = answers-file (ndl_text names t.ms) out (text-fits room) (put_front put)

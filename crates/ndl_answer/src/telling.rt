@@ -6,11 +6,16 @@ ghost use Rattle.answers.specs.Answers.{Answers};
 ghost use Rattle.ndl_text.specs.Standing.{FileTold};
 ghost use Rattle.ndl_answer.specs.Numbered.{Numbered};
 
-use answers::Writing;
 use ndl_text::put_file;
+use refusals::Refusal;
 
 // Through a list that has room for it: its length decides.
-fn tell_through(names: &[u8], numbers: &[u16], text: &mut [u8], out: &mut [u8]) -> Writing
+fn tell_through(
+    names: &[u8],
+    numbers: &[u16],
+    text: &mut [u8],
+    out: &mut [u8],
+) -> Result<usize, Refusal>
     requires { FileTold names.now numbers.now text.old }
     ensures { (t : FileTold names.now numbers.now text.old)
         → Answers (fitting (ndl_text names.now t.ms) 0 (length out.old)) out.old out.new result }
@@ -20,13 +25,18 @@ fn tell_through(names: &[u8], numbers: &[u16], text: &mut [u8], out: &mut [u8]) 
 }
 
 // The text of a file of so many bytes has at most 8 for each and 4,654 more. Where the buffer has these it is written at once.
-pub(crate) fn tell(names: &[u8], numbers: &[u16], size: usize, out: &mut [u8]) -> Writing
+pub(crate) fn tell(
+    names: &[u8],
+    numbers: &[u16],
+    size: usize,
+    out: &mut [u8],
+) -> Result<usize, Refusal>
     requires { Numbered numbers.now size × (length names.now ≡ 128) }
     ensures { (t : Numbered numbers.now size)
         → Answers (fitting (ndl_text names.now t.ms) 0 (length out.old)) out.old out.new result }
 {
     if 8 * size + 4654 <= out.len() {
-        return Writing::Wrote(put_file(names, numbers, out));
+        return Ok(put_file(names, numbers, out));
     }
     if size <= 1024 {
         let mut text = [0u8; 12846];

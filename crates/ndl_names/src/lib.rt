@@ -6,7 +6,7 @@ ghost use Rattle.meaning.specs.Ndl.{name_at, letters, every, like_module, good_n
 ghost use Rattle.ndl_names.specs.Kinds.{belongs, spelled};
 
 // What a byte of a name can be.
-#[derive(Clone, Copy)]
+#[derive(Clone, Copy, PartialEq, Eq, Debug)]
 enum Kind {
     Space,
     Digit,
@@ -51,11 +51,12 @@ fn are_of(kind: Kind, bytes: &[u8]) -> bool
 pub fn letters(name: &[u8]) -> usize
     ensures { result ≡ length (letters name.now) }
 {
-    let mut i = 0;
-    while i < name.len() && name[i] != b' ' {
-        i += 1;
+    for i in 0..name.len() {
+        if name[i] == b' ' {
+            return i;
+        }
     }
-    i
+    name.len()
 }
 
 // Whether letters are an M and one or more digits.
@@ -113,9 +114,7 @@ fn is_used(names: &[u8], k: usize) -> bool
     ensures { result ≡ used_in names.now k (name_at names.now k) }
 {
     let name = &names[8 * k..8 * k + 8];
-    let mut j = k;
-    while 0 < j {
-        j -= 1;
+    for j in 0..k {
         if is_same(&names[8 * j..8 * j + 8], name) {
             return true;
         }

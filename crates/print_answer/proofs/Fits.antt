@@ -1,4 +1,5 @@
 -- The text of a file's numbers, and the room that it needs.
+use Rattle.std.specs.Prelude.{Ok}
 use Prim.Native.Nat.{ℕ, ◌*◌, ◌≤◌}
 use mathlib.Core.Path.{◌≡◌}
 use mathlib.Core.List.{List}
@@ -7,7 +8,6 @@ use lib.ListN.{length}
 use Rattle.meaning.specs.ListPrint.{list_text, printing_of}
 use Rattle.laws.specs.Texts.PrintLong.{long-text}
 use Rattle.answers.specs.Answers.{Answers}
-use Rattle.answers.specs.declared.Writing.TheVariants.{Wrote}
 use Rattle.bytes_out.specs.Filled.{Put}
 use Rattle.bytes_out.specs.Puts.{put_front}
 use Rattle.write_order.proofs.Answering.{answers-file}
@@ -34,5 +34,5 @@ module _ {numbers : List ℕ} {size : ℕ} (t : Numbered numbers size) (out : Li
 
   -- Written at once.
   pub told_straight : {after : List ℕ} {count : ℕ} → 6 * size ≤ length out → Put (list_text t.ms) out 0 after count
-      → Answers (printing_of (length out) t.ms) out after (Wrote count)
+      → Answers (printing_of (length out) t.ms) out after (Ok count)
   told_straight room put = answers-file (list_text t.ms) out (text-fits room) (put_front put)

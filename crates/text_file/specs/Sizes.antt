@@ -1,6 +1,6 @@
 -- How many bytes numbers take, and that a file's numbers are small.
-use Rattle.std.specs.Prelude.{ℕ, zero, suc, ◌+◌, ◌*◌, ◌≤◌, ◌<◌, ◌/◌, ◌%◌, ◌≡◌, refl, Bool, true, false, cond, List, [], ◌∷◌, ◌++◌, ltb, length, take, get_or}
-use Rattle.std.proofs.Common.{add-one, arith, sym, ◌∙◌, ap, append-nil, length-append, take-suc, take_all}
+use Rattle.std.specs.Prelude.{ℕ, ◌+◌, ◌*◌, ◌≤◌, ◌<◌, ◌/◌, ◌%◌, ◌≡◌, refl, Bool, true, false, cond, List, [], ◌∷◌, ◌++◌, ltb, length, take, get_or}
+use Rattle.std.proofs.Common.{add-one, arith, ◌∙◌, ap, append-nil, length-append, take-suc, take_all}
 use Rattle.meaning.specs.Lists.{All, none, more}
 use Rattle.meaning.specs.Syntax.{Occurrence, Module}
 use Rattle.meaning.specs.Layout.{each, list_numbers, occurrence_numbers, module_numbers, file_numbers, number_bytes}

@@ -8,26 +8,19 @@ ghost use Rattle.answers.specs.Answers.{Answers};
 ghost use Rattle.text_file.specs.Filing.{Ready, after_reading};
 
 use crate::filing::file;
-use answers::Writing;
-use text_reader::Extent;
+use refusals::Refusal;
 
 // In lists that are long enough: what was read is filed, or refused.
 pub fn answer(
     text: &[u8],
-    extent: Extent,
+    read: Result<usize, Refusal>,
     numbers: &[u16],
     bytes: &mut [u8],
     out: &mut [u8],
-) -> Writing
-    requires { Ready text.now extent numbers.now bytes.old }
+) -> Result<usize, Refusal>
+    requires { Ready text.now read numbers.now bytes.old }
     ensures { Answers (after_reading text.now (length out.old)) out.old out.new result }
 {
-    if extent.number != 0 {
-        return Writing::Refused {
-            number: extent.number,
-            place: extent.place,
-        };
-    }
-    let count = extent.count;
+    let count = read?;
     file(&numbers[..count], bytes, out)
 }

@@ -27,20 +27,18 @@ fn line_end(text: &[u8], from: usize) -> usize
     requires { from ≤ length text.now }
     ensures { result ≡ from + rest_of_line (drop from text.now) }
 {
-    let mut i = from;
-    while i < text.len() {
+    for i in from..text.len() {
         if text[i] == b'\n' {
             return i;
         }
         if text[i] == b'\r' {
             return i;
         }
-        i += 1;
     }
-    i
+    text.len()
 }
 
-#[derive(Clone, Copy)]
+#[derive(Clone, Copy, PartialEq, Eq, Debug)]
 pub struct Line {
     pub above: usize,
     pub left: usize,
@@ -61,11 +59,8 @@ pub fn line_of(text: &[u8], place: usize) -> Line
     let stop = nearer(text.len(), place);
     let mut above = 0;
     let mut left = 0;
-    let mut i = 0;
-    while i < stop {
-        let ends = ends_line(text, i);
-        i += 1;
-        if ends {
+    for i in 0..stop {
+        if ends_line(text, i) {
             above += 1;
             left = 0;
         } else {

@@ -1,10 +1,10 @@
 -- How far an atom goes.
-use Rattle.std.specs.Prelude.{ℕ, zero, suc, ◌+◌, ◌≤◌, ◌<◌, ◌≡◌, refl, List, [], ◌∷◌, map, length, take, drop, get_or}
-use Rattle.std.proofs.Common.{add-one, arith, sym, ◌∙◌, ap, drop_of_length-le, drop-cons}
-use Rattle.meaning.specs.ListForm.{Sign, mark, opening, closing, stray, Kind, letter, space, Kind.sign as sign_kind, kind_of, capital}
+use Rattle.std.specs.Prelude.{ℕ, suc, ◌+◌, ◌≤◌, ◌<◌, ◌≡◌, refl, List, [], ◌∷◌, map, length, take, drop, get_or}
+use Rattle.std.proofs.Common.{add-one, arith, ◌∙◌, ap, drop_of_length-le, drop-cons}
+use Rattle.meaning.specs.ListForm.{mark, opening, closing, stray, Kind, letter, space, Kind.sign as sign_kind, kind_of, capital}
 use Rattle.meaning.specs.ListCall.{one_more, word}
 use Rattle.laws.specs.Texts.Answered.{word_of}
-use Rattle.text_modes.specs.Modes.{sign_code, kind_code}
+use Rattle.text_modes.specs.Modes.{kind_code}
 
 pub code-letter : (k : Kind) → kind_code k ≡ 4 → k ≡ letter
 code-letter letter e = refl

@@ -3,3 +3,4 @@ pub mod Modes
 pub mod Right
 pub mod Ends
 pub mod Codes
+pub mod Kinds

@@ -2,9 +2,9 @@
 use Rattle.std.specs.Prelude.{ℕ, ◌+◌, ◌-◌, ◌≤◌, ◌<◌, ◌≡◌, refl, Bool, true, false, ◌||◌, List, [], ◌∷◌, eqb, leb, get_or}
 use Rattle.std.proofs.Common.{arith, sym, subst, eqb-true}
 use Rattle.laws.specs.Texts.Below.{all_below, below}
-use Rattle.meaning.specs.ListForm.{Name, Sign, mark, opening, closing, stray, kind_of, Part, sign, atom}
-use Rattle.meaning.specs.ListReader.{Stage, list_due, modules, name_due, inputs_due, inputs, outputs_due, outputs, body_due, body, drives_due, drives, call_due, refers_due, takes, occurrence_end, module_end, Stand, start, at, finished, astray, row, next, step, is_astray}
-use Rattle.text_modes.specs.Modes.{sign_code, part_code, kind_code, mode_of, modes, mode_after, is_finished}
+use Rattle.meaning.specs.ListForm.{Name, mark, opening, closing, stray, kind_of, Part, sign, atom}
+use Rattle.meaning.specs.ListReader.{list_due, modules, name_due, inputs_due, inputs, outputs_due, outputs, body_due, body, drives_due, drives, call_due, refers_due, takes, occurrence_end, module_end, Stand, start, at, finished, astray, row, next, step, is_astray}
+use Rattle.text_modes.specs.Modes.{part_code, kind_code, mode_of, modes, mode_after, is_finished}
 
 -- A test that holds of so many numbers from one on holds of each of them.
 pub in_range : (low count : ℕ) (p : ℕ → Bool) → all_below count (λ i. p (low + i)) ≡ true → (b : ℕ) → low ≤ b → b < low + count → p b ≡ true

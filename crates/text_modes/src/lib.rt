@@ -1,49 +1,36 @@
-// Kinds of bytes and stages of reading as numbers; and where an atom ends.
+// What the bytes of a text are; the stages of reading as numbers; and where an atom ends. A stage's number is a place in tables, and its
+// width is that of a word: see `text_reader`.
 #![tactic(auto)]
 
 ghost use Rattle.std.specs.Prelude.{◌≡◌, ◌+◌, ◌≤◌, ◌<◌, length, drop};
 ghost use Rattle.meaning.specs.ListForm.{kind_of};
 ghost use Rattle.meaning.specs.ListCall.{word};
-ghost use Rattle.text_modes.specs.Modes.{kind_code, mode_after};
+ghost use Rattle.text_modes.specs.Modes.{mode_after};
+ghost use Rattle.text_modes.specs.Kinds.{byte_kind, code_of, if_below};
 
-// The kind of a byte below the digits.
-fn kind_below(b: u8) -> u8
-    requires { b < 48 }
-    ensures { result ≡ kind_code (kind_of b) }
-{
-    match b {
-        10 => 5,
-        13 => 5,
-        32 => 5,
-        39 => 0,
-        40 => 1,
-        41 => 2,
-        45 => 4,
-        _ => 3,
-    }
+// What a byte of a text is: the quote mark, a bracket, one that may stand nowhere, one of an atom, or a space or line end.
+#[derive(Clone, Copy, PartialEq, Eq, Debug)]
+pub enum ByteKind {
+    Mark,
+    Opening,
+    Closing,
+    Stray,
+    Letter,
+    Space,
 }
 
-// The kind of a byte: 0 quote mark, 1 and 2 brackets, 3 none of these, 4 a byte of an atom, 5 a space or line end. By comparisons, since a table
-// would be laid on the stack at each call.
-pub fn kind(b: u8) -> u8
-    ensures { result ≡ kind_code (kind_of b) }
+// By a match, which is compiled to comparisons: a table would be laid on the stack at each call.
+pub fn kind(b: u8) -> ByteKind
+    ensures { result ≡ byte_kind (kind_of b) }
 {
-    if b < 48 {
-        return kind_below(b);
+    match b {
+        b'\'' => ByteKind::Mark,
+        b'(' => ByteKind::Opening,
+        b')' => ByteKind::Closing,
+        b'-' | b'0'..=b'9' | b'A'..=b'Z' | b'a'..=b'z' => ByteKind::Letter,
+        b' ' | b'\n' | b'\r' => ByteKind::Space,
+        _ => ByteKind::Stray,
     }
-    if b < 58 {
-        return 4;
-    }
-    if b < 65 {
-        return 3;
-    }
-    if b < 91 {
-        return 4;
-    }
-    if b < 97 {
-        return 3;
-    }
-    if b < 123 { 4 } else { 3 }
 }
 
 // The mode behind `(`.
@@ -100,18 +87,26 @@ fn after_atom(mode: usize) -> usize
 }
 
 // The mode that a part leads to; 18 where it may not stand.
-pub fn after(mode: usize, part: u8) -> usize
-    requires mode_bound { mode < 19 }
-    requires part_bound { part < 5 }
-    ensures { result ≡ mode_after mode part }
+fn next_mode(mode: usize, part: ByteKind) -> usize
+    requires { mode < 19 }
+    ensures { result ≡ mode_after mode (code_of part) }
 {
     match part {
-        1 => after_open(mode),
-        2 => after_close(mode),
-        4 => after_atom(mode),
-        0 => { if mode == 0 { 1 } else { 18 } }
-        _ => 18,
+        ByteKind::Opening => after_open(mode),
+        ByteKind::Closing => after_close(mode),
+        ByteKind::Letter => after_atom(mode),
+        ByteKind::Mark => { if mode == 0 { 1 } else { 18 } }
+        ByteKind::Stray | ByteKind::Space => 18,
     }
+}
+
+// The mode that a part leads to, if it may stand there.
+pub fn after(mode: usize, part: ByteKind) -> Option<usize>
+    requires { mode < 19 }
+    ensures { result ≡ if_below 18 (mode_after mode (code_of part)) }
+{
+    let next = next_mode(mode, part);
+    (next < 18).then_some(next)
 }
 
 // The place behind the atom that begins at a place.
@@ -119,12 +114,10 @@ pub fn atom_end(text: &[u8], from: usize) -> usize
     requires { from ≤ length text.now }
     ensures { result ≡ from + length (word (drop from text.now)) }
 {
-    let mut i = from;
-    while i < text.len() {
-        if kind(text[i]) != 4 {
+    for i in from..text.len() {
+        let ByteKind::Letter = kind(text[i]) else {
             return i;
-        }
-        i += 1;
+        };
     }
-    i
+    text.len()
 }

@@ -1,6 +1,6 @@
 -- The loop along a chain of children.
-use Rattle.std.specs.Prelude.{ℕ, ◌+◌, ◌*◌, ◌≤◌, ◌<◌, ◌≡◌, refl, List, length}
-use Rattle.std.proofs.Common.{arith, sym, ◌∙◌, ap}
+use Rattle.std.specs.Prelude.{ℕ, ◌<◌, ◌≡◌, List, length}
+use Rattle.std.proofs.Common.{arith}
 use Rattle.text_names.specs.Tree.{word_at, first_of, next_of, letter_of, Book, Sought, Seeking}
 use Rattle.text_names.specs.Searching.{seek-first, falls, seek-next, seek_found, seek-none}
 use Rattle.text_names.specs.Needs.{Seekable}

@@ -1,13 +1,13 @@
 -- The three ends of numbering a name: it is known, there is no number left, or it gets the next one.
-use Rattle.std.specs.Prelude.{ℕ, zero, suc, ◌+◌, ◌*◌, ◌-◌, ◌≤◌, ◌<◌, ◌≡◌, refl, Bool, true, false, cond, List, [], ◌∷◌, ◌++◌, length, set}
+use Rattle.std.specs.Prelude.{ℕ, suc, ◌+◌, ◌*◌, ◌-◌, ◌≤◌, ◌<◌, ◌≡◌, refl, Bool, true, false, cond, List, ◌++◌, length, set}
 use Rattle.std.proofs.Common.{arith, sym, ◌∙◌, ap, length-set, length-append}
 use Rattle.std.proofs.Math.ListN.{get_or-append}
 use Rattle.meaning.specs.ListForm.{Name}
 use Rattle.meaning.specs.ListNumbers.{among, position}
-use Rattle.text_names.specs.Tree.{Word, root, word_at, number_of, Tree, Book, Reached}
+use Rattle.text_names.specs.Tree.{Word, root, number_of, Tree, Book, Reached}
 use Rattle.text_names.specs.Walking.{pushed}
 use Rattle.text_names.specs.Numbers.{number_in, Numbers, numbers_stay, given_tree, given-other}
-use Rattle.text_names.specs.Giving.{Rooted, Given, met, new, full, Entered, given-own}
+use Rattle.text_names.specs.Giving.{Rooted, Given, met, new, full, given-own}
 use Rattle.text_names.specs.Needs.{name_of, Walked, Numberable, Numbered, Walkable}
 
 pub walkable : (name tree : List ℕ) (t known count : ℕ) → Numberable name tree t known count → Walkable name tree t count

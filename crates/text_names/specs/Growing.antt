@@ -1,10 +1,10 @@
 -- A node more: a child of another node, or a root.
-use Rattle.std.specs.Prelude.{ℕ, zero, suc, ◌+◌, ◌*◌, ◌≤◌, ◌<◌, ◌≡◌, refl, List, [], ◌∷◌, ◌++◌, length, get_or, set}
+use Rattle.std.specs.Prelude.{ℕ, ◌+◌, ◌*◌, ◌<◌, ◌≡◌, List, [], ◌∷◌, ◌++◌, length, get_or, set}
 use Rattle.std.proofs.Common.{arith, sym, ◌∙◌, ap, length-append, length-set, get_or-set_same, get_or-set_other}
-use Rattle.std.proofs.Math.Decide.{dec_lt, ℕ_discrete}
+use Rattle.std.proofs.Math.Decide.{dec_lt}
 use Rattle.std.proofs.Math.ListN.{get_or-append}
 use Rattle.std.proofs.Math.Seq.{get_or-append_seam}
-use Rattle.text_names.specs.Tree.{Word, root, longer, root_of, word_at, first_of, next_of, letter_of, number_of, Led, Rise, own, child, Tree}
+use Rattle.text_names.specs.Tree.{Word, root, longer, word_at, first_of, next_of, letter_of, number_of, Rise, own, child}
 
 -- The words with one more.
 module _ (nodes : List Word) (w : Word) where

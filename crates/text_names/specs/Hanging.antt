@@ -1,11 +1,11 @@
 -- A tree stays one when a node is hung below another, and when a root comes.
-use Rattle.std.specs.Prelude.{ℕ, zero, suc, ◌+◌, ◌*◌, ◌≤◌, ◌<◌, refl, List, [], ◌∷◌, ◌++◌}
+use Rattle.std.specs.Prelude.{ℕ, ◌+◌, ◌≤◌, ◌<◌, List, [], ◌∷◌, ◌++◌}
 use native.Mathlib.Omega.{arith}
 use Rattle.std.proofs.Math.Decide.{ℕ_discrete}
 use Rattle.std.proofs.Math.Path.{◌≡◌, sym, ap}
 use Rattle.std.proofs.Common.{◌∙◌}
 use Rattle.std.proofs.Math.ListN.{length}
-use Rattle.text_names.specs.Tree.{Word, root, longer, root_of, word_at, first_of, next_of, letter_of, number_of, Led, Rise, own, child, Tree}
+use Rattle.text_names.specs.Tree.{Word, root, longer, root_of, word_at, first_of, next_of, letter_of, Led, Rise, own, child, Tree}
 use Rattle.text_names.specs.Growing.{grown-length, old-word, new_word, Which, old, new, which, still_one, still-rise, Hung}
 
 module _ (tree : List ℕ) (nodes : List Word) (t : Tree tree nodes) (n c : ℕ) (here : n < length nodes)

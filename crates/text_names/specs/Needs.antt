@@ -1,7 +1,7 @@
 -- What the functions ask of their lists, and what they promise.
-use Rattle.std.specs.Prelude.{ℕ, ◌+◌, ◌*◌, ◌≤◌, ◌<◌, ◌≡◌, List, map, length}
+use Rattle.std.specs.Prelude.{ℕ, ◌+◌, ◌*◌, ◌≤◌, ◌<◌, List, map, length}
 use Rattle.meaning.specs.ListForm.{Name, capital}
-use Rattle.text_names.specs.Tree.{Word, root, word_at, Book, Reached}
+use Rattle.text_names.specs.Tree.{word_at, Book, Reached}
 use Rattle.text_names.specs.Walking.{pushed}
 use Rattle.text_names.specs.Giving.{Rooted, Entered}
 

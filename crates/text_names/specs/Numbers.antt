@@ -1,13 +1,12 @@
 -- The numbers given to the names below a root: each name has its position in the list of those known, in order of first appearance.
-use Rattle.std.specs.Prelude.{ℕ, zero, suc, ◌+◌, ◌*◌, ◌≤◌, ◌<◌, ◌≡◌, refl, Bool, true, false, cond, ◌||◌, List, [], ◌∷◌, ◌++◌, length, get_or, set}
-use Rattle.std.proofs.Common.{arith, sym, ◌∙◌, ap, append-nil, length-set, length-append, get_or-set_same, get_or-set_other}
-use Rattle.std.proofs.Math.Decide.{dec_lt, ℕ_discrete}
+use Rattle.std.specs.Prelude.{ℕ, suc, ◌+◌, ◌*◌, ◌≤◌, ◌<◌, ◌≡◌, refl, Bool, true, false, cond, List, [], ◌∷◌, ◌++◌, length, get_or, set}
+use Rattle.std.proofs.Common.{arith, sym, ◌∙◌, ap, append-nil, length-append, get_or-set_other}
+use Rattle.std.proofs.Math.Decide.{dec_lt}
 use Rattle.std.proofs.Math.ListN.{get_or-append}
 use Rattle.meaning.specs.ListForm.{Name}
-use Rattle.meaning.specs.ListNumbers.{same_name, among, position}
-use Rattle.laws.specs.Texts.Numbering.{or-false, same-name, same-itself, among-append, position-front}
-use Rattle.text_names.specs.Tree.{Word, root, longer, root_of, word_at, first_of, next_of, letter_of, number_of, Led, Tree, Book, Reached}
-use Rattle.text_names.specs.Growing.{Which, old, new, which, grown-length}
+use Rattle.meaning.specs.ListNumbers.{among, position}
+use Rattle.text_names.specs.Tree.{Word, root, longer, root_of, word_at, first_of, next_of, number_of, Led, Tree}
+use Rattle.text_names.specs.Growing.{Which, old, new, which}
 use Rattle.text_names.specs.Roots.{root_unknown}
 use Rattle.text_names.specs.Walking.{pushed}
 

@@ -1,7 +1,7 @@
 -- A root more: the next node, which nothing leads to. Its entries are 0 as they are, so nothing is written.
-use Rattle.std.specs.Prelude.{ℕ, zero, suc, ◌+◌, ◌*◌, ◌≤◌, ◌<◌, ◌≡◌, refl, List, [], ◌∷◌, ◌++◌, length, get_or}
+use Rattle.std.specs.Prelude.{ℕ, ◌≤◌, ◌<◌, ◌≡◌, List, [], ◌∷◌, ◌++◌, length}
 use Rattle.std.proofs.Common.{arith, sym, ◌∙◌, ap}
-use Rattle.text_names.specs.Tree.{Word, root, longer, root_of, word_at, first_of, next_of, letter_of, number_of, Led, Rise, own, child, Tree, Book}
+use Rattle.text_names.specs.Tree.{Word, root, longer, root_of, word_at, first_of, next_of, Led, own, Tree}
 use Rattle.text_names.specs.Growing.{grown-length, old-word, new_word, Which, old, new, which, still_one, still-rise}
 
 module _ (tree : List ℕ) (nodes : List Word) (t : Tree tree nodes) where

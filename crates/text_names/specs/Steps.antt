@@ -1,5 +1,5 @@
 -- The loop along the letters of a name.
-use Rattle.std.specs.Prelude.{ℕ, zero, suc, ◌+◌, ◌*◌, ◌≤◌, ◌<◌, ◌≡◌, refl, Bool, true, false, cond, List, [], ◌∷◌, ◌++◌, map, eqb, length, take, get_or}
+use Rattle.std.specs.Prelude.{ℕ, ◌+◌, ◌*◌, ◌≤◌, ◌<◌, ◌≡◌, Bool, true, false, cond, List, [], ◌∷◌, eqb, length, take, get_or}
 use Rattle.std.proofs.Common.{add-one, sym, ◌∙◌, ap, take-suc, take_all}
 use native.Mathlib.Omega.{arith}
 use Rattle.std.proofs.lemmas.List.{map-append}

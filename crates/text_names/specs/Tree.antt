@@ -1,7 +1,7 @@
 -- Names in a tree: each node stands for a word, which is a root and the letters on the way from it. A node has four entries in the list:
 -- its first child, the next child of its parent, its letter, and the number given to its name. Children of a node stand in a chain, the
 -- last one first, so a link always leads to a lower node; 0 ends a chain, and node 0 is nobody's child.
-use Rattle.std.specs.Prelude.{ℕ, zero, suc, ◌+◌, ◌*◌, ◌≤◌, ◌<◌, ◌≡◌, List, [], ◌∷◌, ◌++◌, length, get_or}
+use Rattle.std.specs.Prelude.{ℕ, ◌+◌, ◌*◌, ◌≤◌, ◌<◌, ◌≡◌, List, ◌++◌, length, get_or}
 
 pub data Word : Type 0 where
   root : ℕ → Word

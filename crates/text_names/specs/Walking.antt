@@ -1,9 +1,8 @@
 -- From a node along the letters of a name.
-use Rattle.std.specs.Prelude.{ℕ, zero, suc, ◌+◌, ◌*◌, ◌≤◌, ◌<◌, ◌≡◌, refl, cond, List, [], ◌∷◌, ◌++◌, map, eqb, length, set}
-use Rattle.std.proofs.Common.{arith, sym, ◌∙◌, ap, append-nil, append_assoc, length-set, length-append, eq-eqb, ne_eqb}
-use Rattle.std.proofs.Math.ListN.{get_or-append}
+use Rattle.std.specs.Prelude.{ℕ, ◌+◌, ◌*◌, ◌≤◌, ◌<◌, ◌≡◌, refl, cond, List, [], ◌∷◌, ◌++◌, eqb, length, set}
+use Rattle.std.proofs.Common.{arith, sym, ◌∙◌, ap, append-nil, append_assoc, length-set, eq-eqb, ne_eqb}
 use Rattle.meaning.specs.ListForm.{Name}
-use Rattle.text_names.specs.Tree.{Word, root, longer, root_of, word_at, first_of, number_of, Tree, Book, Sought, Reached}
+use Rattle.text_names.specs.Tree.{Word, longer, word_at, first_of, Tree, Book, Sought, Reached}
 use Rattle.text_names.specs.Growing.{grown-length, new_word, hang}
 use Rattle.text_names.specs.Hanging.{hung_tree}
 

@@ -87,11 +87,9 @@ fn walk(name: &[u8], tree: &mut [u32], root: usize, count: usize) -> Reach
 {
     let mut node = root;
     let mut all = count;
-    let mut i = 0;
-    while i < name.len() {
-        node = step(tree, all, node, capital(name[i]));
+    for letter in name {
+        node = step(tree, all, node, capital(*letter));
         all = grown(all, node);
-        i += 1;
     }
     Reach { node, count: all }
 }

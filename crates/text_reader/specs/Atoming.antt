@@ -1,27 +1,25 @@
 -- A turn at an atom.
-use Rattle.std.specs.Prelude.{ℕ, suc, ◌+◌, ◌*◌, ◌-◌, ◌≤◌, ◌<◌, ◌≡◌, refl, Bool, true, false, cond, not, ◌&&◌, ◌||◌, ◌⊎◌, List, [], ◌∷◌, eqb, leb, ltb, length, take, drop, get_or}
-use Rattle.std.proofs.Common.{arith, sym, ◌∙◌, ap, inl, inr, length-drop, length-take, get_or-take, length-take-le, eq-eqb, ne_eqb, le-leb, lt-ltb, le-ltb}
+use Rattle.std.specs.Prelude.{Ok, Err, ℕ, ◌+◌, ◌*◌, ◌-◌, ◌≤◌, ◌<◌, ◌≡◌, refl, Bool, true, false, ◌||◌, ◌⊎◌, List, [], ◌∷◌, leb, length, take, drop, get_or}
+use Rattle.std.proofs.Common.{arith, sym, ◌∙◌, ap, inl, inr, length-drop, get_or-take, length-take-le, ne_eqb, le-leb, lt-ltb, le-ltb}
 use Rattle.std.proofs.lemmas.Bool.{lt-leb}
 use Rattle.meaning.specs.Calls.{refusal}
-use Rattle.meaning.specs.ListForm.{Name, Kind, letter, kind_of}
 use Rattle.meaning.specs.ListNumbers.{entered, position}
 use Rattle.meaning.specs.ListCall.{word, reading, too_long}
 use Rattle.laws.specs.Texts.Numbering.{or-true}
 use Rattle.text_names.specs.Walking.{grown_by}
 use Rattle.text_names.specs.Needs.{name_of, Numberable, Numbered}
 use Rattle.text_modes.specs.Modes.{kind_code, mode_after}
-use Rattle.text_modes.specs.Ends.{Spelt, spelt, word_on}
+use Rattle.text_modes.specs.Ends.{spelt, word_on}
 use Rattle.text_desk.specs.declared.Marks.{Marks}
-use Rattle.text_desk.specs.Desk.{Desk, is_name, with_name, with_net}
-use Rattle.text_desk.specs.Limits.{none_left, name_over, net_over}
+use Rattle.text_desk.specs.Desk.{is_name, with_name, with_net}
+use Rattle.text_desk.specs.Limits.{none_left}
 use Rattle.text_desk.specs.Paper.{desk_of, Naming, Netting, Puts}
+use Rattle.refusals.specs.Refused.{refusal_at}
 use Rattle.text_reader.specs.declared.turns.State.{State}
-use Rattle.text_reader.specs.declared.turns.Turn.{Turn}
-use Rattle.text_reader.specs.Parse.{Parse}
 use Rattle.text_reader.specs.Parts.{atom-off, name-over, name-on, net-listed, net-over, net-on}
-use Rattle.text_reader.specs.Dict.{Dict, Named, Netted, none, some, named_so, netted_so}
-use Rattle.text_reader.specs.Reading.{Rooms, Reading, Turnable, Turned, AtomAt, ShortAtom, NameAt, NetAt}
-use Rattle.text_reader.specs.Turning.{turned_on, refused_25, refused_26}
+use Rattle.text_reader.specs.Dict.{Named, Netted, none, some, named_so, netted_so}
+use Rattle.text_reader.specs.Reading.{Rooms, Turnable, Turned, AtomAt, ShortAtom}
+use Rattle.text_reader.specs.Turning.{turned_on, refused_turn}
 
 -- The mode tells whether a name is due.
 pub named_mode : (mode : ℕ) → (mode ≡ 3) ⊎ (mode ≡ 13) → is_name mode ≡ true
@@ -32,16 +30,16 @@ pub netted_mode : (mode : ℕ) → ((mode ≡ 3) ⊎ (mode ≡ 13) → ⊥) → 
 netted_mode mode f = rw (ne_eqb mode 3 (λ e. f (inl e)), ne_eqb mode 13 (λ e. f (inr e)))
 
 module _ (text : List ℕ) (i : ℕ) (s : State) (numbers tree : List ℕ) (a : AtomAt text i s numbers tree) where
-  pub atom-lost : (mode : ℕ) → mode ≡ mode_after s.mode 4 → 18 ≤ mode → Turned text i (record { number = 25; next = i; state = s }) numbers tree
+  pub atom-lost : (mode : ℕ) → mode ≡ mode_after s.mode 4 → 18 ≤ mode → Turned text i (Err (refusal_at 25 i)) numbers tree
   atom-lost mode leads off =
-      refused_25 text i i s numbers tree
+      refused_turn text i 25 numbers tree
       (atom-off text i s.mode (desk_of numbers s.marks) a.here.reading.known a.here.reading.heard a.here.reading.parse a.here.inside a.is
       (omega arith))
 
   -- An atom of over 32 bytes.
   pub atom-long : (mode end : ℕ) → mode ≡ mode_after s.mode 4 → mode < 18 → end ≡ i + length (word (drop i text)) → 32 < end - i
-      → Turned text i (record { number = 26; next = i; state = s }) numbers tree
-  atom-long mode end leads fine ends long = refused_26 text i i s numbers tree (go (is_name s.mode) refl)
+      → Turned text i (Err (refusal_at 26 i)) numbers tree
+  atom-long mode end leads fine ends long = refused_turn text i 26 numbers tree (go (is_name s.mode) refl)
     where
       on : mode_after s.mode 4 < 18
       on = omega arith
@@ -149,13 +147,13 @@ module _ (text : List ℕ) (i end mode : ℕ) (s : State) (numbers tree : List �
           named_so name tree s.names s.nets s.root s.count a.atom.here.reading.known a.atom.here.reading.heard a.atom.here.reading.dict
           tree' count' number n
 
-      pub name-refused : 16384 ≤ number → Turned text i (record { number = 26; next = i; state = s }) numbers tree'
+      pub name-refused : 16384 ≤ number → Turned text i (Err (refusal_at 26 i)) numbers tree'
       name-refused l = go given
         where
           go : Named name tree s.names s.nets s.root s.count a.atom.here.reading.known a.atom.here.reading.heard a.atom.here.reading.dict tree' count' number
-              → Turned text i (record { number = 26; next = i; state = s }) numbers tree'
+              → Turned text i (Err (refusal_at 26 i)) numbers tree'
           go (none e left) =
-              refused_26 text i i s numbers tree'
+              refused_turn text i 26 numbers tree'
               (name-over text i s.mode (desk_of numbers s.marks) a.atom.here.reading.known a.atom.here.reading.heard a.atom.here.reading.parse
               a.atom.here.inside a.atom.is on named
               (ap (λ t. too_long (word (drop i text)) || t) (ap (none_left a.atom.here.reading.known) (sym name-is) ∙ left) ∙ or-true (too_long (word (drop i text)))))
@@ -164,20 +162,18 @@ module _ (text : List ℕ) (i end mode : ℕ) (s : State) (numbers tree : List �
       pub name-turned : number < 16384 → (numbers' : List ℕ) (marks : Marks) (names' : ℕ) → length numbers' ≡ length numbers
           → Puts (with_name number) numbers s.marks numbers' marks → names' ≡ grown_by s.names number
           → Turned text i
-          (record {
-            number = 0;
+          (Ok (record {
             next = end;
             state = record { mode = mode; marks = marks; names = names'; nets = s.nets; root = s.root; count = count' };
-          }) numbers' tree'
+          })) numbers' tree'
       name-turned l numbers' marks names' same p g = rw g (go given)
         where
           go : Named name tree s.names s.nets s.root s.count a.atom.here.reading.known a.atom.here.reading.heard a.atom.here.reading.dict tree' count' number
               → Turned text i
-              (record {
-                number = 0;
+              (Ok (record {
                 next = end;
                 state = record { mode = mode; marks = marks; names = grown_by s.names number; nets = s.nets; root = s.root; count = count' };
-              }) numbers' tree'
+              })) numbers' tree'
           go (none e left) = absurd (omega arith)
           go (some small left is' d) =
               let m : marks.at ≤ s.marks.at + 2 = p.most in
@@ -218,9 +214,9 @@ module _ (text : List ℕ) (i end mode : ℕ) (s : State) (numbers tree : List �
       counted = get_or-take s.marks.at numbers s.marks.list 0 net-list
 
       -- 192 nets in the list.
-      pub net-full : 192 ≤ get_or numbers s.marks.list 0 → Turned text i (record { number = 26; next = i; state = s }) numbers tree
+      pub net-full : 192 ≤ get_or numbers s.marks.list 0 → Turned text i (Err (refusal_at 26 i)) numbers tree
       net-full l =
-          refused_26 text i i s numbers tree
+          refused_turn text i 26 numbers tree
           (net-over text i s.mode (desk_of numbers s.marks) a.atom.here.reading.known a.atom.here.reading.heard a.atom.here.reading.parse
           a.atom.here.inside a.atom.is on netted
           (ap (λ t. too_long (word (drop i text)) || t || none_left a.atom.here.reading.heard (word (drop i text))) (ap (leb 192) counted ∙ le-leb 192 (get_or numbers s.marks.list 0) l)
@@ -239,7 +235,7 @@ module _ (text : List ℕ) (i end mode : ℕ) (s : State) (numbers tree : List �
             netted_so name tree s.names s.nets s.root s.count a.atom.here.reading.known a.atom.here.reading.heard a.atom.here.reading.dict
             tree' count' number n
 
-        pub net-refused : 16384 ≤ number → Turned text i (record { number = 26; next = i; state = s }) numbers tree'
+        pub net-refused : 16384 ≤ number → Turned text i (Err (refusal_at 26 i)) numbers tree'
         net-refused l = go given-net
           where
             last_or : (t u : Bool) → (t || u || true) ≡ true
@@ -248,9 +244,9 @@ module _ (text : List ℕ) (i end mode : ℕ) (s : State) (numbers tree : List �
             last_or false false = refl
 
             go : Netted name tree s.names s.nets s.root s.count a.atom.here.reading.known a.atom.here.reading.heard a.atom.here.reading.dict tree' count' number
-                → Turned text i (record { number = 26; next = i; state = s }) numbers tree'
+                → Turned text i (Err (refusal_at 26 i)) numbers tree'
             go (none e left) =
-                refused_26 text i i s numbers tree'
+                refused_turn text i 26 numbers tree'
                 (net-over text i s.mode (desk_of numbers s.marks) a.atom.here.reading.known a.atom.here.reading.heard a.atom.here.reading.parse
                 a.atom.here.inside a.atom.is on netted
                 (ap (λ t. too_long (word (drop i text)) || leb 192 (get_or (take s.marks.at numbers) s.marks.list 0) || t)
@@ -261,11 +257,10 @@ module _ (text : List ℕ) (i end mode : ℕ) (s : State) (numbers tree : List �
         pub net-turned : get_or numbers s.marks.list 0 < 192 → number < 16384 → (numbers' : List ℕ) (marks : Marks) (nets' : ℕ)
             → length numbers' ≡ length numbers → Puts (with_net number) numbers s.marks numbers' marks → nets' ≡ grown_by s.nets number
             → Turned text i
-            (record {
-              number = 0;
+            (Ok (record {
               next = end;
               state = record { mode = mode; marks = marks; names = s.names; nets = nets'; root = s.root; count = count' };
-            }) numbers' tree'
+            })) numbers' tree'
         net-turned few l numbers' marks nets' same p g = rw g (go given-net)
           where
             fits : (leb 192 (get_or (take s.marks.at numbers) s.marks.list 0)) ≡ false
@@ -273,11 +268,10 @@ module _ (text : List ℕ) (i end mode : ℕ) (s : State) (numbers tree : List �
 
             go : Netted name tree s.names s.nets s.root s.count a.atom.here.reading.known a.atom.here.reading.heard a.atom.here.reading.dict tree' count' number
                 → Turned text i
-                (record {
-                  number = 0;
+                (Ok (record {
                   next = end;
                   state = record { mode = mode; marks = marks; names = s.names; nets = grown_by s.nets number; root = s.root; count = count' };
-                }) numbers' tree'
+                })) numbers' tree'
             go (none e left) = absurd (omega arith)
             go (some small left is' d) =
                 let m : marks.at ≤ s.marks.at + 2 = p.most in

@@ -1,18 +1,17 @@
 -- The two lists of names in the tree: the gates and modules below root 1, the nets of the module below a root of its own.
-use Rattle.std.specs.Prelude.{ℕ, suc, ◌+◌, ◌*◌, ◌≤◌, ◌<◌, ◌≡◌, refl, Bool, true, false, cond, not, ◌&&◌, List, [], ◌∷◌, ◌++◌, eqb, leb, length}
+use Rattle.std.specs.Prelude.{ℕ, ◌+◌, ◌≤◌, ◌<◌, ◌≡◌, refl, true, false, cond, not, ◌&&◌, List, [], ◌∷◌, ◌++◌, leb, length}
 use Rattle.std.proofs.Common.{arith, sym, ◌∙◌, ap, length-append, eq-eqb, ne_eqb, le-leb}
 use Rattle.std.proofs.lemmas.Bool.{lt-leb}
 use Rattle.meaning.specs.ListForm.{Name}
-use Rattle.meaning.specs.ListNumbers.{among, position, entered}
+use Rattle.meaning.specs.ListNumbers.{position, entered}
 use Rattle.laws.specs.Texts.Numbering.{same-itself, position-below}
-use Rattle.text_names.specs.Tree.{Word, root, word_at, Tree, Book}
+use Rattle.text_names.specs.Tree.{Word, root, Tree, Book}
 use Rattle.text_names.specs.Growing.{grown-length, old-word, new_word}
 use Rattle.text_names.specs.Roots.{root_tree}
 use Rattle.text_names.specs.Walking.{grown_by}
 use Rattle.text_names.specs.Numbers.{Numbers, numbers_stay, numbers-fresh}
 use Rattle.text_names.specs.Giving.{Rooted, Given, met, new, full, Entered, position-new}
 use Rattle.text_names.specs.Needs.{name_of, Numbered}
-use Rattle.text_desk.specs.Known.{entered-one}
 use Rattle.text_desk.specs.Limits.{none_left}
 
 pub record Dict (tree : List ℕ) (names nets r count : ℕ) (known heard : List Name) : Type 0 where

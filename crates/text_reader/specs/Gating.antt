@@ -1,18 +1,17 @@
 -- The gates' names are entered before all others.
-use Rattle.std.specs.Prelude.{ℕ, ◌+◌, ◌*◌, ◌-◌, ◌≤◌, ◌<◌, ◌≡◌, refl, Bool, true, false, not, ◌&&◌, List, [], ◌∷◌, ◌++◌, map, eqb, leb, length, take, drop, get_or}
+use Rattle.std.specs.Prelude.{ℕ, ◌+◌, ◌*◌, ◌-◌, ◌≤◌, ◌<◌, ◌≡◌, refl, Bool, true, false, not, ◌&&◌, List, [], ◌∷◌, eqb, leb, length, take, drop, get_or}
 use Rattle.std.proofs.Common.{add-one, arith, sym, ◌∙◌, ap, take-suc, eqb-true, leb-true}
 use Rattle.std.proofs.lemmas.Bool.{lt-leb}
 use Rattle.laws.specs.Texts.Below.{all_below, below}
-use Rattle.meaning.specs.ListForm.{Name, capital}
+use Rattle.meaning.specs.ListForm.{capital}
 use Rattle.meaning.specs.ListNumbers.{spelling, same_name, among, gate_names, entered}
 use Rattle.laws.specs.Texts.Numbering.{same-name, entered-append}
-use Rattle.text_names.specs.Tree.{Word, root, word_at, own, Tree, Book}
+use Rattle.text_names.specs.Tree.{root, word_at, own, Tree}
 use Rattle.text_names.specs.Roots.{root_tree}
 use Rattle.text_names.specs.Walking.{grown_by}
 use Rattle.text_names.specs.Numbers.{numbers-fresh}
-use Rattle.text_names.specs.Giving.{Rooted, Entered}
 use Rattle.text_names.specs.Needs.{name_of, Numberable, Numbered}
-use Rattle.text_reader.specs.Dict.{Dict, Named, none, some, named_so, rooted-new, rooted-still, numbers-root}
+use Rattle.text_reader.specs.Dict.{Dict, Named, none, some, named_so, numbers-root}
 
 pub record Blank (tree : List ℕ) : Type 0 where
   pub zeros : (k : ℕ) → get_or tree k 0 ≡ 0

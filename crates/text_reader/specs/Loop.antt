@@ -1,17 +1,15 @@
 -- The loop over the parts: before the first, and behind the last.
-use Rattle.std.specs.Prelude.{ℕ, suc, ◌+◌, ◌*◌, ◌≤◌, ◌<◌, ◌≡◌, refl, List, [], length, take, get_or}
-use Rattle.std.proofs.Common.{arith, sym, ◌∙◌, ap}
-use Rattle.meaning.specs.Calls.{refusal, answer}
+use Rattle.std.specs.Prelude.{Ok, Err, ℕ, ◌+◌, ◌*◌, ◌≤◌, ◌<◌, ◌≡◌, refl, List, [], length}
+use Rattle.std.proofs.Common.{arith}
 use Rattle.meaning.specs.ListNumbers.{gate_names}
-use Rattle.meaning.specs.ListCall.{reading}
 use Rattle.text_desk.specs.Paper.{desk_of}
-use Rattle.text_reader.specs.declared.Extent.{Extent}
+use Rattle.refusals.specs.declared.Refusal.{Refusal}
+use Rattle.refusals.specs.Refused.{refusal_at}
 use Rattle.text_reader.specs.declared.turns.State.{State}
-use Rattle.text_reader.specs.declared.turns.Turn.{Turn}
-use Rattle.text_reader.specs.Parse.{Parse, parse-first}
+use Rattle.text_reader.specs.Parse.{parse-first}
 use Rattle.text_reader.specs.Parts.{Listed, parse-whole, parse-short}
 use Rattle.text_reader.specs.Gating.{Blank, Gated}
-use Rattle.text_reader.specs.Reading.{Rooms, Reading, Turnable, Turned, Readable, ReadAs, Reads}
+use Rattle.text_reader.specs.Reading.{Reading, Turned, Readable, Reads}
 
 pub record Looping (text numbers₀ tree₀ numbers tree : List ℕ) (s : State) (i : ℕ) : Type 0 where
   pub reading : Reading text i s numbers tree
@@ -51,24 +49,19 @@ looping_first text numbers tree tree' count r same g =
     }
 
 -- A refusal at a part.
-refused-reads : (text numbers : List ℕ) (n i : ℕ) → (n ≡ 0 → ⊥) → reading text ≡ refusal n i → Reads text numbers (record { number = n; place = i; count = 0 })
-refused-reads text numbers n i some e = record { right = rw e (refl, refl, some) }
-
-pub turn-refused : (text numbers tree : List ℕ) (i : ℕ) (t : Turn) → Turned text i t numbers tree → (t.number ≡ 0 → ⊥)
-    → Reads text numbers (record { number = t.number; place = i; count = 0 })
-turn-refused text numbers tree i t d some = refused-reads text numbers t.number i some (d.off some)
+pub turn-refused : (text numbers tree : List ℕ) (i : ℕ) (r : Refusal) → Turned text i (Err r) numbers tree → Reads text numbers (Err r)
+turn-refused text numbers tree i r d = record { right = rw d.1 refl }
 
 module _ (text numbers₀ tree₀ numbers tree : List ℕ) (s : State) (i : ℕ) (l : Looping text numbers₀ tree₀ numbers tree s i) (e : length text ≤ i) where
-  pub short-reads : s.mode < 17 → Reads text numbers (record { number = 25; place = i; count = 0 })
+  pub short-reads : s.mode < 17 → Reads text numbers (Err (refusal_at 25 i))
   short-reads m =
-      refused-reads text numbers 25 i (λ z. omega arith)
-      (parse-short text i (desk_of numbers s.marks) l.reading.known l.reading.heard e s.mode l.reading.parse m)
+      record { right = rw (parse-short text i (desk_of numbers s.marks) l.reading.known l.reading.heard e s.mode l.reading.parse m) refl }
 
-  pub whole-reads : 17 ≤ s.mode → Reads text numbers (record { number = 0; place = 0; count = s.marks.at })
+  pub whole-reads : 17 ≤ s.mode → Reads text numbers (Ok s.marks.at)
   whole-reads m =
       let r : Listed text (desk_of numbers s.marks)
       = parse-whole text i (desk_of numbers s.marks) l.reading.known l.reading.heard e s.mode l.reading.parse m in
       let am : s.marks.at ≤ 2 * i = l.reading.rooms.at_most in
       let w : i ≤ length text = l.reading.rooms.within in
       let nr : 2 * length text + 2 ≤ length numbers = l.reading.rooms.numbers-room in
-      record { right = rw r.is (refl, r.numbers, omega arith) }
+      record { right = rw r.is (s.marks.at, refl, r.numbers, omega arith) }

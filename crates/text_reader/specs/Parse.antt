@@ -1,19 +1,18 @@
 -- Reading as the code does it: between two parts, by the mode, with the numbers on the desk.
-use Rattle.std.specs.Prelude.{ℕ, zero, suc, ◌+◌, ◌≤◌, ◌<◌, ◌≡◌, refl, Bool, true, false, not, ◌&&◌, ◌||◌, List, [], ◌∷◌, ◌++◌, eqb, leb, length, drop, get_or}
-use Rattle.std.proofs.Common.{add-one, arith, sym, ◌∙◌, ap, drop_of_length-le, drop-cons, drop-drop, le-leb}
+use Rattle.std.specs.Prelude.{ℕ, suc, ◌+◌, ◌≤◌, ◌<◌, ◌≡◌, refl, true, false, not, List, [], ◌∷◌, leb, length, drop, get_or}
+use Rattle.std.proofs.Common.{add-one, sym, ◌∙◌, ap, drop-cons, drop-drop, le-leb}
 use Rattle.std.proofs.lemmas.Bool.{lt-leb}
-use Rattle.meaning.specs.Layout.{file_numbers}
-use Rattle.meaning.specs.Calls.{Decision, refusal, answer, demand}
-use Rattle.meaning.specs.ListForm.{Name, ListedModule, Sign, mark, opening, closing, stray, Kind, letter, space, Kind.sign as sign_kind, kind_of, Part, sign, atom}
-use Rattle.meaning.specs.ListReader.{Stage, Stand, start, at, finished, astray, next, step, is_astray, front}
-use Rattle.meaning.specs.ListNumbers.{gate_names, entered, position, numbered}
-use Rattle.meaning.specs.ListCall.{over, word, concluded, reading_from, reading}
+use Rattle.meaning.specs.Calls.{refusal, demand}
+use Rattle.meaning.specs.ListForm.{Name, Sign, letter, space, Kind.sign as sign_kind, kind_of, Part, sign, atom}
+use Rattle.meaning.specs.ListReader.{Stand, start, step, is_astray}
+use Rattle.meaning.specs.ListNumbers.{gate_names}
+use Rattle.meaning.specs.ListCall.{over, word, reading_from, reading}
 use Rattle.laws.specs.Texts.Divided.{spot}
 use Rattle.laws.specs.Texts.Words.{by_kind, whole-atom}
-use Rattle.text_modes.specs.Modes.{sign_code, part_code, mode_of, mode_after}
+use Rattle.text_modes.specs.Modes.{part_code, mode_of, mode_after}
 use Rattle.text_modes.specs.Right.{mode_step, astray_mode}
-use Rattle.text_desk.specs.Desk.{Desk, opened, opened_over, is_name, with_name, with_net}
-use Rattle.text_desk.specs.On.{On, Empty, Stands}
+use Rattle.text_desk.specs.Desk.{Desk}
+use Rattle.text_desk.specs.On.{Stands}
 
 pub record Parse (text : List ℕ) (i mode : ℕ) (d : Desk) (known heard : List Name) : Type 0 where
   pub stand : Stand

@@ -1,11 +1,11 @@
 -- One part more, and the end of the text.
-use Rattle.std.specs.Prelude.{ℕ, suc, ◌+◌, ◌≤◌, ◌<◌, ◌≡◌, refl, Bool, true, false, List, [], ◌∷◌, ◌++◌, length, drop, get_or}
+use Rattle.std.specs.Prelude.{ℕ, ◌+◌, ◌≤◌, ◌<◌, ◌≡◌, true, false, List, [], ◌∷◌, length, drop, get_or}
 use Rattle.std.proofs.Common.{arith, sym, ◌∙◌, drop_of_length-le}
 use Rattle.std.proofs.Math.Path.{ap}
 use Rattle.meaning.specs.Layout.{file_numbers}
-use Rattle.meaning.specs.Calls.{Decision, refusal, answer}
-use Rattle.meaning.specs.ListForm.{Name, ListedModule, Sign, mark, opening, closing, stray, Kind, letter, space, Kind.sign as sign_kind, kind_of, Part, sign, atom}
-use Rattle.meaning.specs.ListReader.{Stage, list_due, modules, name_due, inputs_due, inputs, outputs_due, outputs, body_due, body, drives_due, drives, call_due, refers_due, takes, occurrence_end, module_end, Stand, start, at, finished, astray, step, is_astray}
+use Rattle.meaning.specs.Calls.{refusal, answer}
+use Rattle.meaning.specs.ListForm.{Name, ListedModule, Sign, mark, opening, closing, letter, Kind.sign as sign_kind, kind_of, sign, atom}
+use Rattle.meaning.specs.ListReader.{list_due, modules, name_due, inputs_due, inputs, outputs_due, outputs, body_due, body, drives_due, drives, call_due, refers_due, takes, occurrence_end, module_end, Stand, start, at, finished, astray, step, is_astray}
 use Rattle.meaning.specs.ListNumbers.{entered, position, numbered}
 use Rattle.meaning.specs.ListCall.{over, word, concluded, reading_from, reading}
 use Rattle.laws.specs.Texts.Divided.{spot}

@@ -1,14 +1,18 @@
 -- What holds between two parts, and what a turn makes of it.
-use Rattle.std.specs.Prelude.{ℕ, suc, ◌+◌, ◌*◌, ◌≤◌, ◌<◌, ◌≡◌, Bool, true, false, cond, List, [], eqb, length, drop, take, get_or}
+use Rattle.std.specs.Prelude.{Result, Ok, Err, ℕ, ◌+◌, ◌*◌, ◌≤◌, ◌<◌, ◌≡◌, true, false, cond, List, eqb, length, drop, take, get_or}
 use Rattle.meaning.specs.Layout.{file_numbers}
 use Rattle.meaning.specs.Calls.{Decision, refusal, answer}
-use Rattle.meaning.specs.ListForm.{Name, ListedModule, Kind, letter, Kind.sign as sign_kind, opening, kind_of}
+use Rattle.meaning.specs.ListForm.{Name, ListedModule, letter, Kind.sign as sign_kind, opening, kind_of}
 use Rattle.meaning.specs.ListNumbers.{numbered}
 use Rattle.meaning.specs.ListCall.{word, reading, most_text}
-use Rattle.text_modes.specs.Modes.{kind_code, mode_after}
+use Rattle.text_modes.specs.Modes.{mode_after}
+use Rattle.text_modes.specs.Kinds.{byte_kind}
+use Rattle.text_modes.specs.declared.ByteKind.{ByteKind}
+use Rattle.text_modes.specs.declared.ByteKind.TheVariants.{Letter, Space}
 use Rattle.text_desk.specs.Desk.{is_name}
 use Rattle.text_desk.specs.Paper.{desk_of}
-use Rattle.text_reader.specs.declared.Extent.{Extent}
+use Rattle.refusals.specs.declared.Refusal.{Refusal}
+use Rattle.refusals.specs.Refused.{refusal_at}
 use Rattle.text_reader.specs.declared.turns.State.{State}
 use Rattle.text_reader.specs.declared.turns.Turn.{Turn}
 use Rattle.text_reader.specs.Parse.{Parse}
@@ -44,16 +48,27 @@ pub record Turnable (text : List ℕ) (i : ℕ) (s : State) (numbers tree : List
   pub reading : Reading text i s numbers tree
   pub inside : i < length text
 
-pub record Turned (text : List ℕ) (i : ℕ) (turn : Turn) (numbers tree : List ℕ) : Type 0 where
-  pub on : turn.number ≡ 0 → Reading text turn.next turn.state numbers tree
-  pub further : turn.number ≡ 0 → i < turn.next
-  pub off : (turn.number ≡ 0 → ⊥) → reading text ≡ refusal turn.number i
+-- Where reading goes on behind a part: a state again, further in the text.
+pub record GoesOn (text : List ℕ) (i : ℕ) (turn : Turn) (numbers tree : List ℕ) : Type 0 where
+  pub on : Reading text turn.next turn.state numbers tree
+  pub further : i < turn.next
+
+-- A turn goes on, or it has met what the text is refused for.
+abbrev pub Turned : (text : List ℕ) (i : ℕ) → Result Turn Refusal → (numbers tree : List ℕ) → Type 0
+Turned text i (Ok turn) numbers tree = GoesOn text i turn numbers tree
+Turned text i (Err refused) numbers tree = (refused.place ≡ i) × (reading text ≡ refusal refused.number refused.place)
 
 pub record Openable (text : List ℕ) (i mode : ℕ) (s : State) (numbers tree : List ℕ) : Type 0 where
   pub here : Turnable text i s numbers tree
   pub is : kind_of (get_or text i 0) ≡ sign_kind opening
   pub leads : mode ≡ mode_after s.mode 1
   pub fine : mode < 18
+
+pub record SignAt (text : List ℕ) (i : ℕ) (part : ByteKind) (s : State) (numbers tree : List ℕ) : Type 0 where
+  pub here : Turnable text i s numbers tree
+  pub is : part ≡ byte_kind (kind_of (get_or text i 0))
+  pub no_letter : part ≡ Letter → ⊥
+  pub no_space : part ≡ Space → ⊥
 
 pub record AtomAt (text : List ℕ) (i : ℕ) (s : State) (numbers tree : List ℕ) : Type 0 where
   pub here : Turnable text i s numbers tree
@@ -81,9 +96,9 @@ pub record Readable (text numbers tree : List ℕ) : Type 0 where
   pub tree_room : 4 * (length text + 128) ≤ length tree
   pub text-most : length text ≤ most_text
 
-abbrev pub ReadAs : Decision (List ListedModule) → (numbers : List ℕ) → Extent → Type 0
-ReadAs (refusal number place) numbers r = (r.number ≡ number) × (r.place ≡ place) × (r.number ≡ 0 → ⊥)
-ReadAs (answer ms) numbers r = (r.number ≡ 0) × (take r.count numbers ≡ file_numbers (numbered ms)) × (r.count ≤ length numbers)
+abbrev pub ReadAs : Decision (List ListedModule) → (numbers : List ℕ) → Result ℕ Refusal → Type 0
+ReadAs (refusal number place) numbers r = r ≡ Err (refusal_at number place)
+ReadAs (answer ms) numbers r = (count : ℕ) × (r ≡ Ok count) × (take count numbers ≡ file_numbers (numbered ms)) × (count ≤ length numbers)
 
-pub record Reads (text numbers : List ℕ) (r : Extent) : Type 0 where
+pub record Reads (text numbers : List ℕ) (r : Result ℕ Refusal) : Type 0 where
   pub right : ReadAs (reading text) numbers r

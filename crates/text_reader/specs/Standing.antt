@@ -1,16 +1,16 @@
 -- The laws of the desk at any stand, by its mode.
-use Rattle.std.specs.Prelude.{ℕ, suc, ◌+◌, ◌<◌, ◌≡◌, refl, Bool, true, false, List, [], ◌∷◌, ◌++◌, length}
+use Rattle.std.specs.Prelude.{ℕ, ◌<◌, ◌≡◌, refl, true, false, List, [], ◌∷◌, ◌++◌, length}
 use Rattle.std.proofs.Common.{arith, sym, ◌∙◌}
 use Rattle.std.proofs.Math.Path.{ap}
 use Rattle.meaning.specs.Layout.{each}
-use Rattle.meaning.specs.ListForm.{Name, ListedOccurrence, ListedModule, Sign, mark, opening, closing, stray, Part, sign, atom}
+use Rattle.meaning.specs.ListForm.{Name, mark, opening, closing, sign, atom}
 use Rattle.meaning.specs.ListReader.{Stage, list_due, modules, name_due, inputs_due, inputs, outputs_due, outputs, body_due, body, drives_due, drives, call_due, refers_due, takes, occurrence_end, module_end, Stand, start, at, finished, astray, next, step, is_astray}
-use Rattle.meaning.specs.ListNumbers.{gate_names, entered, each_name, position}
-use Rattle.meaning.specs.ListCall.{over, over_at}
+use Rattle.meaning.specs.ListNumbers.{entered, each_name, position}
+use Rattle.meaning.specs.ListCall.{over}
 use Rattle.laws.specs.Texts.Sheets.{done, sheet}
 use Rattle.text_modes.specs.Modes.{mode_of}
 use Rattle.text_desk.specs.Desk.{Desk, opened, opened_over, is_name, with_name, with_net}
-use Rattle.text_desk.specs.On.{mentioned_at, nets_at, Laid, On, Empty, Stands}
+use Rattle.text_desk.specs.On.{On, Empty, Stands}
 use Rattle.text_desk.specs.Signs.{heard_after, opening_on}
 use Rattle.text_desk.specs.Closing.{closing-on, opening_over, closing-fine}
 use Rattle.text_desk.specs.Atoms.{name-on, net-on}

@@ -1,9 +1,9 @@
 -- A turn at a space or a sign.
-use Rattle.std.specs.Prelude.{ℕ, suc, ◌+◌, ◌*◌, ◌≤◌, ◌<◌, ◌≡◌, refl, Bool, true, false, cond, List, [], eqb, length, get_or}
+use Rattle.std.specs.Prelude.{Ok, Err, ℕ, ◌+◌, ◌*◌, ◌≤◌, ◌<◌, ◌≡◌, refl, true, false, cond, List, [], length, get_or}
 use Rattle.std.proofs.Common.{arith, sym, ◌∙◌, ap, eq-eqb, ne_eqb}
 use Rattle.std.proofs.Math.Decide.{ℕ_discrete}
 use Rattle.meaning.specs.Calls.{refusal}
-use Rattle.meaning.specs.ListForm.{Name, Sign, mark, opening, closing, stray, Kind, letter, space, Kind.sign as sign_kind, kind_of}
+use Rattle.meaning.specs.ListForm.{Name, Sign, mark, opening, closing, stray, Kind.sign as sign_kind, kind_of}
 use Rattle.meaning.specs.ListCall.{reading}
 use Rattle.text_modes.specs.Modes.{sign_code, kind_code, mode_of, mode_after}
 use Rattle.text_modes.specs.Right.{mode_below, stray_mode, mark_mode}
@@ -12,25 +12,21 @@ use Rattle.text_desk.specs.declared.Marks.{Marks}
 use Rattle.text_desk.specs.Desk.{opened_over}
 use Rattle.text_desk.specs.Signs.{heard_after}
 use Rattle.text_desk.specs.Paper.{desk_of, Testable, Opening, Opens}
+use Rattle.refusals.specs.Refused.{refusal_at}
 use Rattle.text_reader.specs.declared.turns.State.{State}
-use Rattle.text_reader.specs.declared.turns.Turn.{Turn}
 use Rattle.text_reader.specs.Parse.{Parse, parse-space}
 use Rattle.text_reader.specs.Parts.{parse-openable, sign-off, open_over, open_on, close-on, mark_on}
-use Rattle.text_reader.specs.Dict.{Dict, fresh}
+use Rattle.text_reader.specs.Dict.{fresh}
 use Rattle.text_reader.specs.Reading.{in_mode, rooted, closed, Rooms, Reading, Turnable, Turned, Openable}
 
 -- A turn that goes on, and one that refuses.
 pub turned_on : (text : List ℕ) (i next : ℕ) (s : State) (numbers tree : List ℕ) → Reading text next s numbers tree → i < next
-    → Turned text i (record { number = 0; next = next; state = s }) numbers tree
-turned_on text i next s numbers tree r l = record { on = λ e. r; further = λ e. l; off = λ e. absurd (e refl) }
+    → Turned text i (Ok (record { next = next; state = s })) numbers tree
+turned_on text i next s numbers tree r l = record { on = r; further = l }
 
-pub refused_25 : (text : List ℕ) (i next : ℕ) (s : State) (numbers tree : List ℕ) → reading text ≡ refusal 25 i
-    → Turned text i (record { number = 25; next = next; state = s }) numbers tree
-refused_25 text i next s numbers tree e = record { on = λ z. absurd (omega arith); further = λ z. absurd (omega arith); off = λ z. e }
-
-pub refused_26 : (text : List ℕ) (i next : ℕ) (s : State) (numbers tree : List ℕ) → reading text ≡ refusal 26 i
-    → Turned text i (record { number = 26; next = next; state = s }) numbers tree
-refused_26 text i next s numbers tree e = record { on = λ z. absurd (omega arith); further = λ z. absurd (omega arith); off = λ z. e }
+pub refused_turn : (text : List ℕ) (i number : ℕ) (numbers tree : List ℕ) → reading text ≡ refusal number i
+    → Turned text i (Err (refusal_at number i)) numbers tree
+refused_turn text i number numbers tree e = (refl, e)
 
 pub state_mode : (text : List ℕ) (i : ℕ) (s : State) (numbers tree : List ℕ) → Reading text i s numbers tree → s.mode < 19
 state_mode text i s numbers tree r =
@@ -57,7 +53,7 @@ module _ (text : List ℕ) (i : ℕ) (s : State) (numbers tree : List ℕ) (t : 
       omega arith
 
   pub at-space : (part : ℕ) → part ≡ kind_code (kind_of (get_or text i 0)) → part ≡ 5
-      → Turned text i (record { number = 0; next = i + 1; state = s }) numbers tree
+      → Turned text i (Ok (record { next = i + 1; state = s })) numbers tree
   at-space part k e =
       let l : i < length text = t.inside in
       turned_on text i (i + 1) s numbers tree
@@ -75,10 +71,10 @@ module _ (text : List ℕ) (i : ℕ) (s : State) (numbers tree : List ℕ) (t : 
     this : SignOf (kind_of (get_or text i 0)) part
     this = sign_of (kind_of (get_or text i 0)) part k nl ns
 
-    pub sign-lost : 18 ≤ mode → Turned text i (record { number = 25; next = i; state = s }) numbers tree
+    pub sign-lost : 18 ≤ mode → Turned text i (Err (refusal_at 25 i)) numbers tree
     sign-lost off =
         let same : mode_after s.mode part ≡ mode_after s.mode (sign_code this.it) = ap (mode_after s.mode) this.code in
-        refused_25 text i i s numbers tree
+        refused_turn text i 25 numbers tree
         (sign-off text i s.mode (desk_of numbers s.marks) t.reading.known t.reading.heard t.reading.parse t.inside this.it this.is
         (omega arith))
 
@@ -127,13 +123,13 @@ module _ (text : List ℕ) (i : ℕ) (s : State) (numbers tree : List ℕ) (t : 
             absurd (omega arith)
 
     pub sign-closed : mode < 18 → (part ≡ 1 → ⊥) → (s' : State) → s' ≡ closed s mode
-        → Turned text i (record { number = 0; next = i + 1; state = s' }) numbers tree
+        → Turned text i (Ok (record { next = i + 1; state = s' })) numbers tree
     sign-closed on other s' e = rw e (go (ℕ_discrete s.mode 16) (went on other))
       where
         l : i < length text
         l = t.inside
 
-        go : Dec (s.mode ≡ 16) → Went → Turned text i (record { number = 0; next = i + 1; state = closed s mode }) numbers tree
+        go : Dec (s.mode ≡ 16) → Went → Turned text i (Ok (record { next = i + 1; state = closed s mode })) numbers tree
         go (yes z) w =
             let none : w.heard' ≡ [] = w.is ∙ ap (λ u. cond u [] t.reading.heard) (eq-eqb s.mode 16 z) in
             rw (eq-eqb s.mode 16 z)
@@ -175,9 +171,9 @@ module _ (text : List ℕ) (i mode : ℕ) (s : State) (numbers tree : List ℕ) 
   leads-on : mode_after s.mode 1 < 18
   leads-on = let e : mode ≡ mode_after s.mode 1 = o.leads in let l : mode < 18 = o.fine in omega arith
 
-  pub open_refused : opened_over s.mode (desk_of numbers s.marks) ≡ true → Turned text i (record { number = 26; next = i; state = s }) numbers tree
+  pub open_refused : opened_over s.mode (desk_of numbers s.marks) ≡ true → Turned text i (Err (refusal_at 26 i)) numbers tree
   open_refused e =
-      refused_26 text i i s numbers tree
+      refused_turn text i 26 numbers tree
       (open_over text i s.mode (desk_of numbers s.marks) o.here.reading.known o.here.reading.heard o.here.reading.parse o.here.inside o.is
       leads-on e)
 
@@ -192,11 +188,10 @@ module _ (text : List ℕ) (i mode : ℕ) (s : State) (numbers tree : List ℕ) 
   pub open_turned : opened_over s.mode (desk_of numbers s.marks) ≡ false → (numbers' : List ℕ) (marks : Marks) → length numbers' ≡ length numbers
       → Opens s.mode numbers s.marks numbers' marks
       → Turned text i
-      (record {
-        number = 0;
+      (Ok (record {
         next = i + 1;
         state = record { mode = mode; marks = marks; names = s.names; nets = s.nets; root = s.root; count = s.count };
-      }) numbers' tree
+      })) numbers' tree
   open_turned e numbers' marks same p =
       let l : i < length text = o.here.inside in
       let m : marks.at ≤ s.marks.at + 1 = p.most in

@@ -12,13 +12,11 @@ fn enter_all(names: &[u8], tree: &mut [u32]) -> usize
         0, 5, 10, 16, 23, 30, 34, 39, 44, 49, 54, 59, 65, 71, 76, 82, 88,
     ];
     let mut count = 3;
-    let mut g = 0;
-    while g < 16 {
+    for g in 0..16 {
         let from = starts[g];
         let to = starts[g + 1];
         let given = text_names::number(&names[from..to], tree, 1, g, count);
         count = given.count;
-        g += 1;
     }
     count
 }

@@ -7,57 +7,24 @@ mod turns; // turns.rt: one part
 ghost use Rattle.text_reader.specs.Reading.{Readable, Reads};
 
 use crate::turns::State;
-use text_desk::Marks;
+use refusals::Refusal;
 
-// 0 and how many numbers there are; or 25 or 26 and the place.
-#[derive(Clone, Copy)]
-pub struct Extent {
-    pub number: u16,
-    pub place: usize,
-    pub count: usize,
-}
-
-// Reads a text. The tree is all 0, and both lists are long enough for it.
-pub fn read(text: &[u8], numbers: &mut [u16], tree: &mut [u32]) -> Extent
+// How many numbers the text comes to; or 25 or 26 and the place. The tree is all 0, and both lists are long enough for the text.
+pub fn read(text: &[u8], numbers: &mut [u16], tree: &mut [u32]) -> Result<usize, Refusal>
     requires { Readable text.now numbers.old tree.old }
     ensures { Reads text.now numbers.new result }
 {
     let count = gates::enter(tree);
-    let mut state = State {
-        mode: 0,
-        marks: Marks {
-            at: 0,
-            list: 0,
-            body: 0,
-        },
-        names: 16,
-        nets: 0,
-        root: 2,
-        count,
-    };
+    let mut state = State::first(count);
     let mut i = 0;
+    // A part may be a whole atom, so the place does not count up by one.
     while i < text.len() {
-        let turn = turns::take(text, i, state, numbers, tree);
-        if turn.number != 0 {
-            return Extent {
-                number: turn.number,
-                place: i,
-                count: 0,
-            };
-        }
+        let turn = turns::take(text, i, state, numbers, tree)?;
         i = turn.next;
         state = turn.state;
     }
     if state.mode < 17 {
-        return Extent {
-            number: 25,
-            place: i,
-            count: 0,
-        };
+        return Err(Refusal::at(25, i));
     }
-    Extent {
-        number: 0,
-        place: 0,
-        count: state.marks.at,
-    }
+    Ok(state.marks.at)
 }

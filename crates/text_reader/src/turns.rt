@@ -1,9 +1,11 @@
 // One part of the text, or one space: where reading goes on, or 25 or 26.
 ghost use Rattle.std.specs.Prelude.{◌≡◌, ◌<◌};
-ghost use Rattle.text_reader.specs.Reading.{closed, Turnable, Openable, AtomAt, NameAt, NetAt, Turned};
+ghost use Rattle.text_reader.specs.Loop.{first_state};
+ghost use Rattle.text_reader.specs.Reading.{closed, Turnable, Openable, SignAt, AtomAt, NameAt, NetAt, Turned};
 
+use refusals::Refusal;
 use text_desk::{Marks, is_full, open, put_name, put_net};
-use text_modes::{after, atom_end, kind};
+use text_modes::{ByteKind, after, atom_end, kind};
 use text_names::{grown, number};
 
 // The mode, the marks on the desk, how many names and nets are known, the root of the module's nets, and how many nodes the tree of
@@ -19,10 +21,29 @@ pub struct State {
     pub count: usize,
 }
 
-// 0 and where reading goes on; or a refusal.
+impl State {
+    // In front of a text: the gates are known, and the tree has so many nodes.
+    pub fn first(count: usize) -> Self
+        ensures { result ≡ first_state count }
+    {
+        State {
+            mode: 0,
+            marks: Marks {
+                at: 0,
+                list: 0,
+                body: 0,
+            },
+            names: 16,
+            nets: 0,
+            root: 2,
+            count,
+        }
+    }
+}
+
+// Where reading goes on, and in which state.
 #[derive(Clone, Copy)]
 pub struct Turn {
-    pub number: u16,
     pub next: usize,
     pub state: State,
 }
@@ -32,25 +53,16 @@ fn close(state: State, mode: usize) -> State
     requires { state.count < 1048576 }
     ensures { result ≡ closed state mode }
 {
-    let marks = state.marks;
     if state.mode == 16 {
         return State {
             mode,
-            marks,
-            names: state.names,
             nets: 0,
             root: state.count,
             count: state.count + 1,
+            ..state
         };
     }
-    State {
-        mode,
-        marks,
-        names: state.names,
-        nets: state.nets,
-        root: state.root,
-        count: state.count,
-    }
+    State { mode, ..state }
 }
 
 // `(`, which leads to a mode.
@@ -61,31 +73,22 @@ fn turn_open(
     state: State,
     numbers: &mut [u16],
     tree: &[u32],
-) -> Turn
+) -> Result<Turn, Refusal>
     requires { Openable text.now i mode state numbers.old tree.now }
     ensures { Turned text.now i result numbers.new tree.now }
 {
-    let marks = state.marks;
-    if is_full(state.mode, numbers, marks) {
-        return Turn {
-            number: 26,
-            next: i,
-            state,
-        };
+    if is_full(state.mode, numbers, state.marks) {
+        return Err(Refusal::at(26, i));
     }
-    let opened = open(state.mode, numbers, marks);
-    Turn {
-        number: 0,
+    let marks = open(state.mode, numbers, state.marks);
+    Ok(Turn {
         next: i + 1,
         state: State {
             mode,
-            marks: opened,
-            names: state.names,
-            nets: state.nets,
-            root: state.root,
-            count: state.count,
+            marks,
+            ..state
         },
-    }
+    })
 }
 
 // The name of a module, which leads to a mode.
@@ -97,33 +100,26 @@ fn turn_name(
     state: State,
     numbers: &mut [u16],
     tree: &mut [u32],
-) -> Turn
+) -> Result<Turn, Refusal>
     requires { NameAt text.now i end mode state numbers.old tree.old }
     ensures { Turned text.now i result numbers.new tree.new }
 {
     let given = number(&text[i..end], tree, 1, state.names, state.count);
     let x = given.number;
     if 16384 <= x {
-        return Turn {
-            number: 26,
-            next: i,
-            state,
-        };
+        return Err(Refusal::at(26, i));
     }
-    let marks = state.marks;
-    let put = put_name(x as u16, numbers, marks);
-    Turn {
-        number: 0,
+    let marks = put_name(x as u16, numbers, state.marks);
+    Ok(Turn {
         next: end,
         state: State {
             mode,
-            marks: put,
+            marks,
             names: grown(state.names, x),
-            nets: state.nets,
-            root: state.root,
             count: given.count,
+            ..state
         },
-    }
+    })
 }
 
 // A net, which leads to a mode.
@@ -135,101 +131,98 @@ fn turn_net(
     state: State,
     numbers: &mut [u16],
     tree: &mut [u32],
-) -> Turn
+) -> Result<Turn, Refusal>
     requires { NetAt text.now i end mode state numbers.old tree.old }
     ensures { Turned text.now i result numbers.new tree.new }
 {
     let marks = state.marks;
     let list = marks.list;
     if 192 <= numbers[list] {
-        return Turn {
-            number: 26,
-            next: i,
-            state,
-        };
+        return Err(Refusal::at(26, i));
     }
     let given = number(&text[i..end], tree, state.root, state.nets, state.count);
     let x = given.number;
     if 16384 <= x {
-        return Turn {
-            number: 26,
-            next: i,
-            state,
-        };
+        return Err(Refusal::at(26, i));
     }
-    let put = put_net(x as u16, numbers, marks);
-    Turn {
-        number: 0,
+    let marks = put_net(x as u16, numbers, marks);
+    Ok(Turn {
         next: end,
         state: State {
             mode,
-            marks: put,
-            names: state.names,
+            marks,
             nets: grown(state.nets, x),
-            root: state.root,
             count: given.count,
+            ..state
         },
-    }
+    })
 }
 
 // An atom.
-fn turn_atom(text: &[u8], i: usize, state: State, numbers: &mut [u16], tree: &mut [u32]) -> Turn
+fn turn_atom(
+    text: &[u8],
+    i: usize,
+    state: State,
+    numbers: &mut [u16],
+    tree: &mut [u32],
+) -> Result<Turn, Refusal>
     requires { AtomAt text.now i state numbers.old tree.old }
     ensures { Turned text.now i result numbers.new tree.new }
 {
-    let mode = after(state.mode, 4);
-    if 18 <= mode {
-        return Turn {
-            number: 25,
-            next: i,
-            state,
-        };
-    }
+    let Some(mode) = after(state.mode, ByteKind::Letter) else {
+        return Err(Refusal::at(25, i));
+    };
     let end = atom_end(text, i);
     if 32 < end - i {
-        return Turn {
-            number: 26,
-            next: i,
-            state,
-        };
+        return Err(Refusal::at(26, i));
     }
-    let now = state.mode;
-    match now {
+    match state.mode {
         3 | 13 => turn_name(text, i, end, mode, state, numbers, tree),
         _ => turn_net(text, i, end, mode, state, numbers, tree),
     }
 }
 
+// A sign.
+fn turn_sign(
+    text: &[u8],
+    i: usize,
+    part: ByteKind,
+    state: State,
+    numbers: &mut [u16],
+    tree: &[u32],
+) -> Result<Turn, Refusal>
+    requires { SignAt text.now i part state numbers.old tree.now }
+    ensures { Turned text.now i result numbers.new tree.now }
+{
+    let Some(mode) = after(state.mode, part) else {
+        return Err(Refusal::at(25, i));
+    };
+    if let ByteKind::Opening = part {
+        return turn_open(text, i, mode, state, numbers, tree);
+    }
+    Ok(Turn {
+        next: i + 1,
+        state: close(state, mode),
+    })
+}
+
 // One part, or one space.
-pub fn take(text: &[u8], i: usize, state: State, numbers: &mut [u16], tree: &mut [u32]) -> Turn
+pub fn take(
+    text: &[u8],
+    i: usize,
+    state: State,
+    numbers: &mut [u16],
+    tree: &mut [u32],
+) -> Result<Turn, Refusal>
     requires { Turnable text.now i state numbers.old tree.old }
     ensures { Turned text.now i result numbers.new tree.new }
 {
     let part = kind(text[i]);
-    if part == 5 {
-        return Turn {
-            number: 0,
-            next: i + 1,
-            state,
-        };
-    }
-    if part == 4 {
-        return turn_atom(text, i, state, numbers, tree);
-    }
-    let mode = after(state.mode, part);
-    if 18 <= mode {
-        return Turn {
-            number: 25,
-            next: i,
-            state,
-        };
-    }
-    if part == 1 {
-        return turn_open(text, i, mode, state, numbers, tree);
-    }
-    Turn {
-        number: 0,
-        next: i + 1,
-        state: close(state, mode),
+    match part {
+        ByteKind::Space => Ok(Turn { next: i + 1, state }),
+        ByteKind::Letter => turn_atom(text, i, state, numbers, tree),
+        ByteKind::Mark | ByteKind::Opening | ByteKind::Closing | ByteKind::Stray => {
+            turn_sign(text, i, part, state, numbers, tree)
+        }
     }
 }

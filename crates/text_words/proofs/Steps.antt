@@ -12,7 +12,10 @@ use borrow.Author.Tests.{eq-eqb, ne_eqb}
 use Rattle.meaning.specs.ListForm.{Name, kind_of, capital}
 use Rattle.meaning.specs.ListNumbers.{same_name}
 use Rattle.meaning.specs.ListCall.{word}
+use Rattle.std.proofs.Common.{Some, None, le-leb}
+use Rattle.std.proofs.lemmas.Bool.{lt-leb}
 use Rattle.text_modes.specs.Modes.{kind_code}
+use Rattle.text_modes.specs.Kinds.{if_below}
 use Rattle.text_modes.specs.Ends.{spelt}
 use Rattle.text_words.specs.declared.Cursor.{Cursor}
 use Rattle.text_words.specs.Seeking.{going, at_level, cursor_after, behind, to_atom, past_atom, atom_from, as_written, module_from, name_at, first_named, Sought}
@@ -199,3 +202,10 @@ unfolding first_named
 named_none text name k l inv =
     let all : 128 - k ≡ 0 = omega arith in
     sym (inv.1 ∙ ap (λ n. first_named n k text (map capital name)) all)
+
+-- A position below the limit, and the limit itself.
+pub just : {k n limit : ℕ} → k < limit → k ≡ n → Some k ≡ if_below limit n
+just {k} {n} {limit} l e = rw (← e, lt-leb limit k l)
+
+pub nowhere : {k n limit : ℕ} → limit ≤ k → k ≡ n → None ≡ if_below limit n
+nowhere {k} {n} {limit} l e = rw (← e, le-leb limit k l)

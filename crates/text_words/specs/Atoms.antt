@@ -3,7 +3,7 @@ use Rattle.std.specs.Prelude.{ℕ, ◌≡◌, refl, List, [], ◌∷◌, ◌++�
 use Rattle.std.proofs.Common.{arith, ◌∙◌, ap}
 use Rattle.std.proofs.lemmas.List.{length-map}
 use Rattle.std.proofs.Math.Seq.{drop-append_seam}
-use Rattle.meaning.specs.ListForm.{Name, Sign, mark, opening, closing, stray, Kind, letter, space, Kind.sign as sign_kind, kind_of, capital, Part, sign, atom, Letters, last, then, Follows, nothing, a_sign, a_space, Written, ended, spaced, signed, named}
+use Rattle.meaning.specs.ListForm.{Name, Sign, mark, opening, closing, stray, letter, space, Kind.sign as sign_kind, kind_of, capital, Part, sign, atom, Letters, last, then, Follows, nothing, a_sign, a_space, Written, ended, spaced, signed, named}
 use Rattle.meaning.specs.ListCall.{word}
 use Rattle.laws.specs.Texts.Answered.{word_of}
 use Rattle.text_words.specs.Seeking.{to_atom, past_atom, atom_from}

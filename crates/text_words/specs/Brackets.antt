@@ -1,5 +1,5 @@
 -- The search for a list by its brackets, over the parts that a text consists of.
-use Rattle.std.specs.Prelude.{ℕ, suc, ◌+◌, ◌-◌, ◌≤◌, ◌<◌, ◌≡◌, refl, Bool, true, false, cond, eqb, length}
+use Rattle.std.specs.Prelude.{ℕ, suc, ◌-◌, ◌≤◌, ◌<◌, ◌≡◌, refl, Bool, true, false, cond, length}
 use Rattle.std.proofs.Common.{arith, ◌∙◌, ap, eq-eqb, ne_eqb}
 use mathlib.Core.List.{List, [], ◌∷◌, ◌++◌, map, append_assoc}
 use Rattle.meaning.specs.ListForm.{Name, opening, closing, Kind, letter, space, Kind.sign as sign_kind, kind_of, Part, sign, atom, in_brackets, parts_of, Letters, last, then, Written, ended, spaced, signed, named}

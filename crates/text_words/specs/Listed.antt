@@ -1,7 +1,7 @@
 -- What is found in a text is what it lists: the name of a module, and the atoms of an occurrence.
-use Rattle.std.specs.Prelude.{ℕ, ◌+◌, ◌<◌, ◌≡◌, refl, List, [], ◌∷◌, ◌++◌, map, length}
+use Rattle.std.specs.Prelude.{ℕ, ◌<◌, ◌≡◌, refl, List, [], ◌∷◌, ◌++◌, map, length}
 use Rattle.std.proofs.Common.{arith, sym, ◌∙◌, ap, subst, append_assoc}
-use Rattle.meaning.specs.ListForm.{Name, ListedOccurrence, ListedModule, mark, opening, closing, Part, sign, atom, in_brackets, parts_of, net_parts, occurrence_parts, module_parts, list_parts, Written, Lists, plain, quoted}
+use Rattle.meaning.specs.ListForm.{Name, ListedOccurrence, ListedModule, opening, closing, Part, sign, atom, in_brackets, parts_of, net_parts, occurrence_parts, module_parts, list_parts, Written, Lists, plain, quoted}
 use Rattle.meaning.specs.ListCall.{word}
 use Rattle.text_words.specs.Seeking.{atom_from, module_from, occurrence_from}
 use Rattle.text_words.specs.Brackets.{behind_parts, parts-behind, Passed, pass_both, pass_atom, pass_atoms, pass_each, opened, over-list, pass_list, in_order}

@@ -7,9 +7,10 @@ ghost use Rattle.std.specs.Prelude.{◌≡◌, map, ◌+◌, ◌≤◌, ◌<◌,
 ghost use Rattle.meaning.specs.ListForm.{kind_of, capital};
 ghost use Rattle.meaning.specs.ListNumbers.{same_name};
 ghost use Rattle.text_modes.specs.Modes.{kind_code};
-ghost use Rattle.text_words.specs.Seeking.{cursor_after, behind, to_atom, atom_from, Sought, as_written, module_from, occurrence_from, first_named};
+ghost use Rattle.text_modes.specs.Kinds.{if_below};
+ghost use Rattle.text_words.specs.Seeking.{going, cursor_after, behind, to_atom, atom_from, Sought, as_written, module_from, occurrence_from, first_named};
 
-use text_modes::{atom_end, kind};
+use text_modes::{ByteKind, atom_end, kind};
 use text_names::capital;
 
 // Where the search for a list stands: whether its opening bracket is met, how many brackets are open, and how many lists of the level are
@@ -21,51 +22,33 @@ struct Cursor {
     more: usize,
 }
 
+impl Cursor {
+    // Not at the bracket yet.
+    fn going(depth: usize, more: usize) -> Self
+        ensures { result ≡ going depth more }
+    {
+        Self {
+            met: false,
+            depth,
+            more,
+        }
+    }
+}
+
 fn step(b: u8, level: usize, depth: usize, more: usize) -> Cursor
     requires { depth + 1 < 2 ^ 64 }
     ensures { result ≡ cursor_after (kind_code (kind_of b)) level depth more }
 {
     match kind(b) {
-        1 => {
-            if depth != level {
-                return Cursor {
-                    met: false,
-                    depth: depth + 1,
-                    more,
-                };
-            }
-            if more == 0 {
-                return Cursor {
-                    met: true,
-                    depth,
-                    more,
-                };
-            }
-            Cursor {
-                met: false,
-                depth: depth + 1,
-                more: more - 1,
-            }
-        }
-        2 => {
-            if depth == 0 {
-                return Cursor {
-                    met: false,
-                    depth,
-                    more,
-                };
-            }
-            Cursor {
-                met: false,
-                depth: depth - 1,
-                more,
-            }
-        }
-        _ => Cursor {
-            met: false,
+        ByteKind::Opening if depth != level => Cursor::going(depth + 1, more),
+        ByteKind::Opening if more == 0 => Cursor {
+            met: true,
             depth,
             more,
         },
+        ByteKind::Opening => Cursor::going(depth + 1, more - 1),
+        ByteKind::Closing => Cursor::going(depth.saturating_sub(1), more),
+        _ => Cursor::going(depth, more),
     }
 }
 
@@ -76,20 +59,14 @@ fn behind(text: &[u8], from: usize, level: usize, depth: usize, more: usize) -> 
     requires depth_bound { depth ≤ 2 }
     ensures { Sought text.now result (behind level depth more (drop from text.now)) }
 {
-    let mut i = from;
-    let mut cursor = Cursor {
-        met: false,
-        depth,
-        more,
-    };
-    while i < text.len() {
+    let mut cursor = Cursor::going(depth, more);
+    for i in from..text.len() {
         cursor = step(text[i], level, cursor.depth, cursor.more);
-        i += 1;
         if cursor.met {
-            return i;
+            return i + 1;
         }
     }
-    i
+    text.len()
 }
 
 // Where the next atom begins.
@@ -97,14 +74,12 @@ fn next_atom(text: &[u8], from: usize) -> usize
     requires { from ≤ length text.now }
     ensures { Sought text.now result (to_atom (drop from text.now)) }
 {
-    let mut i = from;
-    while i < text.len() {
-        if kind(text[i]) == 4 {
+    for i in from..text.len() {
+        if let ByteKind::Letter = kind(text[i]) {
             return i;
         }
-        i += 1;
     }
-    i
+    text.len()
 }
 
 // Where an atom begins that has so many in front of it from a place on.
@@ -113,10 +88,8 @@ fn atom_from(text: &[u8], from: usize, more: usize) -> usize
     ensures { Sought text.now result (atom_from more (drop from text.now)) }
 {
     let mut i = next_atom(text, from);
-    let mut left = more;
-    while 0 < left {
+    for _ in 0..more {
         i = next_atom(text, atom_end(text, i));
-        left -= 1;
     }
     i
 }
@@ -175,16 +148,14 @@ pub fn is_same(one: &[u8], other: &[u8]) -> bool
     true
 }
 
-// The position of the first module that has a name; 128 where none of so many has.
-pub fn module_named(text: &[u8], name: &[u8]) -> usize
-    ensures { result ≡ first_named 128 0 text.now (map capital name.now) }
+// The position of the first module that has a name, of the 128 that a text may have.
+pub fn module_named(text: &[u8], name: &[u8]) -> Option<usize>
+    ensures { result ≡ if_below 128 (first_named 128 0 text.now (map capital name.now)) }
 {
-    let mut k = 0;
-    while k < 128 {
+    for k in 0..128 {
         if is_same(module_name(text, k), name) {
-            return k;
+            return Some(k);
         }
-        k += 1;
     }
-    k
+    None
 }

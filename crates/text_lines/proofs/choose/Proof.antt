@@ -4,9 +4,6 @@ use Rattle.text_lines.proofs.Walks.{indent-within, shows}
 use borrow.Author.Rules.{rules}
 use Rattle.text_lines.proofs.choose.Statement.{statement}
 use Rattle.text_lines.proofs.choose.Tie as tie
-use Rattle.text_lines.proofs.choose.Reads as reads
-use Rattle.text_lines.proofs.choose.Lts as lts
-use Rattle.text_lines.proofs.kept.Reads as kept-reads
 
 -- src/lib.rt:92:9
 kept-requires : tie.Need-kept-indent-requires

@@ -3,8 +3,6 @@ use Rattle.text_lines.proofs.Walks.{feed-ends, other_not, return_last, return_ne
 use borrow.Author.Rules.{rules}
 use Rattle.text_lines.proofs.ends_line.Statement.{statement}
 use Rattle.text_lines.proofs.ends_line.Tie as tie
-use Rattle.text_lines.proofs.ends_line.Reads as reads
-use Rattle.text_lines.proofs.ends_line.Lts as lts
 
 -- src/lib.rt:12:8
 shared-slice-read-if1 : tie.Need-bounds-text-i

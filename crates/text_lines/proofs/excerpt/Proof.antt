@@ -2,10 +2,6 @@ use borrow.Author.Rules.{rules}
 use Rattle.text_lines.proofs.Walks.{excerpt_there}
 use Rattle.text_lines.proofs.excerpt.Statement.{statement}
 use Rattle.text_lines.proofs.excerpt.Tie as tie
-use Rattle.text_lines.proofs.excerpt.Reads as reads
-use Rattle.text_lines.proofs.excerpt.Lts as lts
-use Rattle.text_lines.proofs.choose.Reads as choose-reads
-use Rattle.text_lines.proofs.line_of.Reads as line-of-reads
 
 -- src/lib.rt:127:23
 line-of-requires : tie.Need-line_of-requires

@@ -3,10 +3,6 @@ use borrow.Author.Rules.{rules}
 use Rattle.text_lines.specs.Lines.{indent_of}
 use Rattle.text_lines.proofs.indent.Statement.{statement}
 use Rattle.text_lines.proofs.indent.Tie as tie
-use Rattle.text_lines.proofs.indent.Reads as reads
-use Rattle.text_lines.proofs.indent.Lts as lts
-use Rattle.text_lines.proofs.choose.Reads as choose-reads
-use Rattle.text_lines.proofs.line_of.Reads as line-of-reads
 
 -- src/lib.rt:120:12
 line-of-requires : tie.Need-line_of-requires

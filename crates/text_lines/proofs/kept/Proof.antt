@@ -1,8 +1,6 @@
 use borrow.Author.Tests.{lt-ltb, le-ltb}
 use Rattle.text_lines.proofs.kept.Statement.{statement}
 use Rattle.text_lines.proofs.kept.Tie as tie
-use Rattle.text_lines.proofs.kept.Reads as reads
-use Rattle.text_lines.proofs.kept.Lts as lts
 
 -- src/lib.rt:82:1
 returns : tie.Need-returns-then-left-gt60

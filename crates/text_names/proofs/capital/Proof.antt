@@ -4,8 +4,6 @@ use Rattle.text_names.specs.Capitals.{capital-under, capital-over, capital-lower
 use borrow.Author.Rules.{rules}
 use Rattle.text_names.proofs.capital.Statement.{statement}
 use Rattle.text_names.proofs.capital.Tie as tie
-use Rattle.text_names.proofs.capital.Reads as reads
-use Rattle.text_names.proofs.capital.Lts as lts
 
 -- src/lib.rt:16:9
 returns : tie.Need-returns-then-b-lt97

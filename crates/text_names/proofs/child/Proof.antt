@@ -1,14 +1,9 @@
-use Prim.Native.Nat.{◌<◌}
 use native.Mathlib.Omega.{arith}
 use mathlib.Core.Path.{sym, ◌∙◌}
 use borrow.Author.Rules.{rules}
 use Rattle.text_names.specs.Along.{Along, along-first, along-falls, along-next, along-found, along-none}
 use Rattle.text_names.proofs.child.Statement.{statement}
 use Rattle.text_names.proofs.child.Tie as tie
-use Rattle.text_names.proofs.child.Reads as reads
-use Rattle.text_names.proofs.child.Lts as lts
-use Rattle.text_names.proofs.letter.Reads as letter-reads
-use Rattle.text_names.proofs.wide.Reads as wide-reads
 
 abbrev invariant-loop : tie.invariant-loop-u
 invariant-loop tree count n c sought u₀ u = Along tree count n c u

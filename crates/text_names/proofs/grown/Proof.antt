@@ -1,11 +1,7 @@
-use mathlib.Core.Path.{sym, ap}
-use mathlib.Core.Bool.{cond}
 use borrow.Author.Rules.{rules}
 use borrow.Author.Tests.{eq-eqb, ne_eqb}
 use Rattle.text_names.proofs.grown.Statement.{statement}
 use Rattle.text_names.proofs.grown.Tie as tie
-use Rattle.text_names.proofs.grown.Reads as reads
-use Rattle.text_names.proofs.grown.Lts as lts
 
 -- src/lib.rt:79:9
 add-result : tie.Need-overflow_add-result

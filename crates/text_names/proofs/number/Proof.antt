@@ -3,10 +3,6 @@ use borrow.Author.Rules.{rules}
 use Rattle.text_names.specs.Entering.{walkable, ended, was-known, none_left, next-given}
 use Rattle.text_names.proofs.number.Statement.{statement}
 use Rattle.text_names.proofs.number.Tie as tie
-use Rattle.text_names.proofs.number.Reads as reads
-use Rattle.text_names.proofs.number.Lts as lts
-use Rattle.text_names.proofs.walk.Reads as walk-reads
-use Rattle.text_names.proofs.wide.Reads as wide-reads
 
 abbrev walked : tie.After-wide-given → tie.After-walk-reach
 walked k = k.before.before.before.before

@@ -4,10 +4,6 @@ use lib.ListN.{length-set}
 use Rattle.text_names.specs.Walking.{step-found, step-grown}
 use Rattle.text_names.proofs.step.Statement.{statement}
 use Rattle.text_names.proofs.step.Tie as tie
-use Rattle.text_names.proofs.step.Reads as reads
-use Rattle.text_names.proofs.step.Lts as lts
-use Rattle.text_names.proofs.child.Reads as child-reads
-use Rattle.text_names.proofs.letter.Reads as letter-reads
 
 -- src/lib.rt:59:9
 child-requires : tie.Need-child-u-requires

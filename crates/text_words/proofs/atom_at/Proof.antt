@@ -2,10 +2,6 @@ use Rattle.text_words.proofs.Steps.{atom-there, end-within}
 use borrow.Author.Rules.{rules}
 use Rattle.text_words.proofs.atom_at.Statement.{statement}
 use Rattle.text_words.proofs.atom_at.Tie as tie
-use Rattle.text_words.proofs.atom_at.Reads as reads
-use Rattle.text_words.proofs.atom_at.Lts as lts
-use Rattle.text_modes.proofs.atom_end.Reads as atom-end-reads
-use Rattle.text_words.proofs.atom_from.Reads as atom-from-reads
 
 -- src/lib.rt:130:9
 atom-from-requires : tie.Need-atom_from-start-requires

@@ -3,9 +3,6 @@ use lib.Dec.{eqb}
 use borrow.Author.Rules.{rules}
 use Rattle.text_words.proofs.is_alike.Statement.{statement}
 use Rattle.text_words.proofs.is_alike.Tie as tie
-use Rattle.text_words.proofs.is_alike.Reads as reads
-use Rattle.text_words.proofs.is_alike.Lts as lts
-use Rattle.text_names.proofs.capital.Reads as capital-reads
 
 -- src/lib.rt:161:5
 capital-requires : tie.Need-capital-requires

@@ -5,9 +5,6 @@ use borrow.Author.Rules.{rules}
 use Rattle.text_words.proofs.Steps.{Left, same-apart, same-on, same_none, same_length}
 use Rattle.text_words.proofs.is_same.Statement.{statement}
 use Rattle.text_words.proofs.is_same.Tie as tie
-use Rattle.text_words.proofs.is_same.Reads as reads
-use Rattle.text_words.proofs.is_same.Lts as lts
-use Rattle.text_words.proofs.is_alike.Reads as is-alike-reads
 
 abbrev invariant-loop : tie.invariant-loop-i
 invariant-loop one other i₀ i-end i = Left one other i

@@ -3,10 +3,6 @@ use Rattle.text_words.specs.Seeking.{as_written, atom_from}
 use borrow.Author.Rules.{rules}
 use Rattle.text_words.proofs.module_name.Statement.{statement}
 use Rattle.text_words.proofs.module_name.Tie as tie
-use Rattle.text_words.proofs.module_name.Reads as reads
-use Rattle.text_words.proofs.module_name.Lts as lts
-use Rattle.text_words.proofs.atom_at.Reads as atom-at-reads
-use Rattle.text_words.proofs.module_from.Reads as module-from-reads
 
 module-from-requires : tie.Need-module_from-from-requires
 module-from-requires c κs = search rules

@@ -1,16 +1,11 @@
 use native.Mathlib.Omega.{arith}
-use mathlib.Core.Path.{sym, ◌∙◌}
+use mathlib.Core.Path.{sym}
 use lib.Seq.{length-take-le}
 use lib.ListN.{length}
 use Rattle.text_file.specs.Delivers.{too_long, puttable, whole, shelved-whole}
 use borrow.Author.Rules.{rules}
 use Rattle.text_file.proofs.filing.file.Statement.{statement}
 use Rattle.text_file.proofs.filing.file.Tie as tie
-use Rattle.text_file.proofs.filing.file.Reads as reads
-use Rattle.text_file.proofs.filing.file.Lts as lts
-use Rattle.text_file.proofs.filing.deliver.Reads as deliver-reads
-use Rattle.text_file.proofs.filing.size.Reads as size-reads
-use Rattle.write_pieces.proofs.numbers.put_list.Reads as put-list-reads
 
 size-requires : tie.Need-size-requires
 size-requires c κs = c.requires.few

@@ -1,9 +1,6 @@
 use borrow.Author.Tests.{lt-ltb, le-ltb}
-use native.Mathlib.Omega.{arith}
 use Rattle.text_file.proofs.filing.width.Statement.{statement}
 use Rattle.text_file.proofs.filing.width.Tie as tie
-use Rattle.text_file.proofs.filing.width.Reads as reads
-use Rattle.text_file.proofs.filing.width.Lts as lts
 
 -- src/filing.rt:15:1
 returns : tie.Need-returns-then-number-lt128
