@@ -1,24 +1,17 @@
--- The numbers that a C caller gets, read off the library's answer: where it is a refusal, what stood behind a pointer before stays.
-use Rattle.std.specs.Prelude.{ℕ, List, [], ◌∷◌}
-use Rattle.answers.specs.declared.Writing.{Writing}
-use Rattle.answers.specs.declared.Writing.TheVariants.{Wrote, Refused}
+-- What a C caller gets beside the number and the place, read off the library's answer: where it is a refusal, what stood behind a pointer before
+-- stays.
+use Rattle.std.specs.Prelude.{ℕ, Result, Ok, Err, List, [], ◌∷◌}
+use Rattle.refusals.specs.declared.Refusal.{Refusal}
+use Rattle.answers.specs.declared.Run.{Run}
 use Rattle.call_count.specs.declared.counts.Figures.{Figures}
 
-abbrev pub number_in : Writing → ℕ
-number_in (Wrote count) = 0
-number_in (Refused number place) = number
+abbrev pub answer_or : {A : Type 0} → Result A Refusal → A → A
+answer_or (Ok answer) before = answer
+answer_or (Err r) before = before
 
-abbrev pub written_in : Writing → ℕ → ℕ
-written_in (Wrote count) before = count
-written_in (Refused number place) before = before
-
-abbrev pub work_in : Writing → (done before : ℕ) → ℕ
-work_in (Wrote count) done before = done
-work_in (Refused number place) done before = before
-
-abbrev pub place_in : Writing → ℕ
-place_in (Wrote count) = 0
-place_in (Refused number place) = place
+abbrev pub work_or : Result Run Refusal → ℕ → ℕ
+work_or (Ok run) before = run.work
+work_or (Err r) before = before
 
 abbrev pub figures_of : Figures → List ℕ
 figures_of f = f.inputs ∷ f.outputs ∷ f.gates ∷ f.size ∷ f.room ∷ f.delay ∷ f.load ∷ f.family ∷ []

@@ -2,52 +2,55 @@
 #![tactic(auto)]
 
 ghost use Rattle.std.specs.Prelude.{◌≡◌};
-ghost use Rattle.c_reports.specs.Read.{number_in, written_in, work_in, place_in, figures_of};
+ghost use Rattle.refusals.specs.Refused.{number_in, place_in};
+ghost use Rattle.answers.specs.Running.{writing_in};
+ghost use Rattle.c_reports.specs.Read.{answer_or, work_or, figures_of};
 
-use answers::{Run, Writing};
+use answers::Run;
 use call_count::counts::Figures;
+use refusals::Refusal;
 
 // The three numbers of an answer; of a refusal only two.
-pub fn report(answer: Writing, written: &mut usize, place: &mut usize) -> u16
+pub fn report<T: Copy>(answer: Result<T, Refusal>, answered: &mut T, place: &mut usize) -> u16
     ensures value { result ≡ number_in answer }
-    ensures written_after { written.new ≡ written_in answer written.old }
+    ensures answered_after { answered.new ≡ answer_or answer answered.old }
     ensures place_after { place.new ≡ place_in answer }
 {
     match answer {
-        Writing::Wrote(count) => {
-            *written = count;
+        Ok(found) => {
+            *answered = found;
             *place = 0;
             0
         }
-        Writing::Refused { number, place: at } => {
-            *place = at;
-            number
+        Err(refusal) => {
+            *place = refusal.place;
+            refusal.number
         }
     }
 }
 
 // The four numbers of a run that was answered; of a refusal only two.
-pub fn report_run(run: Run, written: &mut usize, work: &mut u32, place: &mut usize) -> u16
-    ensures value { result ≡ number_in run.writing }
-    ensures written_after { written.new ≡ written_in run.writing written.old }
-    ensures work_after { work.new ≡ work_in run.writing run.work work.old }
-    ensures place_after { place.new ≡ place_in run.writing }
+pub fn report_run(
+    answer: Result<Run, Refusal>,
+    written: &mut usize,
+    work: &mut u32,
+    place: &mut usize,
+) -> u16
+    ensures value { result ≡ number_in answer }
+    ensures written_after { written.new ≡ answer_or (writing_in answer) written.old }
+    ensures work_after { work.new ≡ work_or answer work.old }
+    ensures place_after { place.new ≡ place_in answer }
 {
-    let done = run.work;
-    let writing = run.writing;
-    match writing {
-        Writing::Wrote(count) => {
-            *written = count;
-            *work = done;
+    match answer {
+        Ok(run) => {
+            *written = run.written;
+            *work = run.work;
             *place = 0;
             0
         }
-        Writing::Refused {
-            number,
-            place: found,
-        } => {
-            *place = found;
-            number
+        Err(found) => {
+            *place = found.place;
+            found.number
         }
     }
 }

@@ -6,16 +6,17 @@ use native.Mathlib.Omega.{arith}
 use borrow.Author.Tests.{le-leb, lt-leb}
 use lib.ListN.{length, drop, replicate, length-replicate}
 use lib.Seq.{drop_at}
+use Rattle.std.specs.Prelude.{Ok, Err}
+use Rattle.refusals.specs.Refused.{refusal_at}
 use Rattle.meaning.specs.Figures.{room}
 use Rattle.meaning.specs.Calls.{Figures as Meant, figures_on}
 use Rattle.meaning.specs.Family.{family_delay, summary_on}
 use Rattle.run_engine.specs.Calls.{cleared}
 use Rattle.open_finding.specs.Standing.{Standing}
 use Rattle.open_finding.specs.declared.Site.{Site}
-use Rattle.call_count.specs.Answers.{Counts, refused_with, figures_of}
+use Rattle.call_count.specs.Answers.{Counts, figures_of}
 use Rattle.call_count.specs.Figuring.{Figured}
 use Rattle.call_count.specs.declared.counts.Figures.{Figures}
-use Rattle.call_count.specs.declared.counts.Counted.{Counted}
 
 -- Clearing the same entries twice is clearing them once.
 cleared-twice : (n : ℕ) (scratch : List ℕ) → cleared n (cleared n scratch) ≡ cleared n scratch
@@ -25,19 +26,18 @@ cleared-twice n scratch =
 module _ {image starts nets : List ℕ} {site : Site} (s : Standing image starts nets site) (family scratch : List ℕ) where
   -- 21: scratch has fewer entries than room.
   pub short-counts :
-      length scratch < site.room → {result : Counted} → result ≡ refused_with 21 0
-      → Counts (summary_on family site.number (length scratch) s.ms s.found.m) scratch scratch result
-  short-counts short is =
-      rw (lt-leb (room s.ms site.number) (length scratch) (omega (arith, s.room_is))) (record { is = is; scratch = refl })
+      length scratch < site.room → Counts (summary_on family site.number (length scratch) s.ms s.found.m) scratch scratch (Err (refusal_at 21 0))
+  short-counts short =
+      rw (lt-leb (room s.ms site.number) (length scratch) (omega (arith, s.room_is))) (record { is = refl; scratch = refl })
 
   -- The figures are the answer.
   pub answer-counts :
       {scratch' : List ℕ} → site.room ≤ length scratch → (figures : Figures)
       → Figured s.ms site.number s.found.m family scratch scratch' figures
-      → Counts (summary_on family site.number (length scratch) s.ms s.found.m) scratch scratch' (record { number = 0; place = 0; figures = figures })
+      → Counts (summary_on family site.number (length scratch) s.ms s.found.m) scratch scratch' (Ok figures)
   answer-counts enough figures f =
       rw (le-leb (room s.ms site.number) (length scratch) (omega (arith, s.room_is)))
-      (record { is = ap (λ (x : Figures). record { number = 0; place = 0; figures = x }) f.is; scratch = f.clean })
+      (record { is = ap Ok f.is; scratch = f.clean })
 
 module _ {image starts nets : List ℕ} {site : Site} (s : Standing image starts nets site) (scratch : List ℕ) where
   -- Scratch is cleared by the walk for the delays, and again by that for tally and load.

@@ -4,41 +4,25 @@ ghost use Rattle.meaning.specs.Family.{summary_on};
 ghost use Rattle.open_finding.specs.Standing.{Standing};
 ghost use Rattle.call_count.specs.Answers.{Counts};
 
-use crate::counts::Counted;
+use crate::counts::Figures;
 use families::Family;
+use image::Image;
 use open_finding::Site;
+use refusals::Refusal;
 
-// There is a load for each number of the image.
-pub fn count_small(
-    image: &[u16],
-    starts: &[usize],
-    nets: &[usize],
+// There is a load for each number of the image: in a list of N.
+pub fn count_in<const N: usize>(
+    image: Image<'_>,
     site: Site,
     family: Family,
     scratch: &mut [u32],
-) -> Counted
-    requires standing { Standing image.now starts.now nets.now site }
-    requires image_len_bound { length image.now ≤ 1024 }
-    ensures { (s : Standing image.now starts.now nets.now site)
+) -> Result<Figures, Refusal>
+    requires loads_bound { N ≤ 65535 }
+    requires standing { Standing image.numbers.now image.starts.now image.nets.now site }
+    requires image_len_bound { length image.numbers.now ≤ N }
+    ensures { (s : Standing image.entry.numbers.now image.entry.starts.now image.entry.nets.now site)
         → Counts (summary_on family.delays site.number (length scratch.old) s.ms s.found.m) scratch.old scratch.new result }
 {
-    let mut loads = [0u32; 1024];
-    crate::figuring::count_at(image, starts, nets, site, family, scratch, &mut loads)
-}
-
-pub fn count_large(
-    image: &[u16],
-    starts: &[usize],
-    nets: &[usize],
-    site: Site,
-    family: Family,
-    scratch: &mut [u32],
-) -> Counted
-    requires standing { Standing image.now starts.now nets.now site }
-    requires image_len_bound { length image.now ≤ 65535 }
-    ensures { (s : Standing image.now starts.now nets.now site)
-        → Counts (summary_on family.delays site.number (length scratch.old) s.ms s.found.m) scratch.old scratch.new result }
-{
-    let mut loads = [0u32; 65535];
-    crate::figuring::count_at(image, starts, nets, site, family, scratch, &mut loads)
+    let mut loads = [0u32; N];
+    crate::figuring::count_at(image, site, family, scratch, &mut loads)
 }

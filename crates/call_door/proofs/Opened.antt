@@ -1,4 +1,7 @@
 -- What is asked of a file that stands ready.
+use Rattle.refusals.specs.Refused.{refusal_at}
+use Rattle.std.specs.Prelude.{Result, Ok}
+use Rattle.refusals.specs.declared.Refusal.{Refusal}
 use Prim.Native.Nat.{ℕ, ◌<◌}
 use mathlib.Core.Path.{◌≡◌, sym, ap, subst, ◌∙◌}
 use mathlib.Core.List.{List}
@@ -7,18 +10,15 @@ use Rattle.meaning.specs.Calls.{Decision, answer, module_count, number_at, first
 use Rattle.open_finding.specs.Finding.{Searchable, FoundAt, Finds, site_of}
 use Rattle.open_finding.specs.Standing.{Standing}
 use Rattle.open_finding.specs.declared.Site.{Site}
-use Rattle.open_finding.specs.declared.Place.{Place}
-use Rattle.open_finding.specs.declared.Place.TheVariants.{At, Nowhere}
+use Rattle.std.specs.Prelude.{Option, Some, None}
 use Rattle.open_file.specs.Prepared.{Open}
 use Rattle.open_file.specs.Opening.{asks, searchable, asks_nobody, in_tables, stands, asks_of}
-use Rattle.answers.specs.Contents.{listed_of, named_of}
-use Rattle.answers.specs.declared.Listed.TheVariants as listed
-use Rattle.answers.specs.declared.Named.{Named}
+use Rattle.answers.specs.Contents.{found_of}
 use Rattle.call_door.specs.declared.asks.Ask.{Ask}
 use Rattle.call_door.specs.declared.asks.Ask.TheVariants.{Modules, NumberAt, Of}
 use Rattle.call_door.specs.declared.asks.Task.{Task}
 use Rattle.call_door.specs.declared.asks.Sheet.{Sheet}
-use Rattle.call_door.specs.Asks.{refused_sheet, Result, decides, Gives, Done, Meets}
+use Rattle.call_door.specs.Asks.{refused_sheet, Outcome, decides, Gives, Done, Meets}
 use Rattle.call_door.proofs.Refusing.{task_refused}
 
 module _ {image starts names nets sizes rooms : List ℕ} {modules : ℕ} (o : Open image starts names nets sizes rooms modules) where
@@ -26,35 +26,35 @@ module _ {image starts names nets sizes rooms : List ℕ} {modules : ℕ} (o : O
     same : (kind : Ask) → ask ≡ kind → Meets kind family o.file values scratch out scratch' out' r → Meets ask family o.file values scratch out scratch' out' r
     same kind is = subst (λ (a : Ask). Meets a family o.file values scratch out scratch' out' r) (sym is)
 
-    pub meets_modules : ask ≡ Modules → r.listed ≡ listed.Modules modules → Meets ask family o.file values scratch out scratch' out' r
+    pub meets_modules : ask ≡ Modules → r.listed ≡ Ok modules → Meets ask family o.file values scratch out scratch' out' r
     unfolding module_count
     meets_modules is told =
         same Modules is
-        (record { met = told ∙ sym (ap listed_of (asks o.opened (λ ms. answer (length ms)) ∙ ap answer (sym o.opened.all))) })
+        (record { met = told ∙ sym (ap found_of (asks o.opened (λ ms. answer (length ms)) ∙ ap answer (sym o.opened.all))) })
 
     pub meets_number :
-        {position : ℕ} {n : Named} → ask ≡ NumberAt position → r.named ≡ n
-        → ((s : Searchable names modules) → n ≡ named_of (first_number (drop position s.ms)))
+        {position : ℕ} {n : Result ℕ Refusal} → ask ≡ NumberAt position → r.named ≡ n
+        → ((s : Searchable names modules) → n ≡ found_of (first_number (drop position s.ms)))
         → Meets ask family o.file values scratch out scratch' out' r
     unfolding number_at
     meets_number {position} is told found =
         same (NumberAt position) is
         (record {
-          met = told ∙ found (searchable o.opened) ∙ sym (ap named_of (asks o.opened (λ ms. first_number (drop position ms))));
+          met = told ∙ found (searchable o.opened) ∙ sym (ap found_of (asks o.opened (λ ms. first_number (drop position ms))));
         })
 
-  module _ (number : ℕ) (place : Place) (finds : (s : Searchable names modules) → Finds place s.ms number) where
+  module _ (number : ℕ) (place : Option ℕ) (finds : (s : Searchable names modules) → Finds place s.ms number) where
     pub meets_nowhere :
-        {ask : Ask} {task : Task} {family values scratch out : List ℕ} {r : Sheet} → ask ≡ Of task number → place ≡ Nowhere → r ≡ refused_sheet 18 0
+        {ask : Ask} {task : Task} {family values scratch out : List ℕ} {r : Sheet} → ask ≡ Of task number → place ≡ None → r ≡ refused_sheet (refusal_at 18 0)
         → Meets ask family o.file values scratch out scratch out r
     meets_nowhere {ask} {task} {family} {values} {scratch} {out} is none told =
-        let nobody = subst (λ (p : Place). Finds p o.opened.ms number) none (finds (searchable o.opened)) in
+        let nobody = subst (λ (p : Option ℕ). Finds p o.opened.ms number) none (finds (searchable o.opened)) in
         same (Of task number) is
         (rw told (task_refused 18 0 scratch out family o.file values number task (asks_nobody o.opened number nobody)))
 
-    module _ {k : ℕ} (at : place ≡ At k) where
+    module _ {k : ℕ} (at : place ≡ Some k) where
       found : FoundAt o.opened.ms number k
-      found = subst (λ (p : Place). Finds p o.opened.ms number) at (finds (searchable o.opened))
+      found = subst (λ (p : Option ℕ). Finds p o.opened.ms number) at (finds (searchable o.opened))
 
       pub in_lists : (k < length sizes) × (k < length rooms)
       in_lists = in_tables o.opened found
@@ -73,7 +73,7 @@ module _ {image starts names nets sizes rooms : List ℕ} {modules : ℕ} (o : O
           same (Of task number) is
           (record {
             met =
-                subst (λ (d : Decision (Result task)). Gives task d scratch out scratch' out' r)
+                subst (λ (d : Decision (Outcome task)). Gives task d scratch out scratch' out' r)
                 (sym (asks_of o.opened found (decides task family number values (length scratch) (length out))))
                 (subst
                 (λ (site : Site). (s : Standing image starts nets site) → Done task family site.number values scratch out s.ms s.found.m scratch' out' r)

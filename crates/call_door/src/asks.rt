@@ -2,8 +2,9 @@
 ghost use Rattle.std.specs.Prelude.{◌≡◌};
 ghost use Rattle.call_door.specs.Asks.{refused_sheet};
 
-use answers::{Listed, Named, Run, Writing};
-use call_count::counts::Counted;
+use answers::Run;
+use call_count::counts::Figures;
+use refusals::Refusal;
 
 // What is asked of a module, and done in lists of its own.
 #[derive(Clone, Copy)]
@@ -31,84 +32,59 @@ pub enum Ask {
 // A field for each kind of answer. A refusal is in all of them, an answer in its own.
 #[derive(Clone, Copy)]
 pub struct Sheet {
-    pub writing: Writing,
-    pub work: u32,
-    pub counted: Counted,
-    pub listed: Listed,
-    pub named: Named,
+    pub ran: Result<Run, Refusal>,
+    pub counted: Result<Figures, Refusal>,
+    pub wrote: Result<usize, Refusal>,
+    pub listed: Result<usize, Refusal>,
+    pub named: Result<u16, Refusal>,
 }
 
-pub(crate) fn refused(number: u16, place: usize) -> Sheet
-    ensures { result ≡ refused_sheet number place }
+pub(crate) fn refused(refusal: Refusal) -> Sheet
+    ensures { result ≡ refused_sheet refusal }
 {
     Sheet {
-        writing: Writing::Refused { number, place },
-        work: 0,
-        counted: call_count::counts::refused(number, place),
-        listed: Listed::Refused { number, place },
-        named: Named::Refused { number, place },
+        ran: Err(refusal),
+        counted: Err(refusal),
+        wrote: Err(refusal),
+        listed: Err(refusal),
+        named: Err(refusal),
     }
 }
 
-pub(crate) fn wrote(writing: Writing) -> Sheet
-    ensures { result.writing ≡ writing }
-{
-    Sheet {
-        writing,
-        work: 0,
-        counted: call_count::counts::refused(0, 0),
-        listed: Listed::Modules(0),
-        named: Named::Number(0),
-    }
+// Of an answer in its own field nobody reads the others.
+fn blank() -> Sheet {
+    refused(Refusal {
+        number: 0,
+        place: 0,
+    })
 }
 
-pub(crate) fn ran(run: Run) -> Sheet
-    ensures writing_value { result.writing ≡ run.writing }
-    ensures work_value { result.work ≡ run.work }
+pub(crate) fn ran(ran: Result<Run, Refusal>) -> Sheet
+    ensures { result.ran ≡ ran }
 {
-    let writing = run.writing;
-    let work = run.work;
-    Sheet {
-        writing,
-        work,
-        counted: call_count::counts::refused(0, 0),
-        listed: Listed::Modules(0),
-        named: Named::Number(0),
-    }
+    Sheet { ran, ..blank() }
 }
 
-pub(crate) fn counted(counted: Counted) -> Sheet
+pub(crate) fn counted(counted: Result<Figures, Refusal>) -> Sheet
     ensures { result.counted ≡ counted }
 {
-    Sheet {
-        writing: Writing::Wrote(0),
-        work: 0,
-        counted,
-        listed: Listed::Modules(0),
-        named: Named::Number(0),
-    }
+    Sheet { counted, ..blank() }
 }
 
-pub(crate) fn listed(listed: Listed) -> Sheet
+pub(crate) fn wrote(wrote: Result<usize, Refusal>) -> Sheet
+    ensures { result.wrote ≡ wrote }
+{
+    Sheet { wrote, ..blank() }
+}
+
+pub(crate) fn listed(listed: Result<usize, Refusal>) -> Sheet
     ensures { result.listed ≡ listed }
 {
-    Sheet {
-        writing: Writing::Wrote(0),
-        work: 0,
-        counted: call_count::counts::refused(0, 0),
-        listed,
-        named: Named::Number(0),
-    }
+    Sheet { listed, ..blank() }
 }
 
-pub(crate) fn named(named: Named) -> Sheet
+pub(crate) fn named(named: Result<u16, Refusal>) -> Sheet
     ensures { result.named ≡ named }
 {
-    Sheet {
-        writing: Writing::Wrote(0),
-        work: 0,
-        counted: call_count::counts::refused(0, 0),
-        listed: Listed::Modules(0),
-        named,
-    }
+    Sheet { named, ..blank() }
 }

@@ -12,16 +12,17 @@ ghost use Rattle.answers.specs.Settled.{Settles};
 ghost use Rattle.call_evaluate.specs.Evaluates.{Evaluates};
 ghost use Rattle.call_rows.specs.Blocks.{EvaluatesRows};
 ghost use Rattle.call_count.specs.Answers.{Counts};
-ghost use Rattle.answers.specs.Contents.{listed_of, named_of};
+ghost use Rattle.answers.specs.Contents.{found_of};
 
 use crate::asks::{Ask, Own, Task};
-use answers::{Listed, Named, Run, Writing};
-use call_count::counts::Counted;
+use answers::Run;
+use call_count::counts::Figures;
 use families::Family;
+use refusals::Refusal;
 
 // How many modules a file has.
-pub fn modules(file: &[u8]) -> Listed
-    ensures { result ≡ listed_of (module_count file.now) }
+pub fn modules(file: &[u8]) -> Result<usize, Refusal>
+    ensures { result ≡ found_of (module_count file.now) }
 {
     let mut scratch = [0u32; 1];
     let mut out = [0u8; 1];
@@ -37,8 +38,8 @@ pub fn modules(file: &[u8]) -> Listed
 }
 
 // The number of the module at a position of a file; 18 where the file has no such position.
-pub fn number_at(file: &[u8], position: usize) -> Named
-    ensures { result ≡ named_of (number_at file.now position) }
+pub fn number_at(file: &[u8], position: usize) -> Result<u16, Refusal>
+    ensures { result ≡ found_of (number_at file.now position) }
 {
     let mut scratch = [0u32; 1];
     let mut out = [0u8; 1];
@@ -54,7 +55,13 @@ pub fn number_at(file: &[u8], position: usize) -> Named
 }
 
 // The outputs of the module of a number for the values of its inputs, as the first bytes of `out`; and how much work the run was.
-pub fn evaluate(file: &[u8], number: u16, values: &[u8], scratch: &mut [u32], out: &mut [u8]) -> Run
+pub fn evaluate(
+    file: &[u8],
+    number: u16,
+    values: &[u8],
+    scratch: &mut [u32],
+    out: &mut [u8],
+) -> Result<Run, Refusal>
     ensures { Evaluates file.now number values.now scratch.old out.old scratch.new out.new result }
 {
     let sheet = crate::opening::answer(
@@ -65,9 +72,7 @@ pub fn evaluate(file: &[u8], number: u16, values: &[u8], scratch: &mut [u32], ou
         scratch,
         out,
     );
-    let writing = sheet.writing;
-    let work = sheet.work;
-    Run { writing, work }
+    sheet.ran
 }
 
 // The outputs of the module of a number for rows of values, row by row; and how much work they were.
@@ -78,7 +83,7 @@ pub fn evaluate_rows(
     values: &[u8],
     scratch: &mut [u32],
     out: &mut [u8],
-) -> Run
+) -> Result<Run, Refusal>
     ensures { EvaluatesRows file.now number rows values.now scratch.old out.old scratch.new out.new result }
 {
     let sheet = crate::opening::answer(
@@ -89,13 +94,16 @@ pub fn evaluate_rows(
         scratch,
         out,
     );
-    let writing = sheet.writing;
-    let work = sheet.work;
-    Run { writing, work }
+    sheet.ran
 }
 
 // The figures of the module of a number, with its delay by a chip family.
-pub fn count(file: &[u8], number: u16, family: Family, scratch: &mut [u32]) -> Counted
+pub fn count(
+    file: &[u8],
+    number: u16,
+    family: Family,
+    scratch: &mut [u32],
+) -> Result<Figures, Refusal>
     ensures { Counts (summary file.now number family.delays (length scratch.old)) scratch.old scratch.new result }
 {
     let mut out = [0u8; 1];
@@ -111,7 +119,12 @@ pub fn count(file: &[u8], number: u16, family: Family, scratch: &mut [u32]) -> C
 }
 
 // The module of a number, flattened into `out`.
-pub fn flatten(file: &[u8], number: u16, scratch: &mut [u32], out: &mut [u8]) -> Writing
+pub fn flatten(
+    file: &[u8],
+    number: u16,
+    scratch: &mut [u32],
+    out: &mut [u8],
+) -> Result<usize, Refusal>
     ensures { Settles (flattening file.now number (length scratch.old) (length out.old))
         scratch.old out.old scratch.new out.new result }
 {
@@ -123,5 +136,5 @@ pub fn flatten(file: &[u8], number: u16, scratch: &mut [u32], out: &mut [u8]) ->
         scratch,
         out,
     );
-    sheet.writing
+    sheet.wrote
 }

@@ -1,4 +1,5 @@
 -- The answer: where no refusal applies, what the run leaves is what is asked for.
+use Rattle.std.specs.Prelude.{Ok}
 use Prim.Native.Nat.{ℕ, ◌≤◌}
 use mathlib.Core.Path.{◌≡◌, sym, ap, ◌∙◌}
 use mathlib.Core.List.{List, map}
@@ -12,7 +13,6 @@ use Rattle.meaning.specs.Calls.{Decision, answer, first_above, Written, out_afte
 use Rattle.laws.specs.OutputCount.{output_count, length-of-evaluate}
 use Rattle.run_engine.specs.Calls.{Evaluable, Evaluated}
 use Rattle.answers.specs.Answers.{writing_of}
-use Rattle.answers.specs.declared.Writing.TheVariants.{Wrote}
 use Rattle.answers.specs.Settled.{Settles}
 use Rattle.open_finding.specs.Standing.{Standing}
 use Rattle.open_finding.specs.declared.Site.{Site}
@@ -39,14 +39,14 @@ module _
         → ((e : Evaluable image starts nets site.position site.room values scratch out)
         → Evaluated e.callable.rs site.position site.room values scratch out scratch' out')
         → count ≡ length s.found.m.outputs
-        → Settles (evaluation_on site.number values (length scratch) (length out) s.ms s.found.m) scratch out scratch' out' (Wrote count)
+        → Settles (evaluation_on site.number values (length scratch) (length out) s.ms s.found.m) scratch out scratch' out' (Ok count)
     answered runs counted =
         let ran = runs (runnable s fed wide long) in
         record {
           answered =
               record {
                 is =
-                    ap Wrote
+                    ap Ok
                     (counted
                     ∙ sym (ap output_count s.found.found)
                     ∙ sym (length-of-evaluate s.ms site.number (map value values))

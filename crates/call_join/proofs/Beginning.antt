@@ -21,24 +21,24 @@ use Rattle.bytes_out.specs.Puts.{put-more}
 use Rattle.open_finding.specs.Here.{here-at}
 use Rattle.open_finding.specs.Finding.{Searchable}
 use Rattle.open_places.specs.Places.{Shelved, Notes}
-use Rattle.open_places.specs.declared.Noted.{Noted}
-use Rattle.open_places.specs.declared.Noted.TheVariants as noted
+use Rattle.refusals.specs.declared.Refusal.{Refusal}
+use Rattle.std.specs.Prelude.{Result, Ok, Err}
 use Rattle.write_joined.specs.Marks.{Marks, Markable}
 use Rattle.write_joined.specs.Gathering.{Gathering, Gathers}
 use Rattle.write_joined.specs.declared.gathering.Gathered.{Gathered}
 use Rattle.join_ending.specs.Joins.{Joins, neither}
 use Rattle.join_ending.specs.Assembling.{Assembled}
 use Rattle.call_join.specs.Begun.{join_house, Begun, Spaces}
-use Rattle.join_ending.specs.declared.Joining.{Joining}
-use Rattle.join_ending.specs.declared.Joining.TheVariants.{Refused}
+use Rattle.two_files.specs.Whose.{refusal_of}
+use Rattle.two_files.specs.declared.ShelfRefusal.{ShelfRefusal}
 
 -- What noting a file's modules says of its answer.
-module _ (file names places : List ℕ) (r : Noted) (n : Notes r file names places) where
-  pub noted-shelved : (modules : ℕ) → r ≡ noted.Modules modules → Shelved file modules names places
-  noted-shelved modules e = subst (λ (x : Noted). Notes x file names places) e n
+module _ (file names places : List ℕ) (r : Result ℕ Refusal) (n : Notes r file names places) where
+  pub noted-shelved : (modules : ℕ) → r ≡ Ok modules → Shelved file modules names places
+  noted-shelved modules e = subst (λ (x : Result ℕ Refusal). Notes x file names places) e n
 
-  pub noted-fails : (number place : ℕ) → r ≡ noted.Refused number place → read file ≡ fails number place
-  noted-fails number place e = subst (λ (x : Noted). Notes x file names places) e n
+  pub noted-fails : (refusal : Refusal) → r ≡ Err refusal → read file ≡ fails refusal.number refusal.place
+  noted-fails refusal e = subst (λ (x : Result ℕ Refusal). Notes x file names places) e n
 
 zeros-clear : (n x : ℕ) → ◌≡◌ {A = ℕ} (get_or (replicate n 0) x 0) 0
 zeros-clear zero x = refl
@@ -144,28 +144,31 @@ module _ {house : List ℕ} {own : Gathered} {marks numbers bytes : List ℕ} (b
           }
 
       pub joins_house :
-          (out : ℕ) {before after : List ℕ} {result : Joining}
+          (out : ℕ) {before after : List ℕ} {result : Result ℕ ShelfRefusal}
           → Joins (neither (join_on out (joined b.own s.ms))) before after result
           → Joins (join_house b.own house out) before after result
       joins_house out j = rw s.reads j
 
--- The group's modules gathered.
-module _ {group house numbers bytes : List ℕ} (spaces : Spaces group house numbers bytes) where
-  pub refused-group : (out : ℕ) (before : List ℕ) {number place : ℕ} → read group ≡ fails number place
-      → Joins (joining group house out) before before (Refused 1 number place)
-  unfolding joining
-  refused-group out before e = rw e (record { is = refl; out = refl })
+-- The group's file does not read.
+pub refused-group :
+    (group house : List ℕ) (out : ℕ) (before : List ℕ) {number place : ℕ} → read group ≡ fails number place
+    → Joins (joining group house out) before before (Err (refusal_of 1 number place))
+unfolding joining
+refused-group group house out before e = rw e (record { is = refl; out = refl })
 
+-- The group's modules gathered.
+module _ {group house : List ℕ} {numbers bytes : ℕ} (spaces : Spaces group house numbers bytes) where
   module _ {modules : ℕ} {names places : List ℕ} (s : Shelved group modules names places) where
     abbrev pub begun :
-        {numbers' marks bytes' : List ℕ} {at : ℕ}
-        → length numbers' ≡ length numbers
-        → length bytes' ≡ length bytes
+        {numbers' marks before bytes' : List ℕ} {at : ℕ}
+        → length numbers' ≡ numbers
+        → length before ≡ bytes
+        → length bytes' ≡ bytes
         → 16384 ≤ length marks
         → Marks marks s.ms
-        → Put (take (length group - get_or places 0 0) (drop (get_or places 0 0) group)) bytes 2 bytes' at
+        → Put (take (length group - get_or places 0 0) (drop (get_or places 0 0) group)) before 2 bytes' at
         → Begun house (record { modules = modules; at = at }) marks numbers' bytes'
-    begun {bytes' = bytes'} {at} long_numbers long_bytes indexes marked put =
+    begun {before = before} {bytes'} {at} long_numbers long_before long_bytes indexes marked put =
         record {
           own = s.ms;
           count = s.all;
@@ -173,16 +176,17 @@ module _ {group house numbers bytes : List ℕ} (spaces : Spaces group house num
           marked = marked;
           indexes = indexes;
           numbers_fit = omega (arith, spaces.house_fits);
-          before = bytes;
-          put = subst (λ (l : List ℕ). Put l bytes 2 bytes' at) (rest-is s) put;
+          before = before;
+          put = subst (λ (l : List ℕ). Put l before 2 bytes' at) (rest-is s) put;
           front = omega (arith, spaces.bytes_fit);
           room = omega (arith, put.place, ap length (rest-is s), (modules-length s).0, (modules-length s).1, spaces.bytes_fit);
-          kept = long_bytes;
+          kept = omega (arith, long_before, long_bytes);
         }
 
-    pub joins_both :
-        (out : ℕ) {before after : List ℕ} {result : Joining}
-        → Joins (join_house s.ms house out) before after result
-        → Joins (joining group house out) before after result
-    unfolding joining
-    joins_both out j = rw s.reads j
+module _ {group : List ℕ} {modules : ℕ} {names places : List ℕ} (s : Shelved group modules names places) where
+  pub joins_both :
+      (house : List ℕ) (out : ℕ) {before after : List ℕ} {result : Result ℕ ShelfRefusal}
+      → Joins (join_house s.ms house out) before after result
+      → Joins (joining group house out) before after result
+  unfolding joining
+  joins_both house out j = rw s.reads j

@@ -28,8 +28,8 @@ pub record Begun (house : List ℕ) (gathered : Gathered) (marks numbers bytes :
   pub room : gathered.at + min (length house) most_bytes ≤ length bytes
   pub kept : length bytes ≡ length before
 
--- Lists to work in: long enough for the numbers of either file, and for the bytes of both behind two more.
-pub record Spaces (group house numbers bytes : List ℕ) : Type 0 where
-  pub group_fits : min (length group) most_bytes ≤ length numbers
-  pub house_fits : min (length house) most_bytes ≤ length numbers
-  pub bytes_fit : 2 + min (length group) most_bytes + min (length house) most_bytes ≤ length bytes
+-- How long the lists to work in are: enough for the numbers of either file, and for the bytes of both behind two more.
+pub record Spaces (group house : List ℕ) (numbers bytes : ℕ) : Type 0 where
+  pub group_fits : min (length group) most_bytes ≤ numbers
+  pub house_fits : min (length house) most_bytes ≤ numbers
+  pub bytes_fit : 2 + min (length group) most_bytes + min (length house) most_bytes ≤ bytes

@@ -7,67 +7,41 @@ ghost use Rattle.std.specs.Prelude.{◌≡◌};
 ghost use Rattle.meaning.specs.Shelves.{look_up, handed};
 ghost use Rattle.call_look_up.specs.Looking.{chosen_of, looked_of};
 
-use crate::seeking::{Sought, seek};
+pub use crate::seeking::Stretch;
+use crate::seeking::seek;
+use refusals::Refusal;
+use two_files::{ShelfRefusal, Which};
 
-// Where the bytes of a module stand, in which of the two files; or the refusal, and which file it is about: 1 the group's, 2 the house's,
-// 0 neither.
-#[derive(Clone, Copy)]
+// Where the bytes of a module stand, in which of the two files.
+#[derive(Clone, Copy, PartialEq, Eq, Debug)]
 pub enum Looked {
-    Group {
-        start: usize,
-        length: usize,
-    },
-    House {
-        start: usize,
-        length: usize,
-    },
-    Refused {
-        which: u16,
-        number: u16,
-        place: usize,
-    },
+    Group(Stretch),
+    House(Stretch),
 }
 
 // The group's file comes first, with its refusal and with its module.
-fn choose(group: Sought, house: Sought) -> Looked
+fn choose(
+    group: Result<Option<Stretch>, Refusal>,
+    house: Result<Option<Stretch>, Refusal>,
+) -> Result<Looked, ShelfRefusal>
     ensures { result ≡ chosen_of group house }
 {
-    match group {
-        Sought::Refused { number, place } => Looked::Refused {
-            which: 1,
-            number,
-            place,
-        },
-        Sought::At { start, length } => match house {
-            Sought::Refused { number, place } => Looked::Refused {
-                which: 2,
-                number,
-                place,
-            },
-            Sought::At {
-                start: _,
-                length: _,
-            } => Looked::Group { start, length },
-            Sought::Absent => Looked::Group { start, length },
-        },
-        Sought::Absent => match house {
-            Sought::Refused { number, place } => Looked::Refused {
-                which: 2,
-                number,
-                place,
-            },
-            Sought::At { start, length } => Looked::House { start, length },
-            Sought::Absent => Looked::Refused {
-                which: 0,
-                number: 18,
-                place: 0,
-            },
-        },
+    let which = Which::Group;
+    let own = group.map_err(|refusal| ShelfRefusal { which, refusal })?;
+    let which = Which::House;
+    let other = house.map_err(|refusal| ShelfRefusal { which, refusal })?;
+    match (own, other) {
+        (Some(stretch), _) => Ok(Looked::Group(stretch)),
+        (None, Some(stretch)) => Ok(Looked::House(stretch)),
+        (None, None) => Err(ShelfRefusal {
+            which: Which::Neither,
+            refusal: Refusal::at(18, 0),
+        }),
     }
 }
 
 // Which of the two files the module is in, and where.
-pub fn which_shelf(group: &[u8], house: &[u8], number: u16) -> Looked
+pub fn which_shelf(group: &[u8], house: &[u8], number: u16) -> Result<Looked, ShelfRefusal>
     ensures { result ≡ looked_of (look_up group.now house.now number) }
 {
     choose(seek(group, number), seek(house, number))
@@ -78,18 +52,8 @@ pub fn look_up<'a>(group: &'a [u8], house: &'a [u8], number: u16) -> &'a [u8]
     ensures { result.now ≡ handed (look_up group.now house.now number).decision }
 {
     match which_shelf(group, house, number) {
-        Looked::Group { start, length } => {
-            return &group[start..start + length];
-        }
-        Looked::House { start, length } => {
-            return &house[start..start + length];
-        }
-        Looked::Refused {
-            which: _,
-            number: _,
-            place: _,
-        } => {
-            return &group[..0];
-        }
+        Ok(Looked::Group(Stretch { start, length })) => &group[start..start + length],
+        Ok(Looked::House(Stretch { start, length })) => &house[start..start + length],
+        Err(_) => &group[..0],
     }
 }

@@ -3,53 +3,41 @@ ghost use Rattle.std.specs.Prelude.{min, ◌≤◌, ◌≡◌, length};
 ghost use Rattle.meaning.specs.Reading.{read, most_bytes};
 ghost use Rattle.call_look_up.specs.Seeking.{sought_of};
 
-use open_finding::Place;
-use open_places::Noted;
+use refusals::Refusal;
 
-// Where the bytes of the first module of the number stand; or there is none; or the refusal of a file that does not read.
-#[derive(Clone, Copy)]
-pub(crate) enum Sought {
-    At { start: usize, length: usize },
-    Absent,
-    Refused { number: u16, place: usize },
+// Where the bytes of a module stand in a file.
+#[derive(Clone, Copy, PartialEq, Eq, Debug)]
+pub struct Stretch {
+    pub start: usize,
+    pub length: usize,
 }
 
-// The list of numbers is only worked in.
-fn seek_with(file: &[u8], number: u16, numbers: &mut [u16]) -> Sought
-    requires { min (length file.now) most_bytes ≤ length numbers.old }
+// The first module of the number, if the file has one; or the refusal of a file that does not read. The list of N numbers is only worked in.
+fn seek_in<const N: usize>(file: &[u8], number: u16) -> Result<Option<Stretch>, Refusal>
+    requires size { N ≤ 65535 }
+    requires fits { min (length file.now) most_bytes ≤ N }
     ensures { result ≡ sought_of number (read file.now) }
 {
+    let mut numbers = [0u16; N];
     let mut names = [0u16; 128];
     let mut places = [0usize; 129];
-    match open_places::note(file, numbers, &mut names, &mut places) {
-        Noted::Refused {
-            number: refusal,
-            place,
-        } => Sought::Refused {
-            number: refusal,
-            place,
-        },
-        Noted::Modules(modules) => match open_finding::find(&names, modules, number) {
-            Place::Nowhere => Sought::Absent,
-            Place::At(k) => {
-                let start = places[k];
-                Sought::At {
-                    start,
-                    length: places[k + 1] - start,
-                }
-            }
-        },
-    }
+    let modules = open_places::note(file, &mut numbers, &mut names, &mut places)?;
+    let Some(k) = open_finding::find(&names, modules, number) else {
+        return Ok(None);
+    };
+    let start = places[k];
+    Ok(Some(Stretch {
+        start,
+        length: places[k + 1] - start,
+    }))
 }
 
 // A short file should not pay for clearing a long list.
-pub(crate) fn seek(file: &[u8], number: u16) -> Sought
+pub(crate) fn seek(file: &[u8], number: u16) -> Result<Option<Stretch>, Refusal>
     ensures { result ≡ sought_of number (read file.now) }
 {
     if file.len() <= 1024 {
-        let mut numbers = [0u16; 1024];
-        return seek_with(file, number, &mut numbers);
+        return seek_in::<1024>(file, number);
     }
-    let mut numbers = [0u16; 65535];
-    seek_with(file, number, &mut numbers)
+    seek_in::<65535>(file, number)
 }

@@ -1,5 +1,6 @@
 -- The tables that deciding the ceilings asks, from the file in the image and the counts of its four gates.
 use Prim.Native.Nat.{ℕ, ◌+◌, ◌≤◌, ◌<◌, zero-le}
+use Rattle.std.specs.Prelude.{Option, None, Some}
 use mathlib.Core.Path.{◌≡◌, sym, ap, ◌∙◌}
 use mathlib.Core.Bool.{Bool, true, false, cond}
 use mathlib.Core.List.{List, ◌∷◌}
@@ -28,8 +29,6 @@ use Rattle.open_finding.specs.Here.{here-at}
 use Rattle.open_finding.specs.Standing.{accepted, fits}
 use Rattle.rewrite_counts.specs.Fours.{Countable, Counted}
 use Rattle.rewrite_counts.specs.Ceilings.{Entry, OwnTable, Peopled, Netted, Sized, verdict_by}
-use Rattle.rewrite_counts.specs.declared.ceilings.Kept.{Kept}
-use Rattle.rewrite_counts.specs.declared.ceilings.Kept.TheVariants.{All, Broken}
 use Rattle.call_rewrite.specs.Standing.{Stood, countable, own-table}
 use Rattle.call_rewrite.specs.Growing.{Grown, finished}
 
@@ -107,17 +106,17 @@ module _ (new : List Module) (out : ℕ) where
   too_many e = rw e
 
   module _ (few : occurrences_ok new ≡ true) where
-    pub crowded : {place : ℕ} {kept : Kept} → nets_verdict 0 new ≡ verdict_by 16 kept → kept ≡ Broken place → rewritten out new ≡ refusal 16 place
+    pub crowded : {place : ℕ} {kept : Option ℕ} → nets_verdict 0 new ≡ verdict_by 16 kept → kept ≡ Some place → rewritten out new ≡ refusal 16 place
     crowded {place} e is = let v = e ∙ ap (verdict_by 16) is in rw (few, v)
 
-    module _ {first : Kept} (nets : nets_verdict 0 new ≡ verdict_by 16 first) (all : first ≡ All) where
-      pub large : {place : ℕ} {kept : Kept} → sizes_verdict 0 new ≡ verdict_by 17 kept → kept ≡ Broken place → rewritten out new ≡ refusal 17 place
+    module _ {first : Option ℕ} (nets : nets_verdict 0 new ≡ verdict_by 16 first) (all : first ≡ None) where
+      pub large : {place : ℕ} {kept : Option ℕ} → sizes_verdict 0 new ≡ verdict_by 17 kept → kept ≡ Some place → rewritten out new ≡ refusal 17 place
       large {place} e is =
           let n = nets ∙ ap (verdict_by 16) all in
           let v = e ∙ ap (verdict_by 17) is in
           rw (few, n, v)
 
-      pub kept-all : {kept : Kept} → sizes_verdict 0 new ≡ verdict_by 17 kept → kept ≡ All → rewritten out new ≡ finished new out
+      pub kept-all : {kept : Option ℕ} → sizes_verdict 0 new ≡ verdict_by 17 kept → kept ≡ None → rewritten out new ≡ finished new out
       kept-all e is =
           let n = nets ∙ ap (verdict_by 16) all in
           let v = e ∙ ap (verdict_by 17) is in

@@ -1,5 +1,5 @@
 -- What the rewriting rests on: the ceilings of the new file, and the file's own numbers.
-use Rattle.std.specs.Prelude.{ℕ, ◌≤◌, ◌<◌, ◌≡◌, true, List, leb, length, get_or}
+use Rattle.std.specs.Prelude.{ℕ, ◌≤◌, ◌<◌, ◌≡◌, true, Result, Ok, Err, List, leb, length, get_or}
 use Rattle.meaning.specs.Syntax.{Module}
 use Rattle.meaning.specs.Limits.{body_size, expanded_size}
 use Rattle.meaning.specs.Layout.{each, number_bytes, file_numbers, encode}
@@ -13,8 +13,9 @@ use Rattle.read_file.specs.Held.{in_front}
 use Rattle.open_finding.specs.Standing.{Held}
 use Rattle.open_beside.specs.Beside.{OpenedBeside}
 use Rattle.rewrite_counts.specs.Ceilings.{Entry}
+use Rattle.refusals.specs.declared.Refusal.{Refusal}
 use Rattle.call_rewrite.specs.declared.deciding.Decided.{Decided}
-use Rattle.call_rewrite.specs.declared.deciding.Decided.TheVariants.{Stays, Go, Refused}
+use Rattle.call_rewrite.specs.declared.deciding.Decided.TheVariants.{Stays, Go}
 
 -- The end of the decision, 1 and 22.
 abbrev pub finished : (new : List Module) (out : ℕ) → Decision Written
@@ -30,12 +31,12 @@ pub record Grown (image starts nets sizes : List ℕ) (modules own : ℕ) : Type
   pub own_long : most_modules ≤ own
 
 -- No module uses one of the four gates; or the new file breaks one of the ceilings 4, 16 and 17; or it keeps them and the end decides.
-abbrev pub DecidedOf : List Module → Decided → Type 0
-DecidedOf ms Stays = withdrawn_verdict 0 ms ≡ good
-DecidedOf ms Go = (occurrences_ok (rewrite_file ms) ≡ true) × ((out : ℕ) → rewritten out (rewrite_file ms) ≡ finished (rewrite_file ms) out)
-DecidedOf ms (Refused number place) = (out : ℕ) → rewritten out (rewrite_file ms) ≡ refusal number place
+abbrev pub DecidedOf : List Module → Result Decided Refusal → Type 0
+DecidedOf ms (Ok Stays) = withdrawn_verdict 0 ms ≡ good
+DecidedOf ms (Ok Go) = (occurrences_ok (rewrite_file ms) ≡ true) × ((out : ℕ) → rewritten out (rewrite_file ms) ≡ finished (rewrite_file ms) out)
+DecidedOf ms (Err r) = (out : ℕ) → rewritten out (rewrite_file ms) ≡ refusal r.number r.place
 
-pub record Decides (ms : List Module) (own : List ℕ) (r : Decided) : Type 0 where
+pub record Decides (ms : List Module) (own : List ℕ) (r : Result Decided Refusal) : Type 0 where
   pub says : DecidedOf ms r
   pub owned : Entry ms own (λ m later. fours m.occurrences)
 

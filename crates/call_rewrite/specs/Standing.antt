@@ -1,12 +1,14 @@
 -- A file that stands in the image: what counting its four gates asks, and what the counts say of its modules.
+use Rattle.std.specs.Prelude.{Result}
+use Rattle.refusals.specs.declared.Refusal.{Refusal}
 use Prim.Native.Nat.{ℕ, ◌+◌, ◌≤◌, ◌<◌, zero-le}
-use Rattle.std.specs.Prelude.{◌≡◌, refl, Bool, true, false, cond, List, [], ◌∷◌, map, length, get_or, drop, replicate}
+use Rattle.std.specs.Prelude.{◌≡◌, refl, Bool, true, false, cond, List, [], ◌∷◌, map, length, get_or, drop}
 use Rattle.std.proofs.Common.{sym, ap, ◌∙◌, arith, ne_eqb, ltb-false}
 use Rattle.meaning.specs.Syntax.{Occurrence, Module}
 use Rattle.meaning.specs.Gates.{is_gate}
 use Rattle.meaning.specs.Limits.{expanded_size, most_size}
 use Rattle.meaning.specs.Verdict.{Verdict, refused, file_verdict, and_then, verdict_of, verdict}
-use Rattle.meaning.specs.Reading.{File, holds, fails, read, most_modules}
+use Rattle.meaning.specs.Reading.{File, holds, fails, read}
 use Rattle.meaning.specs.Withdrawn.{withdrawn, withdrawn_verdict, strict_of, strict_verdict}
 use Rattle.laws.specs.Acceptable.{size-within}
 use Rattle.laws.specs.Withdrawn.Suits.{fours}
@@ -16,18 +18,10 @@ use Rattle.image.specs.ResolvedFigures.{expanded_size-resolved}
 use Rattle.image.specs.OwnNumbers.{own-number}
 use Rattle.image.specs.Imaged.{imaged}
 use Rattle.answers.specs.Judged.{check_of}
-use Rattle.answers.specs.declared.Checked.{Checked}
-use Rattle.open_file.specs.Prepared.{Space}
 use Rattle.open_finding.specs.Here.{here-at}
 use Rattle.open_finding.specs.Standing.{Held, accepted, fits}
 use Rattle.rewrite_counts.specs.Fours.{Countable, Counted}
 use Rattle.rewrite_counts.specs.Ceilings.{OwnTable}
-
--- Lists to work in, beside tables by position of zeros.
-abbrev pub Workable : (file image first slots : List ℕ) → Type 0
-Workable file image first slots =
-    let by_position = replicate {A = ℕ} most_modules 0 in
-    Space file image by_position by_position by_position by_position by_position first slots
 
 pub record Stood (image starts : List ℕ) (modules : ℕ) : Type 0 where
   pub ms : List Module
@@ -105,5 +99,5 @@ strict_accepted file ms reads accepted = rw (reads, accepted)
 
 -- The strict check's contract is an equation, so any two outcomes that it permits coincide.
 pub one_strict_verdict :
-    (file : List ℕ) {result result' : Checked} → result ≡ check_of (strict_verdict file) → result' ≡ check_of (strict_verdict file) → result ≡ result'
+    (file : List ℕ) {result result' : Result Unit Refusal} → result ≡ check_of (strict_verdict file) → result' ≡ check_of (strict_verdict file) → result ≡ result'
 one_strict_verdict file one other = one ∙ sym other

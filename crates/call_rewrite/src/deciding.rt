@@ -3,44 +3,43 @@
 ghost use Rattle.std.specs.Prelude.{length};
 ghost use Rattle.call_rewrite.specs.Growing.{Grown, Decides};
 
-use rewrite_counts::ceilings::Kept;
+use image::Image;
+use refusals::Refusal;
 
-#[derive(Clone, Copy)]
+// What becomes of a file that is not refused.
+#[derive(Clone, Copy, PartialEq, Eq, Debug)]
 pub(crate) enum Decided {
     Stays,
     Go,
-    Refused { number: u16, place: usize },
 }
 
 // On a file that stands in the image; the table gets how many of the four gates each module has.
 pub(crate) fn decide(
-    image: &[u16],
-    starts: &[usize],
-    nets: &[usize],
+    image: Image<'_>,
     sizes: &[u32],
     modules: usize,
     own: &mut [u32],
-) -> Decided
-    requires { Grown image.now starts.now nets.now sizes.now modules (length own.old) }
-    ensures { (g : Grown image.now starts.now nets.now sizes.now modules (length own.old))
+) -> Result<Decided, Refusal>
+    requires { Grown image.numbers.now image.starts.now image.nets.now sizes.now modules (length own.old) }
+    ensures { (g : Grown image.entry.numbers.now image.entry.starts.now image.entry.nets.now sizes.now modules (length own.old))
         → Decides g.ms own.new result }
 {
     let mut reached = [0u32; 128];
-    rewrite_counts::fours::count_fours(image, starts, modules, own, &mut reached);
-    if let Kept::All = rewrite_counts::ceilings::first_user(own, modules) {
-        return Decided::Stays;
+    rewrite_counts::fours::count_fours(image.numbers, image.starts, modules, own, &mut reached);
+    if rewrite_counts::ceilings::first_user(own, modules).is_none() {
+        return Ok(Decided::Stays);
     }
-    if !rewrite_counts::ceilings::few_occurrences(image, starts, own, modules) {
-        return Decided::Refused {
+    if !rewrite_counts::ceilings::few_occurrences(image.numbers, image.starts, own, modules) {
+        return Err(Refusal {
             number: 4,
             place: 0,
-        };
+        });
     }
-    match rewrite_counts::ceilings::first_crowded(nets, own, modules) {
-        Kept::Broken(place) => Decided::Refused { number: 16, place },
-        Kept::All => match rewrite_counts::ceilings::last_large(sizes, &reached, modules) {
-            Kept::Broken(place) => Decided::Refused { number: 17, place },
-            Kept::All => Decided::Go,
+    match rewrite_counts::ceilings::first_crowded(image.nets, own, modules) {
+        Some(place) => Err(Refusal { number: 16, place }),
+        None => match rewrite_counts::ceilings::last_large(sizes, &reached, modules) {
+            Some(place) => Err(Refusal { number: 17, place }),
+            None => Ok(Decided::Go),
         },
     }
 }

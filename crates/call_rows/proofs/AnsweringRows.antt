@@ -1,4 +1,5 @@
 -- The answer of a block: where no refusal applies, what the runs leave is what is asked for.
+use Rattle.std.specs.Prelude.{Ok}
 use Prim.Native.Nat.{ℕ, ◌+◌, ◌*◌, ◌≤◌}
 use mathlib.Core.Path.{◌≡◌, sym, ap, ◌∙◌}
 use mathlib.Core.List.{List, ◌++◌}
@@ -14,7 +15,6 @@ use Rattle.laws.specs.RowParts.{length-of-rows}
 use Rattle.laws.specs.RowBlocks.{length-of-row}
 use Rattle.image.specs.Laid.{laid}
 use Rattle.answers.specs.Answers.{writing_of}
-use Rattle.answers.specs.declared.Writing.TheVariants.{Wrote}
 use Rattle.answers.specs.Settled.{Settles}
 use Rattle.open_finding.specs.Standing.{Standing}
 use Rattle.open_finding.specs.declared.Site.{Site}
@@ -50,13 +50,13 @@ module _
         → out' ≡ laid out 0 bytes
         → scratch' ≡ replicate site.room 0 ++ drop site.room scratch
         → count ≡ rows * length s.found.m.outputs
-        → Settles decision scratch out scratch' out' (Wrote count)
+        → Settles decision scratch out scratch' out' (Ok count)
     answered outputs cleared counted =
         record {
           answered =
               record {
                 is =
-                    ap Wrote
+                    ap Ok
                     (counted
                     ∙ sym
                     (length-of-rows (row_outputs s.ms site.number) (length s.found.m.outputs)

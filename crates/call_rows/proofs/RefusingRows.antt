@@ -1,4 +1,6 @@
 -- Each refusal of a block once those before it are passed, and that a refused call leaves what was lent.
+use Rattle.std.specs.Prelude.{Err}
+use Rattle.refusals.specs.Refused.{refusal_at}
 use Prim.Native.Nat.{ℕ, ◌*◌, ◌≤◌, ◌<◌}
 use mathlib.Core.Path.{◌≡◌}
 use mathlib.Core.List.{List}
@@ -8,7 +10,6 @@ use lib.ListN.{length}
 use Rattle.meaning.specs.Figures.{room}
 use Rattle.meaning.specs.Calls.{Decision, first_above, Written}
 use Rattle.meaning.specs.Rows.{most_rows, rows_evaluation_on}
-use Rattle.answers.specs.declared.Writing.TheVariants.{Refused}
 use Rattle.answers.specs.Settled.{Settles}
 use Rattle.open_finding.specs.Standing.{Standing}
 use Rattle.open_finding.specs.declared.Site.{Site}
@@ -18,29 +19,29 @@ module _ {image starts nets : List ℕ} {site : Site} (s : Standing image starts
   abbrev decision : Decision Written
   decision = rows_evaluation_on site.number rows values (length scratch) (length out) s.ms s.found.m
 
-  pub many-rows : most_rows < rows → Settles decision scratch out scratch out (Refused 27 0)
+  pub many-rows : most_rows < rows → Settles decision scratch out scratch out (Err (refusal_at 27 0))
   many-rows many = refused scratch out (rw (lt-leb rows most_rows many))
 
   module _ (few : rows ≤ most_rows) where
-    pub other-count : (length values ≡ rows * length s.found.m.inputs → ⊥) → Settles decision scratch out scratch out (Refused 19 0)
+    pub other-count : (length values ≡ rows * length s.found.m.inputs → ⊥) → Settles decision scratch out scratch out (Err (refusal_at 19 0))
     other-count apart = refused scratch out (rw (le-leb rows most_rows few, ne_eqb _ _ apart))
 
     module _ (fed : length values ≡ rows * length s.found.m.inputs) where
       pub value-above :
-          {above : ℕ} → above ≡ first_above values → above < length values → Settles decision scratch out scratch out (Refused 20 above)
+          {above : ℕ} → above ≡ first_above values → above < length values → Settles decision scratch out scratch out (Err (refusal_at 20 above))
       value-above is within =
           refused scratch out
           (rw (le-leb rows most_rows few, eq-eqb _ _ fed, ne_eqb (first_above values) (length values) (λ e. omega (arith, is, within, e)), is))
 
       module _ (small : first_above values ≡ length values) where
-        pub scratch-short : length scratch < site.room → Settles decision scratch out scratch out (Refused 21 0)
+        pub scratch-short : length scratch < site.room → Settles decision scratch out scratch out (Err (refusal_at 21 0))
         scratch-short short =
             refused scratch out
             (rw
             (le-leb rows most_rows few, eq-eqb _ _ fed, eq-eqb _ _ small, lt-leb (room s.ms site.number) (length scratch) (omega (arith, s.room_is, short))))
 
         pub out-short :
-            site.room ≤ length scratch → length out < rows * length s.found.m.outputs → Settles decision scratch out scratch out (Refused 22 0)
+            site.room ≤ length scratch → length out < rows * length s.found.m.outputs → Settles decision scratch out scratch out (Err (refusal_at 22 0))
         out-short wide short =
             refused scratch out
             (rw

@@ -16,10 +16,11 @@ use Rattle.laws.specs.Written.{bytes-of-low, bytes-of-high, bytes-of-file}
 use Rattle.bytes_out.specs.Filled.{Put}
 use Rattle.bytes_out.specs.Puts.{length-put}
 use Rattle.write_joined.specs.declared.gathering.Gathered.{Gathered}
-use Rattle.join_ending.specs.Joins.{Joins, neither}
 use Rattle.join_ending.specs.Assembling.{Whole, Assembled}
-use Rattle.join_ending.specs.declared.Joining.{Joining}
-use Rattle.join_ending.specs.declared.Joining.TheVariants.{Refused}
+use Rattle.std.specs.Prelude.{Result, Err}
+use Rattle.refusals.specs.Refused.{refusal_at}
+use Rattle.refusals.specs.declared.Refusal.{Refusal}
+use Rattle.answers.specs.Answers.{Answers}
 
 -- The count takes the byte at place 1, or both in front of place 2.
 count-bytes : (n : ℕ) → n ≤ 128 → 1 - n / 128 + length (number_bytes n) ≡ 2
@@ -53,7 +54,7 @@ module _ {all : Gathered} {bytes : List ℕ} (a : Assembled all bytes) where
           a.put.place,
         )
 
-    pub too_long : (out : ℕ) (before : List ℕ) → 65535 < all.at - (1 - all.modules / 128) → Joins (neither (join_on out a.ms)) before before (Refused 0 1 0)
+    pub too_long : (out : ℕ) (before : List ℕ) → 65535 < all.at - (1 - all.modules / 128) → Answers (join_on out a.ms) before before (Err (refusal_at 1 0))
     too_long out before long =
         rw (
           le-leb (length a.ms) most_modules (omega (arith, a.count)),
@@ -96,13 +97,13 @@ module _ {all : Gathered} {bytes : List ℕ} (a : Assembled all bytes) where
                   ∙ take_at (encode a.ms) (drop all.at a.before) (all.at - start) file-length;
             }
 
-      pub joins_whole :
-          (out : ℕ) {before after : List ℕ} {result : Joining}
-          → Joins (neither (if_good (file_verdict a.ms) (fitting (encode a.ms) 0 out))) before after result
-          → Joins (neither (join_on out a.ms)) before after result
-      joins_whole out j =
+      pub whole_answers :
+          (out : ℕ) {before after : List ℕ} {result : Result ℕ Refusal}
+          → Answers (if_good (file_verdict a.ms) (fitting (encode a.ms) 0 out)) before after result
+          → Answers (join_on out a.ms) before after result
+      whole_answers out answers =
           rw (
             le-leb (length a.ms) most_modules (omega (arith, a.count)),
             le-leb (length (encode a.ms)) most_bytes fits,
           )
-          j
+          answers

@@ -1,21 +1,19 @@
 -- The check of a whole file, and then its answer.
+use Rattle.std.specs.Prelude.{Result, Err, Ok}
+use Rattle.refusals.specs.declared.Refusal.{Refusal}
 use Prim.Native.Nat.{ℕ}
-use mathlib.Core.Path.{◌≡◌, refl, ap, subst, ◌∙◌}
+use mathlib.Core.Path.{◌≡◌, refl, sym, ap, subst, ◌∙◌}
 use mathlib.Core.List.{List}
-use native.Mathlib.Omega.{arith}
 use lib.ListN.{length}
 use Rattle.meaning.specs.Layout.{encode}
 use Rattle.meaning.specs.Verdict.{Verdict, good, refused, file_verdict}
 use Rattle.meaning.specs.Calls.{Decision, refusal, answer, if_good, Written, fitting, on_file, module_count}
 use Rattle.laws.specs.RoundTrip.{round_trip}
-use Rattle.answers.specs.Answers.{writing_of, Answers}
-use Rattle.answers.specs.Contents.{listed_of}
-use Rattle.answers.specs.declared.Listed.TheVariants as listed
-use Rattle.answers.specs.declared.Writing.{Writing}
+use Rattle.answers.specs.Answers.{writing_of, Answers, ok_not_err}
+use Rattle.answers.specs.Contents.{found_of}
 use Rattle.join_ending.specs.Joins.{joining_as, Joins, neither, of_writing}
 use Rattle.join_ending.specs.Assembling.{Whole}
-use Rattle.join_ending.specs.declared.Joining.{Joining}
-use Rattle.join_ending.specs.declared.Joining.TheVariants.{Refused}
+use Rattle.two_files.specs.declared.ShelfRefusal.{ShelfRefusal}
 
 -- The count of a whole file's modules is its check.
 count_of : {file : List ℕ} (w : Whole file) → module_count file ≡ if_good (file_verdict w.ms) (answer (length w.ms))
@@ -26,29 +24,30 @@ of-decision : (d : Decision Written) → of_writing (writing_of d) ≡ joining_a
 of-decision (refusal number place) = refl
 of-decision (answer w) = refl
 
-joins_writing : {d : Decision Written} {before after : List ℕ} {writing : Writing} {result : Joining}
+-- What is refused of the joined file is about neither of the two.
+pub joins_writing : {d : Decision Written} {before after : List ℕ} {writing : Result ℕ Refusal} {result : Result ℕ ShelfRefusal}
     → Answers d before after writing → result ≡ of_writing writing → Joins (neither d) before after result
 joins_writing {d} a e = record { is = e ∙ ap of_writing a.is ∙ of-decision d; out = a.out }
 
+-- The check's refusal, or the answer of the file.
 module _ {file : List ℕ} (w : Whole file) (out : ℕ) (before : List ℕ) where
-  pub delivers-refused : {number place : ℕ} → listed.Refused number place ≡ listed_of (module_count file)
-      → Joins (neither (if_good (file_verdict w.ms) (fitting (encode w.ms) 0 out))) before before (Refused 0 number place)
-  delivers-refused {number} {place} e = go (file_verdict w.ms) (e ∙ ap listed_of (count_of w))
+  pub delivers-refused : {why : Refusal} → Err why ≡ found_of (module_count file)
+      → Answers (if_good (file_verdict w.ms) (fitting (encode w.ms) 0 out)) before before (Err why)
+  delivers-refused {why} e = go (file_verdict w.ms) (e ∙ ap found_of (count_of w))
     where
-      go : (v : Verdict) → listed.Refused number place ≡ listed_of (if_good v (answer (length w.ms)))
-          → Joins (neither (if_good v (fitting (encode w.ms) 0 out))) before before (Refused 0 number place)
-      go good h = absurd (let z : ◌≡◌ {A = ℕ} 0 1 = cc in omega arith)
-      go (refused n p) h = record { is = cc; out = refl }
+      go : (v : Verdict) → Err why ≡ found_of (if_good v (answer (length w.ms)))
+          → Answers (if_good v (fitting (encode w.ms) 0 out)) before before (Err why)
+      go good h = absurd (ok_not_err (sym h))
+      go (refused n p) h = record { is = h; out = refl }
 
   pub delivers :
-      {count : ℕ} {after : List ℕ} {writing : Writing} {result : Joining}
-      → listed.Modules count ≡ listed_of (module_count file)
+      {count : ℕ} {after : List ℕ} {writing : Result ℕ Refusal}
+      → Ok count ≡ found_of (module_count file)
       → Answers (fitting file 0 out) before after writing
-      → result ≡ of_writing writing
-      → Joins (neither (if_good (file_verdict w.ms) (fitting (encode w.ms) 0 out))) before after result
-  delivers {count} {after} {writing} {result} e a is = go (file_verdict w.ms) (e ∙ ap listed_of (count_of w))
+      → Answers (if_good (file_verdict w.ms) (fitting (encode w.ms) 0 out)) before after writing
+  delivers {count} {after} {writing} e a = go (file_verdict w.ms) (e ∙ ap found_of (count_of w))
     where
-      go : (v : Verdict) → listed.Modules count ≡ listed_of (if_good v (answer (length w.ms)))
-          → Joins (neither (if_good v (fitting (encode w.ms) 0 out))) before after result
-      go good h = joins_writing (subst (λ (l : List ℕ). Answers (fitting l 0 out) before after writing) w.is a) is
-      go (refused n p) h = absurd (let z : ◌≡◌ {A = ℕ} 0 1 = cc in omega arith)
+      go : (v : Verdict) → Ok count ≡ found_of (if_good v (answer (length w.ms)))
+          → Answers (if_good v (fitting (encode w.ms) 0 out)) before after writing
+      go good h = subst (λ (l : List ℕ). Answers (fitting l 0 out) before after writing) w.is a
+      go (refused n p) h = absurd (ok_not_err h)

@@ -1,22 +1,16 @@
--- From what the count answers to a line: an answer is told from a refusal by its number 0, since a refusal has a number of its own.
-use Prim.Native.Nat.{ℕ}
-use mathlib.Core.Path.{◌≡◌, ap, subst}
-use mathlib.Core.Bool.{Bool, true, false}
-use mathlib.Core.List.{List}
-use native.Mathlib.Omega.{arith}
-use lib.Dec.{leb}
-use Rattle.meaning.specs.Calls.{Decision, refusal, answer, demand, Figures as Meant, figures_on}
-use Rattle.meaning.specs.Family.{Summary, family_delay, with_family, summary_on}
-use Rattle.meaning.specs.Syntax.{Module}
-use Rattle.meaning.specs.Figures.{room}
+-- From what the count answers to a line.
+use Rattle.std.proofs.Common.{ℕ, ◌≡◌, List, Result, Ok, Err, ap, sym, ◌∙◌}
+use Rattle.std.proofs.Math.Path.{subst}
+use Rattle.refusals.specs.declared.Refusal.{Refusal}
+use Rattle.meaning.specs.Calls.{Decision, refusal, answer}
+use Rattle.meaning.specs.Family.{Summary}
 use Rattle.meaning.specs.Listing.{line}
-use Rattle.call_count.specs.Answers.{counted_of}
+use Rattle.answers.specs.Answers.{ok_not_err}
+use Rattle.call_count.specs.Answers.{counted_of, figures_of as as_answered}
 use Rattle.call_count.specs.declared.counts.Figures.{Figures}
-use Rattle.call_count.specs.declared.counts.Counted.{Counted}
 use Rattle.list_text.specs.Pieces.{PutDown}
 use Rattle.list_text.specs.Lines.{figures_of}
 use Rattle.list_text.specs.declared.Counts.{Counts}
-use Rattle.list_file.specs.Sheet.{Told}
 
 -- What a line says of the figures.
 abbrev pub counts_of : Figures → Counts
@@ -32,35 +26,27 @@ counts_of f =
       family = f.family;
     }
 
-module _ (position number : ℕ) {out out' : List ℕ} {r : ℕ} (counted : Counted) where
+module _ (position number : ℕ) {out out' : List ℕ} {r : ℕ} {counted : Result Figures Refusal} where
   pub answered :
-      counted.number ≡ 0
-      → ((tally : List ℕ) → PutDown (line position number (answer (figures_of (counts_of counted.figures) tally))) out 0 out' r)
+      {figures : Figures} → counted ≡ Ok figures
+      → ((tally : List ℕ) → PutDown (line position number (answer (figures_of (counts_of figures) tally))) out 0 out' r)
       → (decision : Decision Summary)
-      → Told decision
       → counted ≡ counted_of decision
       → PutDown (line position number decision) out 0 out' r
-  answered none put (refusal n p) told e = absurd (omega (arith, ap (λ (x : Counted). x.number) e))
-  answered none put (answer s) told e =
+  answered is put (refusal n p) e = absurd (ok_not_err (sym is ∙ e))
+  answered {figures} is put (answer s) e =
       let tally = s.figures.tally in
-      let same : figures_of (counts_of counted.figures) tally ≡ s = ap (λ (x : Counted). figures_of (counts_of x.figures) tally) e in
+      let answered : figures ≡ as_answered s = cc in
+      let same : figures_of (counts_of figures) tally ≡ s = ap (λ (x : Figures). figures_of (counts_of x) tally) answered in
       subst (λ (x : Summary). PutDown (line position number (answer x)) out 0 out' r) same (put tally)
 
   pub refused :
-      (counted.number ≡ 0 → ⊥)
-      → ((place : ℕ) → PutDown (line position number (refusal counted.number place)) out 0 out' r)
+      {why : Refusal} → counted ≡ Err why
+      → ((place : ℕ) → PutDown (line position number (refusal why.number place)) out 0 out' r)
       → (decision : Decision Summary)
-      → Told decision
       → counted ≡ counted_of decision
       → PutDown (line position number decision) out 0 out' r
-  refused some put (refusal n p) told e =
-      subst (λ (x : ℕ). PutDown (line position number (refusal x p)) out 0 out' r) (ap (λ (x : Counted). x.number) e) (put p)
-  refused some put (answer s) told e = absurd (some (ap (λ (x : Counted). x.number) e))
-
--- A module that is there is refused by 21 only.
-pub told-summary : (family : List ℕ) (number scratch : ℕ) (ms : List Module) (m : Module) → Told (summary_on family number scratch ms m)
-told-summary family number scratch ms m = demanded (leb (room ms number) scratch) (figures_on number ms m) (family_delay family ms number)
-  where
-    demanded : (b : Bool) (f : Meant) (n : ℕ) → Told (with_family (demand 21 0 b (answer f)) n)
-    demanded true f n = omega arith
-    demanded false f n = omega arith
+  refused {why} is put (refusal n p) e =
+      let same : why.number ≡ n = cc in
+      subst (λ (x : ℕ). PutDown (line position number (refusal x p)) out 0 out' r) same (put p)
+  refused is put (answer s) e = absurd (ok_not_err (sym e ∙ is))

@@ -2,17 +2,10 @@
 use Rattle.std.specs.Prelude.{ℕ, ◌*◌, ◌≤◌, ◌≡◌, List, length}
 use Rattle.std.proofs.Common.{sym, ◌∙◌}
 use Rattle.meaning.specs.Reading.{most_modules}
-use Rattle.meaning.specs.Calls.{Decision, refusal, answer}
-use Rattle.meaning.specs.Family.{Summary}
 use Rattle.meaning.specs.Listing.{listing_scratch}
 use Rattle.open_file.specs.Prepared.{Opened}
 use Rattle.list_text.specs.Pieces.{PutDown}
 use Rattle.list_text.specs.Lines.{longest_line}
-
--- A refusal has a number that is not 0, so that an answer can be told from it.
-abbrev pub Told : Decision Summary → Type 0
-Told (refusal number place) = 1 ≤ number
-Told (answer s) = 0 ≤ 0
 
 -- A line for each of the most modules that a file has.
 abbrev pub longest_listing : ℕ

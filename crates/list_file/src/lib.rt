@@ -13,7 +13,7 @@ ghost use Rattle.list_text.specs.Pieces.{PutDown};
 ghost use Rattle.list_file.specs.Sheet.{longest_listing};
 
 use families::Family;
-use open_file::Prepared;
+use image::Image;
 
 // The listing in lists that are long enough for the file.
 fn list_in(
@@ -38,11 +38,23 @@ fn list_in(
     ensures { PutDown (listing file.now family.delays) out.old 0 out.new result }
 {
     match open_file::prepare(file, image, starts, names, nets, sizes, rooms, first, slots) {
-        Prepared::Refused { number, place } => {
-            list_text::put_file_refusal(number as u64, place as u64, out)
+        Err(refusal) => {
+            list_text::put_file_refusal(refusal.number as u64, refusal.place as u64, out)
         }
-        Prepared::Ready(modules) => crate::lines::put_lines(
-            image, starts, names, nets, sizes, rooms, modules, family, loads, scratch, out,
+        Ok(modules) => crate::lines::put_lines(
+            Image {
+                numbers: image,
+                starts,
+                nets,
+            },
+            names,
+            sizes,
+            rooms,
+            modules,
+            family,
+            loads,
+            scratch,
+            out,
         ),
     }
 }

@@ -3,14 +3,12 @@ ghost use Rattle.std.specs.Prelude.{◌≡◌};
 ghost use Rattle.meaning.specs.Verdict.{verdict};
 ghost use Rattle.answers.specs.Judged.{check_of};
 
-use answers::{Checked, Listed};
+use refusals::Refusal;
 
 // A file is accepted exactly where its modules can be counted, and refused as that is.
-pub fn check(file: &[u8]) -> Checked
+pub fn check(file: &[u8]) -> Result<(), Refusal>
     ensures { result ≡ check_of (verdict file.now) }
 {
-    match call_door::modules(file) {
-        Listed::Modules(_) => Checked::Good,
-        Listed::Refused { number, place } => Checked::Broken { number, place },
-    }
+    call_door::modules(file)?;
+    Ok(())
 }

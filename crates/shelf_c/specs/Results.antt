@@ -1,6 +1,6 @@
 -- What a C caller gets: number and place as document 01 has them, and behind the other pointers what was asked for. On a refusal nothing
 -- is written but the place.
-use Rattle.std.specs.Prelude.{ℕ, ◌≡◌, cond, List, [], ◌∷◌, eqb, length, replicate}
+use Rattle.std.specs.Prelude.{ℕ, ◌≡◌, List, [], ◌∷◌, length}
 use Rattle.std.proofs.Common.{sym, ◌∙◌}
 use Rattle.meaning.specs.Calls.{Decision, refusal, answer, Written, number_of, place_of}
 use Rattle.meaning.specs.Family.{Summary}
@@ -30,19 +30,16 @@ abbrev pub answer_after : Decision ℕ → ℕ → ℕ
 answer_after (refusal number place) before = before
 answer_after (answer n) before = n
 
--- What a count hands back where its number is 0: eight figures and sixteen counts of gates.
-abbrev pub unless_refused : Decision Summary → (of before : List ℕ) → List ℕ
-unless_refused decision of before = cond (eqb (number_of decision) 0) of before
-
-abbrev pub figures_in : Decision Summary → List ℕ
-figures_in (refusal number place) = replicate 8 0
-figures_in (answer s) =
+-- What a count hands back: eight figures and sixteen counts of gates.
+abbrev pub figures_left : Decision Summary → List ℕ → List ℕ
+figures_left (refusal number place) before = before
+figures_left (answer s) before =
     let f = s.figures in
     f.inputs ∷ f.outputs ∷ f.gates ∷ f.size ∷ f.room ∷ f.delay ∷ f.load ∷ s.family_delay ∷ []
 
-abbrev pub tally_in : Decision Summary → List ℕ
-tally_in (refusal number place) = replicate 16 0
-tally_in (answer s) = s.figures.tally
+abbrev pub tally_left : Decision Summary → List ℕ → List ℕ
+tally_left (refusal number place) before = before
+tally_left (answer s) before = s.figures.tally
 
 -- Each contract says of each result what it equals, so any two outcomes that it permits coincide: those of a call that writes,
 pub one_report :
@@ -73,7 +70,7 @@ one-number_report decision before one other = (one.0 ∙ sym other.0, (one.1.0 �
 -- and of a count. The check hands back a number and a place, each an equation.
 pub one-count_report :
     (decision : Decision Summary) (figures tally : List ℕ) {figures₁ figures₂ tally₁ tally₂ : List ℕ}
-    → (figures₁ ≡ unless_refused decision (figures_in decision) figures) × (tally₁ ≡ unless_refused decision (tally_in decision) tally)
-    → (figures₂ ≡ unless_refused decision (figures_in decision) figures) × (tally₂ ≡ unless_refused decision (tally_in decision) tally)
+    → (figures₁ ≡ figures_left decision figures) × (tally₁ ≡ tally_left decision tally)
+    → (figures₂ ≡ figures_left decision figures) × (tally₂ ≡ tally_left decision tally)
     → (figures₁ ≡ figures₂) × (tally₁ ≡ tally₂)
 one-count_report decision figures tally one other = (one.0 ∙ sym other.0, one.1 ∙ sym other.1)

@@ -2,10 +2,10 @@
 ghost use Rattle.std.specs.Prelude.{◌≡◌, length};
 ghost use Rattle.meaning.specs.Calls.{number_of, place_of, scratch_after, module_count, number_at};
 ghost use Rattle.meaning.specs.Family.{summary};
-ghost use Rattle.shelf_c.specs.Results.{answer_after, unless_refused, figures_in, tally_in};
+ghost use Rattle.shelf_c.specs.Results.{answer_after, figures_left, tally_left};
 
-use c_reports::in_order;
-use shelf::{Family, Listed, Named};
+use c_reports::{in_order, report};
+use shelf::Family;
 
 // `figures` gets inputs, outputs, gates, expanded size, room, delay, largest load and the family's delay.
 #[unsafe(no_mangle)]
@@ -20,23 +20,25 @@ pub extern "C" fn shelf_count(
 ) -> u16
     ensures value { result ≡ number_of (summary file.now number family.now (length scratch.old)) }
     ensures place_after { place.new ≡ place_of (summary file.now number family.now (length scratch.old)) }
-    ensures figures_after { figures.new ≡ unless_refused (summary file.now number family.now (length scratch.old)) (figures_in (summary file.now number family.now (length scratch.old))) figures.old }
-    ensures tally_after { tally.new ≡ unless_refused (summary file.now number family.now (length scratch.old)) (tally_in (summary file.now number family.now (length scratch.old))) tally.old }
+    ensures figures_after { figures.new ≡ figures_left (summary file.now number family.now (length scratch.old)) figures.old }
+    ensures tally_after { tally.new ≡ tally_left (summary file.now number family.now (length scratch.old)) tally.old }
     ensures scratch_after { scratch.new ≡ scratch_after (λ s. s.figures.room) (summary file.now number family.now (length scratch.old)) scratch.old }
 {
     let delays = *family;
-    let counted = shelf::count(file, number, Family { delays }, scratch);
-    let refusal = counted.number;
-    *place = counted.place;
-    if refusal != 0 {
-        return refusal;
+    match shelf::count(file, number, Family { delays }, scratch) {
+        Ok(found) => {
+            *figures = in_order(found);
+            let kinds = found.tally;
+            let counts = kinds.counts;
+            *tally = counts;
+            *place = 0;
+            0
+        }
+        Err(refusal) => {
+            *place = refusal.place;
+            refusal.number
+        }
     }
-    let found = counted.figures;
-    *figures = in_order(found);
-    let kinds = found.tally;
-    let counts = kinds.counts;
-    *tally = counts;
-    0
 }
 
 #[unsafe(no_mangle)]
@@ -45,17 +47,7 @@ pub extern "C" fn shelf_modules(file: &[u8], modules: &mut usize, place: &mut us
     ensures modules_after { modules.new ≡ answer_after (module_count file.now) modules.old }
     ensures place_after { place.new ≡ place_of (module_count file.now) }
 {
-    match shelf::modules(file) {
-        Listed::Modules(count) => {
-            *modules = count;
-            *place = 0;
-            0
-        }
-        Listed::Refused { number, place: at } => {
-            *place = at;
-            number
-        }
-    }
+    report(shelf::modules(file), modules, place)
 }
 
 #[unsafe(no_mangle)]
@@ -69,18 +61,5 @@ pub extern "C" fn shelf_number_at(
     ensures number_after { number.new ≡ answer_after (number_at file.now position) number.old }
     ensures place_after { place.new ≡ place_of (number_at file.now position) }
 {
-    match shelf::number_at(file, position) {
-        Named::Number(found) => {
-            *number = found;
-            *place = 0;
-            0
-        }
-        Named::Refused {
-            number: refusal,
-            place: at,
-        } => {
-            *place = at;
-            refusal
-        }
-    }
+    report(shelf::number_at(file, position), number, place)
 }

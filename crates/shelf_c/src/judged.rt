@@ -1,23 +1,22 @@
 // The check.
 ghost use Rattle.std.specs.Prelude.{◌≡◌};
 ghost use Rattle.meaning.specs.Verdict.{verdict};
-ghost use Rattle.answers.specs.Judged.{check_of, checked_number, checked_place};
-
-use shelf::Checked;
+ghost use Rattle.refusals.specs.Refused.{number_in, place_in};
+ghost use Rattle.answers.specs.Judged.{check_of};
 
 #[unsafe(no_mangle)]
 pub extern "C" fn shelf_check(file: &[u8], place: &mut usize) -> u16
-    ensures value { result ≡ checked_number (check_of (verdict file.now)) }
-    ensures place_after { place.new ≡ checked_place (check_of (verdict file.now)) }
+    ensures value { result ≡ number_in (check_of (verdict file.now)) }
+    ensures place_after { place.new ≡ place_in (check_of (verdict file.now)) }
 {
     match shelf::check(file) {
-        Checked::Good => {
+        Ok(()) => {
             *place = 0;
             0
         }
-        Checked::Broken { number, place: at } => {
-            *place = at;
-            number
+        Err(refusal) => {
+            *place = refusal.place;
+            refusal.number
         }
     }
 }

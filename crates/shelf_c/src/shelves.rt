@@ -5,7 +5,7 @@ ghost use Rattle.meaning.specs.Shelves.{look_up, joining};
 ghost use Rattle.shelf_c.specs.Results.{written_after};
 ghost use Rattle.shelf_c.specs.TwoFiles.{start_after, length_after};
 
-use shelf::{Joining, Looked};
+use shelf::{Looked, Which};
 
 #[unsafe(no_mangle)]
 pub extern "C" fn shelf_look_up(
@@ -24,34 +24,24 @@ pub extern "C" fn shelf_look_up(
     ensures place_after { place.new ≡ place_of (look_up group.now house.now number).decision }
 {
     match shelf::which_shelf(group, house, number) {
-        Looked::Group {
-            start: from,
-            length: count,
-        } => {
-            *which = 1;
-            *start = from;
-            *length = count;
+        Ok(Looked::Group(part)) => {
+            *which = u16::from(Which::Group);
+            *start = part.start;
+            *length = part.length;
             *place = 0;
             0
         }
-        Looked::House {
-            start: from,
-            length: count,
-        } => {
-            *which = 2;
-            *start = from;
-            *length = count;
+        Ok(Looked::House(part)) => {
+            *which = u16::from(Which::House);
+            *start = part.start;
+            *length = part.length;
             *place = 0;
             0
         }
-        Looked::Refused {
-            which: about,
-            number: refusal,
-            place: at,
-        } => {
-            *which = about;
-            *place = at;
-            refusal
+        Err(about) => {
+            *which = u16::from(about.which);
+            *place = about.refusal.place;
+            about.refusal.number
         }
     }
 }
@@ -72,20 +62,16 @@ pub extern "C" fn shelf_join(
     ensures out_after { out.new ≡ out_after (joining group.now house.now (length out.old)).decision out.old }
 {
     match shelf::join(group, house, out) {
-        Joining::Wrote(count) => {
-            *which = 0;
+        Ok(count) => {
+            *which = u16::from(Which::Neither);
             *written = count;
             *place = 0;
             0
         }
-        Joining::Refused {
-            which: about,
-            number: refusal,
-            place: at,
-        } => {
-            *which = about;
-            *place = at;
-            refusal
+        Err(about) => {
+            *which = u16::from(about.which);
+            *place = about.refusal.place;
+            about.refusal.number
         }
     }
 }

@@ -2,25 +2,25 @@
 ghost use Rattle.std.specs.Prelude.{◌≡◌, length};
 ghost use Rattle.meaning.specs.Calls.{out_after};
 ghost use Rattle.meaning.specs.Withdrawn.{strict_verdict, rewriting};
-ghost use Rattle.answers.specs.Judged.{check_of, checked_number, checked_place};
+ghost use Rattle.refusals.specs.Refused.{number_in, place_in};
+ghost use Rattle.answers.specs.Judged.{check_of};
 ghost use Rattle.shelf_c.specs.Results.{Reports};
 
 use c_reports::report;
-use shelf::Checked;
 
 #[unsafe(no_mangle)]
 pub extern "C" fn shelf_strict_check(file: &[u8], place: &mut usize) -> u16
-    ensures value { result ≡ checked_number (check_of (strict_verdict file.now)) }
-    ensures place_after { place.new ≡ checked_place (check_of (strict_verdict file.now)) }
+    ensures value { result ≡ number_in (check_of (strict_verdict file.now)) }
+    ensures place_after { place.new ≡ place_in (check_of (strict_verdict file.now)) }
 {
     match shelf::strict_check(file) {
-        Checked::Good => {
+        Ok(()) => {
             *place = 0;
             0
         }
-        Checked::Broken { number, place: at } => {
-            *place = at;
-            number
+        Err(refusal) => {
+            *place = refusal.place;
+            refusal.number
         }
     }
 }

@@ -1,5 +1,7 @@
 -- The tables are those of the file in the image, and each test says what its ceiling comes to.
-use Rattle.std.proofs.Common.{ℕ, ◌≤◌, length, replicate, ap, ◌∙◌, arith}
+use Rattle.std.proofs.Common.{ℕ, ◌≤◌, ◌≡◌, true, length, replicate, refl, ◌∙◌, arith}
+use Rattle.std.specs.Prelude.{Bool, false, not, Option, None, Some, is_some}
+use Rattle.meaning.specs.Verdict.{good}
 use lib.ListN.{length-replicate}
 use Rattle.meaning.specs.Reading.{most_modules}
 use Rattle.meaning.specs.Withdrawn.{rewrite_file}
@@ -12,6 +14,11 @@ use Rattle.call_rewrite.proofs.Tables.{stood, growable, peopled, netted, sized, 
 use Rattle.call_rewrite.proofs.deciding.decide.Goals as goal
 use Rattle.call_rewrite.proofs.deciding.decide.Goals.{After-count_fours}
 
+no_user : (found : Option ℕ) (none : Bool) → is_some found ≡ not none → none ≡ true → verdict_by 28 found ≡ good
+no_user None none told is = refl
+no_user (Some k) true told is = cc
+no_user (Some k) false told is = cc
+
 long : most_modules ≤ length (replicate {A = ℕ} 128 0)
 long = omega (arith, length-replicate {A = ℕ} 128 0)
 
@@ -19,7 +26,7 @@ pub count_fours-requires : goal.count_fours-requires
 count_fours-requires c = growable c.requires long
 
 module _
-    (c : After-count_fours) (g : Grown c.args.image.now c.args.starts.now c.args.nets.now c.args.sizes.now c.args.modules (length c.args.own.now))
+    (c : After-count_fours) (g : Grown c.args.image.numbers.now c.args.image.starts.now c.args.image.nets.now c.args.sizes.now c.args.modules (length c.args.own.now))
   where
     wide : most_modules ≤ length c.count_fours.new.own
     wide = omega (arith, g.own_long, c.count_fours.auto.own)
@@ -33,11 +40,11 @@ first_user-requires c =
     let n = (goal.at.first_user-requires c).After-count_fours in
     own-table (stood g) (wide n g) (counted n g)
 
-pub returns-in-All : goal.returns-in-All
-returns-in-All c g =
-    let n = (goal.at.returns-in-All c).After-count_fours in
+pub returns-then-is_none : goal.returns-then-is_none
+returns-then-is_none c g =
+    let n = (goal.at.returns-then-is_none c).After-count_fours in
     record {
-      says = c.first_user.ensures (own-table (stood g) (wide n g) (counted n g)) ∙ ap (verdict_by 28) c.in-All.is;
+      says = c.first_user.ensures (own-table (stood g) (wide n g) (counted n g)) ∙ no_user _ _ c.is_none.ensures c.if-is_none.true;
       owned = owns (stood g) (counted n g);
     }
 
@@ -62,12 +69,12 @@ first_crowded-requires c =
     let n = (goal.at.first_crowded-requires c).After-count_fours in
     netted g (wide n g) (counted n g)
 
-pub returns-in-Broken : goal.returns-in-Broken
-returns-in-Broken c g =
-    let n = (goal.at.returns-in-Broken c).After-count_fours in
+pub returns-in-Some : goal.returns-in-Some
+returns-in-Some c g =
+    let n = (goal.at.returns-in-Some c).After-count_fours in
     let few = c.few_occurrences.ensures (peopled g (wide n g) (counted n g)) ∙ c.if-not-few_occurrences.false in
     record {
-      says = λ out. crowded (rewrite_file g.ms) out few (c.first_crowded.ensures (netted g (wide n g) (counted n g))) c.in-Broken.is;
+      says = λ out. crowded (rewrite_file g.ms) out few (c.first_crowded.ensures (netted g (wide n g) (counted n g))) c.in-Some.is;
       owned = owns (stood g) (counted n g);
     }
 
@@ -77,29 +84,29 @@ last_large-requires c =
     let n = (goal.at.last_large-requires c).After-count_fours in
     sized g (wide n g) (counted n g)
 
-pub returns-in-Broken-last_large : goal.returns-in-Broken-last_large
-returns-in-Broken-last_large c g =
-    let n = (goal.at.returns-in-Broken-last_large c).After-count_fours in
+pub returns-in-Some-last_large : goal.returns-in-Some-last_large
+returns-in-Some-last_large c g =
+    let n = (goal.at.returns-in-Some-last_large c).After-count_fours in
     let few = c.few_occurrences.ensures (peopled g (wide n g) (counted n g)) ∙ c.if-not-few_occurrences.false in
     record {
       says = λ out.
-          large (rewrite_file g.ms) out few (c.first_crowded.ensures (netted g (wide n g) (counted n g))) c.in-All-first_crowded.is
+          large (rewrite_file g.ms) out few (c.first_crowded.ensures (netted g (wide n g) (counted n g))) c.in-None.is
           (c.last_large.ensures (sized g (wide n g) (counted n g)))
-          c.in-Broken-last_large.is;
+          c.in-Some-last_large.is;
       owned = owns (stood g) (counted n g);
     }
 
-pub returns-in-All-last_large : goal.returns-in-All-last_large
-returns-in-All-last_large c g =
-    let n = (goal.at.returns-in-All-last_large c).After-count_fours in
+pub returns-in-None-last_large : goal.returns-in-None-last_large
+returns-in-None-last_large c g =
+    let n = (goal.at.returns-in-None-last_large c).After-count_fours in
     let few = c.few_occurrences.ensures (peopled g (wide n g) (counted n g)) ∙ c.if-not-few_occurrences.false in
     record {
       says = (
         few,
         λ out.
-            kept-all (rewrite_file g.ms) out few (c.first_crowded.ensures (netted g (wide n g) (counted n g))) c.in-All-first_crowded.is
+            kept-all (rewrite_file g.ms) out few (c.first_crowded.ensures (netted g (wide n g) (counted n g))) c.in-None.is
             (c.last_large.ensures (sized g (wide n g) (counted n g)))
-            c.in-All-last_large.is,
+            c.in-None-last_large.is,
       );
       owned = owns (stood g) (counted n g);
     }
