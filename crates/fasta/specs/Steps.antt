@@ -1,13 +1,14 @@
 -- A file read byte by byte, and how a place of it is held in numbers: the record in a buffer, the sums in 64 bits.
-use Rattle.std.specs.Prelude.{◌≡◌, ℕ, suc, ◌%◌, ◌^◌, ◌≤◌, cond, List, [], ◌∷◌, ◌++◌, map, length, take, ◌==◌}
+use Rattle.std.specs.Prelude.{◌≡◌, ℕ, suc, ◌%◌, ◌^◌, ◌≤◌, cond, List, [], ◌∷◌, ◌++◌, map, length, take, Result, Ok, Err, ◌==◌}
 use Rattle.fasta.specs.Records.{ends_line, header_mark}
 use Rattle.fasta.specs.Sums.{Total, counted, refused, Sums, after_record, no_records}
 use Rattle.fasta.specs.declared.lines.Line.{Line}
 use Rattle.fasta.specs.declared.lines.Line.TheVariants.{Fresh, Bases, Header}
 use Rattle.fasta.specs.declared.lines.Kind.{Kind}
 use Rattle.fasta.specs.declared.lines.Kind.TheVariants.{End, Begin, Skip, Base}
+use Rattle.refusals.specs.Refused.{refusal_at}
 use Rattle.fasta.specs.declared.records.Tally.{Tally}
-use Rattle.fasta.specs.declared.records.Tally.TheVariants as tally
+use Rattle.fasta.specs.declared.records.Refused.{Refused}
 use Rattle.fasta.specs.declared.reading.Reading.{Reading}
 
 -- What a byte is that ends no line.
@@ -50,12 +51,12 @@ ended n s = after_record n s.bases s.sums
 abbrev pub low : ℕ → ℕ
 low k = k % 2 ^ 64
 
-abbrev pub tally_of : Total → Tally
-tally_of (counted records words) = tally.Counted (low records) (low words)
-tally_of (refused number place before) = tally.Refused number place (low before)
+abbrev pub tally_of : Total → Result Tally Refused
+tally_of (counted records words) = Ok (record { records = low records; words = low words })
+tally_of (refused number place before) = Err (record { refusal = refusal_at number place; before = low before })
 
 -- The sums are held,
-pub record Kept (s : Sums) (table : List ℕ) (r : Tally) : Type 0 where
+pub record Kept (s : Sums) (table : List ℕ) (r : Result Tally Refused) : Type 0 where
   pub told : r ≡ tally_of s.total
   pub summed : table ≡ map low s.table
 

@@ -8,4 +8,4 @@ mod reading; // reading.rt: the bytes of a file, block by block
 mod records; // records.rt: a record, base by base, and filed
 
 pub use reading::{Reading, begin, finish, read_block};
-pub use records::Tally;
+pub use records::{Refused, Tally};

@@ -3,7 +3,7 @@ ghost use Rattle.std.specs.Prelude.{◌≡◌};
 ghost use Rattle.fasta.specs.Steps.{kind_in, kind_of};
 
 // A line: it begins here, or it holds bases, or it is a header.
-#[derive(Clone, Copy)]
+#[derive(Clone, Copy, PartialEq, Eq, Debug)]
 pub enum Line {
     Fresh,
     Bases,
@@ -11,7 +11,7 @@ pub enum Line {
 }
 
 // A byte: it ends its line, or begins a header, or is a part of one, or stands for a base.
-#[derive(Clone, Copy)]
+#[derive(Clone, Copy, PartialEq, Eq, Debug)]
 pub enum Kind {
     End,
     Begin,

@@ -3,14 +3,14 @@ ghost use Rattle.std.specs.Prelude.{◌≡◌, ℕ, ◌≤◌, List, length, rep
 ghost use Rattle.fasta.specs.Steps.{State, start, stepped, steps, ended, Kept, Holds};
 
 use crate::lines::{Kind, Line, kind_of};
-use crate::records::{Tally, close_record, file_record, put};
+use crate::records::{Refused, Tally, close_record, file_record, put};
 
 // How far a file is read: the line that is read, how many bases of the record stand in the buffer, and the records before it.
-#[derive(Clone, Copy)]
+#[derive(Clone, Copy, PartialEq, Eq, Debug)]
 pub struct Reading {
     pub line: Line,
     pub filled: usize,
-    pub tally: Tally,
+    pub tally: Result<Tally, Refused>,
 }
 
 // Nothing is read yet.
@@ -21,10 +21,10 @@ pub fn begin() -> Reading
     Reading {
         line: Line::Fresh,
         filled: 0,
-        tally: Tally::Counted {
+        tally: Ok(Tally {
             records: 0,
             words: 0,
-        },
+        }),
     }
 }
 
@@ -76,24 +76,22 @@ pub fn read_block(
         → Holds (steps letters s bytes.now) bases.new table.new result }
 {
     let mut now = reading;
-    for i in 0..bytes.len() {
-        now = step(bytes[i], letters, bases, table, now);
+    for byte in bytes {
+        now = step(*byte, letters, bases, table, now);
     }
     now
 }
 
 // The file is over, and its last record complete. It is not handed to `close_record`: filed from two places a record has a function and a stack
 // of its own, which a record behind a refusal does not touch.
-pub fn finish(letters: usize, bases: &[u8], table: &mut [u64], reading: Reading) -> Tally
+pub fn finish(
+    letters: usize,
+    bases: &[u8],
+    table: &mut [u64],
+    reading: Reading,
+) -> Result<Tally, Refused>
     requires { (reading.filled ≤ length bases.now) × (length table.old ≡ 33) }
     ensures { (s : State) → Holds s bases.now table.old reading → Kept (ended letters s) table.new result }
 {
-    let filled = reading.filled;
-    let tally = reading.tally;
-    match tally {
-        Tally::Counted { records, words } => {
-            file_record(letters, &bases[..filled], table, records, words)
-        }
-        Tally::Refused { .. } => tally,
-    }
+    file_record(letters, &bases[..reading.filled], table, reading.tally?)
 }

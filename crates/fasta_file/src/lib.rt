@@ -4,18 +4,22 @@
 
 ghost use Rattle.std.specs.Prelude.{◌≡◌, length};
 
-use fasta::Tally;
+use fasta::{Refused, Tally};
 use std::io::Read;
 
-// What became of a file.
-#[derive(Clone, Copy)]
-pub enum Ended {
-    Filed(Tally),
+// Why a file is not filed.
+#[derive(Clone, Copy, PartialEq, Eq, Debug)]
+pub enum Stopped {
+    Refused(Refused),
     Unread,
 }
 
 // Files the words of a length in each record, and adds their counts to a table of 0.
-pub fn file_from(source: &mut impl Read, letters: usize, table: &mut [u64]) -> Ended
+pub fn file_from(
+    source: &mut impl Read,
+    letters: usize,
+    table: &mut [u64],
+) -> Result<Tally, Stopped>
     requires { length table.old ≡ 33 }
 {
     let mut bytes = [0u8; 65536];
@@ -30,18 +34,16 @@ fn read_blocks(
     bytes: &mut [u8],
     bases: &mut [u8],
     table: &mut [u64],
-) -> Ended
+) -> Result<Tally, Stopped>
     requires { length table.old ≡ 33 }
 {
     let mut reading = fasta::begin();
     for _ in 0..u64::MAX {
-        match source.read(bytes) {
-            Ok(0) => return Ended::Filed(fasta::finish(letters, bases, table, reading)),
-            Ok(count) => {
-                reading = fasta::read_block(&bytes[..count], letters, bases, table, reading);
-            }
-            Err(_) => return Ended::Unread,
+        let count = source.read(bytes).map_err(|_| Stopped::Unread)?;
+        if count == 0 {
+            return fasta::finish(letters, bases, table, reading).map_err(Stopped::Refused);
         }
+        reading = fasta::read_block(&bytes[..count], letters, bases, table, reading);
     }
-    Ended::Unread
+    Err(Stopped::Unread)
 }

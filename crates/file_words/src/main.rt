@@ -2,7 +2,7 @@
 // feed; carriage returns are taken out.
 #![tactic(auto)]
 
-use filing::Placed;
+use refusals::Refusal;
 use std::io;
 use std::io::Read;
 
@@ -39,8 +39,8 @@ fn file_last(rt: &impl Print, word: &[u8], filled: usize) -> io::Result<()> {
 
 fn file_block(rt: &impl Print, bytes: &[u8], word: &mut [u8], filled: usize) -> io::Result<usize> {
     let mut now = filled;
-    for i in 0..bytes.len() {
-        now = take_byte(rt, bytes[i], word, now)?;
+    for byte in bytes {
+        now = take_byte(rt, *byte, word, now)?;
     }
     Ok(now)
 }
@@ -72,9 +72,9 @@ fn file_line(rt: &impl Print, word: &[u8], filled: usize) -> io::Result<()> {
     show(rt, filing::file_word(&word[0..filled]))
 }
 
-fn show(rt: &impl Print, placed: Placed) -> io::Result<()> {
+fn show(rt: &impl Print, placed: Result<u8, Refusal>) -> io::Result<()> {
     match placed {
-        Placed::Shelf(shelf) => println!(rt; "{shelf}"),
-        Placed::Refused { number, place } => println!(rt; "refused {number} {place}"),
+        Ok(shelf) => println!(rt; "{shelf}"),
+        Err(Refusal { number, place }) => println!(rt; "refused {number} {place}"),
     }
 }

@@ -1,5 +1,5 @@
 -- The bits of bases, put one base after the other.
-use Prim.Native.Nat.{ℕ, suc, ◌+◌, ◌*◌, ◌/◌, ◌%◌, ◌≤◌, ◌<◌}
+use Prim.Native.Nat.{ℕ, suc, ◌+◌, ◌-◌, ◌*◌, ◌/◌, ◌%◌, ◌≤◌, ◌<◌}
 use mathlib.Core.Path.{◌≡◌, refl, sym, ap, ◌∙◌}
 use mathlib.Core.Bool.{Bool, true, false}
 use mathlib.Core.List.{List, [], ◌∷◌, ◌++◌, map, map-append, append_assoc}
@@ -65,3 +65,19 @@ bits-of-more bases bits left at inside stands fits =
     ap (λ (l : List ℕ). set (set (front ++ l) at (base b % 2)) (at + 1) (base b / 2 % 2)) (drop-two bits at (omega arith))
     ∙ put_two front (drop (at + 2) bits) (get_or bits at 0) (get_or bits (suc at) 0) at (base b % 2) (base b / 2 % 2) long
     ∙ ap (λ (l : List ℕ). l ++ drop (at + 2) bits) (sym (one_more bases left inside))
+
+-- The bases are passed from the last to the first.
+pub bits-before : (bases bits : List ℕ) → bits ≡ map bit (word_bits (drop (length bases - 0) bases)) ++ drop 0 bits
+bits-before bases bits = let all : length bases - 0 ≡ length bases = omega arith in rw all (bits-of-none bases bits)
+
+pub bits-passed :
+    (bases bits₀ bits : List ℕ) (i n : ℕ) → i < length bases → 2 * length bases ≤ length bits₀
+    → bits ≡ map bit (word_bits (drop (length bases - i) bases)) ++ drop (2 * i) bits₀
+    → n ≡ base (get_or bases (length bases - 1 - i) 0)
+    → set (set bits (2 * i) (n % 2)) (2 * i + 1) (n / 2 % 2) ≡ map bit (word_bits (drop (length bases - (i + 1)) bases)) ++ drop (2 * (i + 1)) bits₀
+bits-passed bases bits₀ bits i n more fits is read =
+    let left = length bases - 1 - i in
+    let before : length bases - i ≡ left + 1 = omega arith in
+    let after : length bases - (i + 1) ≡ left = omega arith in
+    let next : 2 * (i + 1) ≡ 2 * i + 2 = omega arith in
+    rw (is, read, before, after, next) (bits-of-more bases bits₀ left (2 * i) (omega arith) (omega arith) fits)

@@ -1,8 +1,10 @@
 -- Each way out of the two calls is the definition's: refusals in their order, then the answer.
 use Prim.Native.Nat.{ℕ, suc, ◌≤◌, ◌<◌}
-use mathlib.Core.Path.{◌≡◌}
+use mathlib.Core.Path.{◌≡◌, refl, sym, ap, subst, ◌∙◌}
+use mathlib.Core.Logic.{◌⊎◌, ⊎_elim}
 use mathlib.Core.Bool.{Bool, true, false, cond}
 use mathlib.Core.List.{List, [], ◌∷◌, map}
+use Rattle.std.proofs.Common.{Ok, Err}
 use native.Mathlib.Omega.{arith}
 use borrow.Author.Tests.{le-leb, lt-leb, eq-eqb, ne_eqb}
 use lib.Dec.{ltb}
@@ -10,8 +12,8 @@ use lib.ListN.{length}
 use Rattle.meaning.specs.Filing.{base, first_other, shelf_of, word_count, words_of, table_of, filing_word, filing_sequence}
 use Rattle.laws.specs.Filing.Sequences.{how_many-words}
 use Rattle.filing.specs.Placing.{placed_of, Sorts}
-use Rattle.filing.specs.declared.Placed.TheVariants as placed
-use Rattle.filing.specs.declared.Sorted.TheVariants as sorted
+use Rattle.refusals.specs.Refused.{refusal_at}
+use Rattle.refusals.specs.declared.Refusal.{Refusal}
 
 pub other-most : (bytes : List ℕ) → first_other bytes ≤ length bytes
 unfolding first_other
@@ -23,16 +25,19 @@ other-most (b ∷ bytes) = go (ltb (base b) 4) (other-most bytes)
     go false h = omega arith
 
 module _ (word : List ℕ) where
-  pub word-empty : length word < 1 → placed.Refused 30 0 ≡ placed_of (filing_word word)
+  word-empty : length word < 1 → Err (refusal_at 30 0) ≡ placed_of (filing_word word)
   unfolding filing_word
   word-empty h = rw (lt-leb 1 (length word) h)
 
-  pub word-long : 16 < length word → placed.Refused 30 0 ≡ placed_of (filing_word word)
+  word-long : 16 < length word → Err (refusal_at 30 0) ≡ placed_of (filing_word word)
   unfolding filing_word
   word-long h = rw (le-leb 1 (length word) (omega arith), lt-leb (length word) 16 h)
 
+  pub word-refused : {r : Refusal} → r ≡ refusal_at 30 0 → (length word < 1) ⊎ (16 < length word) → Err r ≡ placed_of (filing_word word)
+  word-refused is h = ap Err is ∙ ⊎_elim word-empty word-long h
+
   module _ (some : 1 ≤ length word) (few : length word ≤ 16) where
-    pub word-other : (place : ℕ) → place ≡ first_other word → place < length word → placed.Refused 31 place ≡ placed_of (filing_word word)
+    word-other : (place : ℕ) → place ≡ first_other word → place < length word → Err (refusal_at 31 place) ≡ placed_of (filing_word word)
     unfolding filing_word
     word-other place is h =
         rw (
@@ -42,7 +47,10 @@ module _ (word : List ℕ) where
           ne_eqb (first_other word) (length word) (λ e. omega (arith, is, e)),
         )
 
-    pub word-filed : (shelf : ℕ) → length word ≤ first_other word → shelf ≡ shelf_of word → placed.Shelf shelf ≡ placed_of (filing_word word)
+    pub word-stopped : {r : Refusal} → r ≡ refusal_at 31 (first_other word) → first_other word < length word → Err r ≡ placed_of (filing_word word)
+    word-stopped is h = ap Err is ∙ word-other (first_other word) refl h
+
+    pub word-filed : (shelf : ℕ) → length word ≤ first_other word → shelf ≡ shelf_of word → Ok shelf ≡ placed_of (filing_word word)
     unfolding filing_word
     word-filed shelf none is =
         rw (
@@ -54,19 +62,22 @@ module _ (word : List ℕ) where
 
 module _ (sequence : List ℕ) (n : ℕ) (table : List ℕ) where
   abbrev Refuses : (number place : ℕ) → Type 0
-  Refuses number place = Sorts (filing_sequence sequence n (length table)) table table (sorted.Refused number place)
+  Refuses number place = Sorts (filing_sequence sequence n (length table)) table table (Err (refusal_at number place))
 
-  pub length_none : n < 1 → Refuses 30 0
+  length_none : n < 1 → Refuses 30 0
   unfolding filing_sequence
   length_none h = record { is = rw (lt-leb 1 n h); table = rw (lt-leb 1 n h) }
 
-  pub length_over : 16 < n → Refuses 30 0
+  length_over : 16 < n → Refuses 30 0
   unfolding filing_sequence
   length_over h =
       record {
         is = rw (le-leb 1 n (omega arith), lt-leb n 16 h);
         table = rw (le-leb 1 n (omega arith), lt-leb n 16 h);
       }
+
+  pub sequence_refused : {r : Refusal} → r ≡ refusal_at 30 0 → (n < 1) ⊎ (16 < n) → Sorts (filing_sequence sequence n (length table)) table table (Err r)
+  sequence_refused is h = subst (λ (r : Refusal). Sorts (filing_sequence sequence n (length table)) table table (Err r)) (sym is) (⊎_elim length_none length_over h)
 
   module _ (some : 1 ≤ n) (few : n ≤ 16) where
     pub sequence_over : 65535 < length sequence → Refuses 32 0
@@ -87,7 +98,7 @@ module _ (sequence : List ℕ) (n : ℕ) (table : List ℕ) where
           }
 
       module _ (whole : length table ≡ 33) where
-        pub sequence_other : (place : ℕ) → place ≡ first_other sequence → place < length sequence → Refuses 31 place
+        sequence_other : (place : ℕ) → place ≡ first_other sequence → place < length sequence → Refuses 31 place
         unfolding filing_sequence
         sequence_other place is h =
             let apart : ¬ (first_other sequence ≡ length sequence) = λ e. omega (arith, is, e) in
@@ -111,11 +122,17 @@ module _ (sequence : List ℕ) (n : ℕ) (table : List ℕ) where
                   );
             }
 
+        pub sequence_stopped : {r : Refusal} → r ≡ refusal_at 31 (first_other sequence) → first_other sequence < length sequence
+            → Sorts (filing_sequence sequence n (length table)) table table (Err r)
+        sequence_stopped is h =
+            subst (λ (r : Refusal). Sorts (filing_sequence sequence n (length table)) table table (Err r)) (sym is)
+            (sequence_other (first_other sequence) refl h)
+
         pub sequence_filed :
             (words : ℕ) (after : List ℕ) → length sequence ≤ first_other sequence
             → words ≡ word_count n (length sequence)
             → after ≡ table_of (map shelf_of (words_of n sequence))
-            → Sorts (filing_sequence sequence n (length table)) table after (sorted.Words words)
+            → Sorts (filing_sequence sequence n (length table)) table after (Ok words)
         unfolding filing_sequence
         sequence_filed words after none count is =
             let all : first_other sequence ≡ length sequence = omega (arith, other-most sequence) in

@@ -8,3 +8,4 @@ pub mod Blocks
 pub mod Tallying
 pub mod OneWord
 pub mod Deciding
+pub mod Places

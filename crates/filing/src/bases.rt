@@ -2,7 +2,7 @@
 ghost use Rattle.std.specs.Prelude.{◌≡◌};
 ghost use Rattle.meaning.specs.Filing.{base, first_other};
 
-// The number of a base; 4 for any other byte.
+// The number of a base; 4 for any other byte. No Option: `base` of `meaning` counts so, and bits are laid of each number with no test.
 pub fn base_of(byte: u8) -> u8
     ensures { result ≡ base byte }
 {
@@ -19,12 +19,8 @@ pub fn base_of(byte: u8) -> u8
 pub fn first_other(bytes: &[u8]) -> usize
     ensures { result ≡ first_other bytes.now }
 {
-    let mut i = 0;
-    while i < bytes.len() {
-        if 3 < base_of(bytes[i]) {
-            return i;
-        }
-        i += 1;
-    }
-    i
+    bytes
+        .iter()
+        .position(|byte| 3 < base_of(*byte))
+        .unwrap_or(bytes.len())
 }

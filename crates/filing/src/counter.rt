@@ -10,7 +10,7 @@ pub fn counter_file() -> [u8; 478]
     ensures { result ≡ encode (counter 32) }
 {
     let mut file = [0u8; 478];
-    shelf::counter(32, &mut file);
+    let _ = shelf::counter(32, &mut file);
     file
 }
 
@@ -21,5 +21,5 @@ pub fn run_rows(file: &[u8], rows: usize, values: &[u8], outputs: &mut [u8])
         → outputs.new ≡ shelves_bytes r.words ++ drop (rows * 6) outputs.old }
 {
     let mut scratch = [0u32; 158];
-    shelf::evaluate_rows(file, 32, rows, values, &mut scratch, outputs);
+    let _ = shelf::evaluate_rows(file, 32, rows, values, &mut scratch, outputs);
 }

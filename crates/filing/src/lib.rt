@@ -9,8 +9,9 @@ mod sequences;
 mod shelves;
 mod words;
 
-ghost use Rattle.std.specs.Prelude.{◌≡◌, length};
-ghost use Rattle.meaning.specs.Filing.{shelf_of, filing_word, filing_sequence};
+ghost use Rattle.std.specs.Prelude.{◌≡◌, ◌≤◌, ◌<◌, ◌⊎◌, IfOk, IfErr, length};
+ghost use Rattle.refusals.specs.Refused.{refusal_at};
+ghost use Rattle.meaning.specs.Filing.{shelf_of, first_other, filing_word, filing_sequence};
 ghost use Rattle.filing.specs.Running.{Word};
 ghost use Rattle.filing.specs.Placing.{placed_of, Sorts};
 
@@ -19,20 +20,7 @@ use crate::counter::counter_file;
 use crate::sequences::fill;
 use crate::shelves::shelf_at;
 use crate::words::run_words;
-
-// Of a word: its shelf, or a refusal with its number and place.
-#[derive(Clone, Copy)]
-pub enum Placed {
-    Shelf(u8),
-    Refused { number: u16, place: usize },
-}
-
-// Of a sequence: how many words it has, or a refusal.
-#[derive(Clone, Copy)]
-pub enum Sorted {
-    Words(usize),
-    Refused { number: u16, place: usize },
-}
+use refusals::Refusal;
 
 // The shelf of a word that is one.
 fn shelf_of(word: &[u8]) -> u8
@@ -54,51 +42,49 @@ fn shelf_of(word: &[u8]) -> u8
     shelf_at(&outputs, 0) as u8
 }
 
-// The shelf of a word of 1 to 16 bases.
-pub fn file_word(word: &[u8]) -> Placed
-    ensures { result ≡ placed_of (filing_word word.now) }
+// A word has 1 to 16 bases.
+fn check_letters(letters: usize) -> Result<(), Refusal>
+    ensures fits { IfOk result (λ _. (1 ≤ letters) × (letters ≤ 16)) }
+    ensures refusal { IfErr result (λ r. (r ≡ refusal_at 30 0) × ((letters < 1) ⊎ (16 < letters))) }
 {
-    let letters = word.len();
     match letters {
-        1..=16 => {}
-        _ => return Placed::Refused {
-            number: 30,
-            place: 0,
-        },
+        1..=16 => Ok(()),
+        _ => Err(Refusal::at(30, 0)),
     }
-    let place = first_other(word);
-    if place < letters {
-        return Placed::Refused { number: 31, place };
-    }
-    Placed::Shelf(shelf_of(word))
 }
 
-// How many words of a length in a sequence go to each shelf.
-pub fn file_sequence(sequence: &[u8], letters: usize, table: &mut [u32]) -> Sorted
+// Each byte is a base.
+fn check_bases(bytes: &[u8]) -> Result<(), Refusal>
+    ensures all { IfOk result (λ _. length bytes.now ≤ first_other bytes.now) }
+    ensures refusal { IfErr result (λ r. (r ≡ refusal_at 31 (first_other bytes.now)) × (first_other bytes.now < length bytes.now)) }
+{
+    let place = first_other(bytes);
+    if place < bytes.len() {
+        return Err(Refusal::at(31, place));
+    }
+    Ok(())
+}
+
+// The shelf of a word of 1 to 16 bases.
+pub fn file_word(word: &[u8]) -> Result<u8, Refusal>
+    ensures { result ≡ placed_of (filing_word word.now) }
+{
+    check_letters(word.len())?;
+    check_bases(word)?;
+    Ok(shelf_of(word))
+}
+
+// How many words of a length in a sequence go to each shelf, in a table; and how many words it has.
+pub fn file_sequence(sequence: &[u8], letters: usize, table: &mut [u32]) -> Result<usize, Refusal>
     ensures { Sorts (filing_sequence sequence.now letters (length table.old)) table.old table.new result }
 {
-    match letters {
-        1..=16 => {}
-        _ => return Sorted::Refused {
-            number: 30,
-            place: 0,
-        },
-    }
+    check_letters(letters)?;
     if 65535 < sequence.len() {
-        return Sorted::Refused {
-            number: 32,
-            place: 0,
-        };
+        return Err(Refusal::at(32, 0));
     }
     if table.len() != 33 {
-        return Sorted::Refused {
-            number: 34,
-            place: 0,
-        };
+        return Err(Refusal::at(34, 0));
     }
-    let place = first_other(sequence);
-    if place < sequence.len() {
-        return Sorted::Refused { number: 31, place };
-    }
-    Sorted::Words(fill(sequence, letters, table))
+    check_bases(sequence)?;
+    Ok(fill(sequence, letters, table))
 }

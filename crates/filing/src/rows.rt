@@ -14,14 +14,11 @@ fn lay_bits(bases: &[u8], bits: &mut [u8])
     requires { 2 * length bases.now ≤ length bits.old }
     ensures { bits.new ≡ map bit (word_bits bases.now) ++ drop (2 * length bases.now) bits.old }
 {
-    let mut left = bases.len();
-    let mut at = 0;
-    while 0 < left {
-        left -= 1;
-        let base = base_of(bases[left]);
-        bits[at] = base % 2;
-        bits[at + 1] = base / 2 % 2;
-        at += 2;
+    let count = bases.len();
+    for i in 0..count {
+        let base = base_of(bases[count - 1 - i]);
+        bits[2 * i] = base % 2;
+        bits[2 * i + 1] = base / 2 % 2;
     }
 }
 
@@ -31,9 +28,7 @@ fn mask_of(kept: usize) -> [u8; 32]
     ensures { result ≡ mask_of kept }
 {
     let mut mask = [0u8; 32];
-    for j in 0..kept {
-        mask[j] = 255;
-    }
+    mask[..kept].fill(255);
     mask
 }
 
@@ -55,10 +50,7 @@ fn lay_row(bits: &[u8], from: usize, mask: &[u8; 32], row: &mut [u8])
     requires { Maskable (length bits.now) from (length row.old) }
     ensures { Masked bits.now from mask.now row.new }
 {
-    let laid = masked(bits, from, mask);
-    for j in 0..32 {
-        row[j] = laid[j];
-    }
+    row.copy_from_slice(&masked(bits, from, mask));
 }
 
 // A row for each word, the first word's from the end of the list.

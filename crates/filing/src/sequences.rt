@@ -14,7 +14,7 @@ fn block_of(left: usize) -> usize
     requires { 1 ≤ left }
     ensures { (1 ≤ result) × (result ≤ 1024) × (result ≤ left) }
 {
-    if left < BLOCK { left } else { BLOCK }
+    left.min(BLOCK)
 }
 
 // How many words of a length a sequence has.
@@ -45,6 +45,7 @@ fn add_blocks(
 {
     let words = count_words(sequence.len(), letters);
     let mut done = 0;
+    // A block is as long as what is left allows: `step_by` would go over the starts, and each turn would work out its end anew.
     while done < words {
         let some = block_of(words - done);
         let end = done + some + letters - 1;
@@ -67,9 +68,7 @@ fn clear(table: &mut [u32])
     requires { length table.old ≡ 33 }
     ensures { table.new ≡ replicate 33 0 }
 {
-    for i in 0..33 {
-        table[i] = 0;
-    }
+    table.fill(0);
 }
 
 // The table of a sequence, and how many words it has.

@@ -7,8 +7,6 @@ ghost use Rattle.meaning.specs.Calls.{number_of, place_of};
 ghost use Rattle.meaning.specs.Filing.{filing_word, filing_sequence, table_after};
 ghost use Rattle.filing_c.specs.Results.{shelf_after, words_after};
 
-use filing::{Placed, Sorted};
-
 #[unsafe(no_mangle)]
 pub extern "C" fn filing_word(word: &[u8], shelf: &mut u8, place: &mut usize) -> u16
     ensures value { result ≡ number_of (filing_word word.now) }
@@ -16,14 +14,14 @@ pub extern "C" fn filing_word(word: &[u8], shelf: &mut u8, place: &mut usize) ->
     ensures place_after { place.new ≡ place_of (filing_word word.now) }
 {
     match filing::file_word(word) {
-        Placed::Shelf(found) => {
+        Ok(found) => {
             *shelf = found;
             *place = 0;
             0
         }
-        Placed::Refused { number, place: at } => {
-            *place = at;
-            number
+        Err(refusal) => {
+            *place = refusal.place;
+            refusal.number
         }
     }
 }
@@ -42,14 +40,14 @@ pub extern "C" fn filing_sequence(
     ensures place_after { place.new ≡ place_of (filing_sequence sequence.now letters (length table.old)) }
 {
     match filing::file_sequence(sequence, letters, table) {
-        Sorted::Words(count) => {
+        Ok(count) => {
             *words = count;
             *place = 0;
             0
         }
-        Sorted::Refused { number, place: at } => {
-            *place = at;
-            number
+        Err(refusal) => {
+            *place = refusal.place;
+            refusal.number
         }
     }
 }

@@ -1,9 +1,11 @@
 -- Pieces of text put down one behind the other are one piece.
-use Prim.Native.Nat.{ℕ, ◌+◌, ◌≤◌, ◌<◌}
+use Prim.Native.Nat.{ℕ, ◌+◌, ◌-◌, ◌≤◌, ◌<◌}
 use mathlib.Core.Path.{◌≡◌, refl, sym, ap, ap₂, ◌∙◌}
 use mathlib.Core.List.{List, [], ◌∷◌, ◌++◌}
 use native.Mathlib.Omega.{arith}
-use lib.ListN.{length, set, length-append}
+use borrow.Rule.Slice.PartMut.{put_mid}
+use lib.ListN.{length, take, set, length-append}
+use lib.Seq.{drop-drop}
 use Rattle.image.specs.Laid.{laid, laid-after, laid-nothing, set-laid, length-laid}
 use Rattle.list_text.specs.Pieces.{PutDown}
 
@@ -16,6 +18,18 @@ put-nothing out at h = record { put = sym (laid-nothing out at); next = omega ar
 
 pub put_byte : (x : ℕ) (out : List ℕ) (at : ℕ) → at < length out → PutDown (x ∷ []) out at (set out at x) (at + 1)
 put_byte x out at h = record { put = set-laid out at x h; next = refl; inside = omega arith }
+
+-- A part of the buffer that was copied over.
+pub put_part : (text out part : List ℕ) (at : ℕ) → at + length text ≤ length out → part ≡ text
+    → PutDown text out at (put_mid at (at + length text - at) out part) (at + length text)
+unfolding laid
+put_part text out part at h is =
+    let long : at + length text - at ≡ length text = omega arith in
+    record {
+      put = rw (is, long) (ap (λ (l : List ℕ). take at out ++ (text ++ l)) (drop-drop (length text) at out));
+      next = refl;
+      inside = h;
+    }
 
 pub put-after : {xs ys out₀ : List ℕ} {from : ℕ} {out₁ : List ℕ} {at : ℕ} {out₂ : List ℕ} {r : ℕ}
     → PutDown xs out₀ from out₁ at → PutDown ys out₁ at out₂ r → PutDown (xs ++ ys) out₀ from out₂ r

@@ -29,11 +29,9 @@ fn put_more(numbers: &[u64], out: &mut [u8], from: usize) -> usize
     ensures { PutDown (behind numbers.now) out.old from out.new result }
 {
     let mut at = from;
-    let mut i = 0;
-    while i < numbers.len() {
+    for number in numbers {
         out[at] = b' ';
-        at = put_number(numbers[i], out, at + 1);
-        i += 1;
+        at = put_number(*number, out, at + 1);
     }
     at
 }
@@ -52,12 +50,9 @@ pub fn put_bytes(bytes: &[u8], out: &mut [u8], at: usize) -> usize
     requires { at + length bytes.now ≤ length out.old }
     ensures { PutDown bytes.now out.old at out.new result }
 {
-    let mut i = 0;
-    while i < bytes.len() {
-        out[at + i] = bytes[i];
-        i += 1;
-    }
-    at + i
+    let end = at + bytes.len();
+    out[at..end].copy_from_slice(bytes);
+    end
 }
 
 // Writes a line feed, and answers the place behind it.
@@ -70,7 +65,7 @@ fn end_line(out: &mut [u8], at: usize) -> usize
 }
 
 // What a line says of a module after its position and number.
-#[derive(Clone, Copy)]
+#[derive(Clone, Copy, PartialEq, Eq, Debug)]
 pub struct Counts {
     pub inputs: u64,
     pub outputs: u64,

@@ -4,34 +4,14 @@
 
 ghost use Rattle.std.specs.Prelude.{◌≤◌, length};
 
-// Whether a module begins behind this line end.
-fn is_next(rest: &[u8]) -> bool {
-    if rest.len() < 3 {
-        return false;
-    }
-    rest[0] == b'\n' && rest[1] == b' ' && rest[2] == b'('
-}
-
-// Where the module that begins at a place ends.
-fn list_end(modules: &[u8], from: usize) -> usize
-    requires { from ≤ length modules.now }
-    ensures lower_bound { from ≤ result }
-    ensures upper_bound { result ≤ length modules.now }
+// Where the first module's list ends: in front of the next one's line end, or with the text.
+fn list_end(modules: &[u8]) -> usize
+    ensures { result ≤ length modules.now }
 {
-    let mut to = from;
-    while to < modules.len() {
-        if is_next(&modules[to..]) {
-            return to;
-        }
-        to += 1;
-    }
-    to
-}
-
-fn wide(b: u8) -> u32
-    ensures { result ≤ 255 }
-{
-    b as u32
+    modules
+        .windows(3)
+        .position(|next| next.starts_with(b"\n ("))
+        .unwrap_or(modules.len())
 }
 
 // One digit more. The last four bits of a digit's byte are its value.
@@ -39,44 +19,30 @@ fn further(number: u32, digit: u8) -> u32
     requires { number ≤ 65535 }
     ensures { result ≤ 655605 }
 {
-    10 * number + wide(digit % 16)
-}
-
-fn is_digit(b: u8) -> bool {
-    48 <= b && b <= 57
+    10 * number + u32::from(digit % 16)
 }
 
 // `(M18 ..`: the number in its name.
 fn number_of(list: &[u8]) -> u32 {
     let mut number: u32 = 0;
-    let mut i = 2;
-    while i < list.len() {
-        if !is_digit(list[i]) || 65535 < number {
+    for byte in list.iter().skip(2) {
+        if !byte.is_ascii_digit() || 65535 < number {
             return number;
         }
-        number = further(number, list[i]);
-        i += 1;
+        number = further(number, *byte);
     }
     number
 }
 
-// The list of a module by its number; nothing where the text has no such module.
-pub fn module_list<'a>(text: &'a [u8], number: u16) -> &'a [u8] {
-    if text.len() < 3 {
-        return &text[..0];
-    }
-    let end = text.len() - 2;
-    let modules = &text[1..end];
-    let mut from = 0;
-    while from < modules.len() {
-        let to = list_end(modules, from);
-        if number_of(&modules[from..to]) == number as u32 {
-            return &modules[from..to];
+// The list of a module by its number, if the text has such a module.
+pub fn module_list(text: &[u8], number: u16) -> Option<&[u8]> {
+    let mut modules = text.strip_prefix(b"(")?.strip_suffix(b")\n")?;
+    while !modules.is_empty() {
+        let (list, behind) = modules.split_at(list_end(modules));
+        if number_of(list) == u32::from(number) {
+            return Some(list);
         }
-        if modules.len() - to < 2 {
-            return &text[..0];
-        }
-        from = to + 2;
+        modules = behind.get(2..)?;
     }
-    &text[..0]
+    None
 }

@@ -11,7 +11,9 @@ use lib.Seq.{take-take, length-take-le}
 use borrow.Author.Tests.{ne_eqb}
 use Rattle.meaning.specs.Listing.{line_feed}
 use Rattle.row_lines.specs.Lines.{lines_of, onto, bare, bare_length, judged, feed_at, found_as, found_in, carriage_return}
-use Rattle.row_lines.specs.declared.judging.Found.{Found}
+use Rattle.std.proofs.Common.{Option, Result}
+use Rattle.row_lines.specs.declared.judging.Bad.{Bad}
+use Rattle.row_lines.specs.declared.judging.Row.{Row}
 
 pub feed-within : (text : List ℕ) → feed_at text ≤ length text
 unfolding feed_at
@@ -36,7 +38,7 @@ word_of text feed h =
     take-take (bare_length (take feed text)) feed text (omega (arith, bare-within (take feed text), length-take-le feed text h))
 
 -- What is found where a line ends.
-pub found-there : (inputs : ℕ) (text : List ℕ) (feed long : ℕ) (r : Found) → feed ≡ feed_at text → (feed ≡ length text → ⊥)
+pub found-there : (inputs : ℕ) (text : List ℕ) (feed long : ℕ) (r : Result (Option Row) Bad) → feed ≡ feed_at text → (feed ≡ length text → ⊥)
     → long ≡ bare_length (take feed text)
     → r ≡ found_as (judged inputs (take long text)) (length (take long text)) (feed + 1)
     → r ≡ found_in inputs text

@@ -16,8 +16,8 @@ use Rattle.row_lines.specs.Words.{values_of}
 use Rattle.row_lines.specs.Lines.{lines_of, bare, judged, feed_at}
 use Rattle.row_lines.specs.Blocks.{Taken, none_taken, line_then, taken, Takes}
 use Rattle.row_lines.specs.Digits.{line_text, lines_text}
-use Rattle.row_lines.specs.declared.judging.Line.{Line}
-use Rattle.row_lines.specs.declared.judging.Line.TheVariants.{Row, Byte, Values}
+use Rattle.std.proofs.Common.{Option, Some, None}
+use Rattle.row_lines.specs.declared.judging.Bad.{Bad}
 use Rattle.row_lines.specs.declared.lines.Block.{Block}
 use Rattle.row_lines.proofs.Feeds.{feed-within, lines-first, lines_none}
 use Rattle.row_lines.proofs.Texts.{lines_more}
@@ -27,11 +27,11 @@ pub one_block : {most inputs : ℕ} {text values v w : List ℕ} {r s : Block} �
     → (v ≡ w) × (r ≡ s)
 one_block a b = (
   a.put ∙ sym b.put,
-  same (a.rows ∙ sym b.rows) (a.given ∙ sym b.given) (a.next ∙ sym b.next) (a.line ∙ sym b.line),
+  same (a.rows ∙ sym b.rows) (a.given ∙ sym b.given) (a.next ∙ sym b.next) (a.bad ∙ sym b.bad),
 )
   where
-    same : {r s : Block} → r.rows ≡ s.rows → r.given ≡ s.given → r.next ≡ s.next → r.line ≡ s.line → r ≡ s
-    same e f g h = λ i. record { rows = e i; given = f i; next = g i; line = h i }
+    same : {r s : Block} → r.rows ≡ s.rows → r.given ≡ s.given → r.next ≡ s.next → r.bad ≡ s.bad → r ≡ s
+    same e f g h = λ i. record { rows = e i; given = f i; next = g i; bad = h i }
 
 -- The lines behind a block's rows are those of the text behind the block.
 pub lines-behind : (most room inputs : ℕ) (text : List ℕ)
@@ -49,14 +49,13 @@ lines-behind (suc most) room inputs text =
     later = taken most (room - inputs) inputs (lines_of rest)
 
     -- Behind the first line, if that is a row that fits.
-    first : (t : Bool) (j : Line) (line : List ℕ) → length line ≡ feed_at text
-        → let u = cond t (line_then j (values_of (bare line)) (length line) later) (none_taken Row) in
+    first : (t : Bool) (j : Option Bad) (line : List ℕ) → length line ≡ feed_at text
+        → let u = cond t (line_then j (values_of (bare line)) (length line) later) (none_taken None) in
         lines_of text ≡ line ∷ lines_of rest → drop later.rows (lines_of rest) ≡ lines_of (drop later.long rest)
         → drop u.rows (lines_of text) ≡ lines_of (drop u.long text)
     first false j line long e behind = refl
-    first true (Byte at) line long e behind = refl
-    first true (Values count) line long e behind = refl
-    first true Row line long e behind =
+    first true (Some bad) line long e behind = refl
+    first true None line long e behind =
         ap (drop (suc later.rows)) e
         ∙ behind
         ∙ ap lines_of (drop-drop later.long (suc (feed_at text)) text ∙ ap (λ (n : ℕ). drop (suc n + later.long) text) (sym long))

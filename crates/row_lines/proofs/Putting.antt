@@ -3,11 +3,12 @@ use Prim.Native.Nat.{ℕ, suc, ◌+◌, ◌-◌, ◌≤◌, ◌<◌}
 use mathlib.Core.Path.{◌≡◌, refl, sym, ap, ap₂, ◌∙◌}
 use mathlib.Core.List.{List, [], ◌∷◌, ◌++◌}
 use native.Mathlib.Omega.{arith}
-use lib.ListN.{length, take, set, length-set, length-take, length-append}
+use lib.ListN.{length, take, drop, set, length-set, length-take, length-append}
 use lib.Seq.{take-nil}
 use Rattle.image.specs.Laid.{laid, laid-after, laid-nothing}
 use Rattle.list_text.specs.Pieces.{PutDown}
-use Rattle.list_text.proofs.Pieces.{put-length}
+use Rattle.list_text.proofs.Pieces.{put-length, put_byte}
+use Rattle.row_lines.specs.Words.{values_of}
 
 pub record Goes (out₀ : List ℕ) (from : ℕ) (all out : List ℕ) (at : ℕ) (rest : List ℕ) : Type 0 where
   pub room : at + length rest ≤ length out
@@ -67,3 +68,35 @@ fitting-more out at v {entries} {rest} h e =
   where
     one_more : length out - at ≡ suc (length out - (at + 1))
     one_more = omega arith
+
+-- How far a word is put.
+pub record Puts (word values₀ : List ℕ) (from : ℕ) (values : List ℕ) (at i : ℕ) : Type 0 where
+  pub passed : i ≤ length word
+  pub inside : at ≤ length values
+  pub goes : Goes values₀ from (fitting values₀ from (values_of word)) values at (fitting values at (values_of (drop i word)))
+
+module _ {word values₀ : List ℕ} {from : ℕ} {values : List ℕ} {at i : ℕ} (p : Puts word values₀ from values at i) (more : i < length word) where
+  pub puts-value : {v : ℕ} {values' : List ℕ} {at' : ℕ} → values_of (drop i word) ≡ v ∷ values_of (drop (i + 1) word) → (at ≡ length values → ⊥)
+      → values' ≡ set values at v → at' ≡ at + 1 → Puts word values₀ from values' at' (i + 1)
+  puts-value {v} one full stored behind =
+      rw (stored, behind)
+      record {
+        passed = omega arith;
+        inside = omega (arith, below, d.inside, put-kept);
+        goes = goes-piece (fitting-more values at v below one) d p.goes;
+      }
+    where
+      below : at < length values
+      below = let h = p.inside in omega (arith, full)
+
+      d : PutDown (v ∷ []) values at (set values at v) (at + 1)
+      d = put_byte v values at below
+
+      put-kept : length (set values at v) ≡ length values
+      put-kept = simp length-set
+
+  pub puts_none : {values' : List ℕ} {at' : ℕ} → values_of (drop i word) ≡ values_of (drop (i + 1) word) → values' ≡ values → at' ≡ at
+      → Puts word values₀ from values' at' (i + 1)
+  puts_none none kept stays =
+      rw (kept, stays)
+      record { passed = omega arith; inside = p.inside; goes = rw (ap (fitting values at) none) at p.goes }

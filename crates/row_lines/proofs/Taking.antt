@@ -10,12 +10,11 @@ use Rattle.list_text.specs.Pieces.{PutDown}
 use Rattle.list_text.proofs.Pieces.{put-length}
 use Rattle.row_lines.specs.Words.{values_of}
 use Rattle.row_lines.specs.Lines.{lines_of, bare, judged, found_in}
-use Rattle.row_lines.specs.Blocks.{Taken, none_taken, row_then, taken, Takes}
-use Rattle.row_lines.specs.declared.judging.Line.{Line}
-use Rattle.row_lines.specs.declared.judging.Line.TheVariants.{Row}
-use Rattle.row_lines.specs.declared.judging.Found.TheVariants as found
+use Rattle.row_lines.specs.Blocks.{Taken, none_taken, row_then, taken, block_of, Takes}
+use Rattle.std.proofs.Common.{Option, Some, None, Ok, Err}
+use Rattle.row_lines.specs.declared.judging.Bad.{Bad}
 use Rattle.row_lines.proofs.Putting.{Goes, goes-begin, goes-piece, goes_end}
-use Rattle.row_lines.proofs.Rows.{FoundRow, found-stop, row_count, taken-fits}
+use Rattle.row_lines.proofs.Rows.{FoundRow, found-end, found-bad, row_count, taken-fits}
 
 -- What lines come to from a place of the text on.
 abbrev pub behind : (left room inputs : ℕ) (text : List ℕ) (next : ℕ) → Taken
@@ -32,7 +31,7 @@ pub record Taking (most inputs : ℕ) (text values₀ values : List ℕ) (rows g
   pub inside : next ≤ length text
   pub rows_left : rows + (behind left room inputs text next).rows ≡ (whole most inputs text values₀).rows
   pub long-left : next + (behind left room inputs text next).long ≡ (whole most inputs text values₀).long
-  pub line-left : (behind left room inputs text next).line ≡ (whole most inputs text values₀).line
+  pub bad-left : (behind left room inputs text next).bad ≡ (whole most inputs text values₀).bad
   pub goes : Goes values₀ 0 (whole most inputs text values₀).values values given (behind left room inputs text next).values
 
 pub taking-begin : (most inputs : ℕ) (text values : List ℕ) → Taking most inputs text values values 0 0 0
@@ -45,17 +44,17 @@ taking-begin most inputs text values =
       inside = omega arith;
       rows_left = omega arith;
       long-left = omega arith;
-      line-left = refl;
+      bad-left = refl;
       goes = goes-begin values 0 _ (omega (arith, taken-fits most (length values) inputs (lines_of text)));
     }
 
 -- A row more in front.
-row-taken : (k room inputs : ℕ) (line : List ℕ) (lines : List (List ℕ)) → inputs ≤ room → judged inputs (bare line) ≡ Row
+row-taken : (k room inputs : ℕ) (line : List ℕ) (lines : List (List ℕ)) → inputs ≤ room → judged inputs (bare line) ≡ None
     → taken (suc k) room inputs (line ∷ lines) ≡ row_then (values_of (bare line)) (length line) (taken k (room - inputs) inputs lines)
 unfolding taken
 row-taken k room inputs line lines h row = rw (le-leb inputs room h, row)
 
-no_room : (k room inputs : ℕ) (lines : List (List ℕ)) → room < inputs → taken k room inputs lines ≡ none_taken Row
+no_room : (k room inputs : ℕ) (lines : List (List ℕ)) → room < inputs → taken k room inputs lines ≡ none_taken None
 unfolding taken
 no_room zero room inputs lines h = refl
 no_room (suc k) room inputs [] h = refl
@@ -63,37 +62,42 @@ no_room (suc k) room inputs (line ∷ lines) h = rw (lt-leb inputs room h)
 
 module _ {most inputs : ℕ} {text values₀ values : List ℕ} {rows given next : ℕ} (t : Taking most inputs text values₀ values rows given next) where
   -- Nothing more is taken.
-  taking-stop : (line : Line) → behind t.left t.room inputs text next ≡ none_taken line
-      → Takes most inputs text values₀ values (record { rows = rows; given = given; next = next; line = line })
-  taking-stop line none =
+  taking-stop : (bad : Option Bad) → behind t.left t.room inputs text next ≡ none_taken bad
+      → Takes most inputs text values₀ values (block_of rows given next bad)
+  taking-stop bad none =
       let put = goes_end (ap (λ (r : Taken). r.values) none) t.goes in
       record {
         rows = omega (arith, ap (λ (r : Taken). r.rows) none, t.rows_left);
         given = omega (arith, put.next);
         next = omega (arith, ap (λ (r : Taken). r.long) none, t.long-left);
-        line = sym (ap (λ (r : Taken). r.line) none) ∙ t.line-left;
+        bad = sym (ap (λ (r : Taken). r.bad) none) ∙ t.bad-left;
         put = put.put;
       }
 
-  pub taking-all : most ≤ rows → Takes most inputs text values₀ values (record { rows = rows; given = given; next = next; line = Row })
+  pub taking-all : most ≤ rows → Takes most inputs text values₀ values (block_of rows given next None)
   unfolding taken
   taking-all h =
-      taking-stop Row
+      taking-stop None
       (let none : t.left ≡ 0 = omega (arith, t.left_is) in ap (λ (k : ℕ). behind k t.room inputs text next) none)
 
   pub taking-full : length values - given < inputs
-      → Takes most inputs text values₀ values (record { rows = rows; given = given; next = next; line = Row })
-  taking-full h = taking-stop Row (no_room t.left t.room inputs (lines_of (drop next text)) (omega (arith, t.room-is)))
+      → Takes most inputs text values₀ values (block_of rows given next None)
+  taking-full h = taking-stop None (no_room t.left t.room inputs (lines_of (drop next text)) (omega (arith, t.room-is)))
 
   one_more : rows < most → t.left ≡ suc (t.left - 1)
   one_more more = omega (arith, t.left_is)
 
-  pub taking-found : {line : Line} → rows < most → inputs ≤ length values - given → found_in inputs (drop next text) ≡ found.Stop line
-      → Takes most inputs text values₀ values (record { rows = rows; given = given; next = next; line = line })
-  taking-found {line} more space e =
-      taking-stop line
+  pub taking-end : rows < most → found_in inputs (drop next text) ≡ Ok None → Takes most inputs text values₀ values (block_of rows given next None)
+  taking-end more e =
+      taking-stop None
+      (ap (λ (k : ℕ). behind k t.room inputs text next) (one_more more) ∙ found-end inputs (drop next text) (t.left - 1) t.room e)
+
+  pub taking-bad : {bad : Bad} → rows < most → inputs ≤ length values - given → found_in inputs (drop next text) ≡ Err bad
+      → Takes most inputs text values₀ values (block_of rows given next (Some bad))
+  taking-bad {bad} more space e =
+      taking-stop (Some bad)
       (ap (λ (k : ℕ). behind k t.room inputs text next) (one_more more)
-      ∙ found-stop inputs (drop next text) (t.left - 1) t.room (omega (arith, t.room-is)) e)
+      ∙ found-bad inputs (drop next text) (t.left - 1) t.room (omega (arith, t.room-is)) e)
 
   -- The row that is found next, with its values put.
   pub taking-row : {short long : ℕ} {values' : List ℕ} {given' : ℕ} → rows < most → inputs ≤ length values - given
@@ -109,7 +113,7 @@ module _ {most inputs : ℕ} {text values₀ values : List ℕ} {rows given next
         inside = omega (arith, f.within, length-drop next text, t.inside);
         rows_left = omega (arith, ap (λ (r : Taken). r.rows) parts, t.rows_left);
         long-left = omega (arith, ap (λ (r : Taken). r.long) parts, t.long-left, f.long);
-        line-left = sym (ap (λ (r : Taken). r.line) parts) ∙ t.line-left;
+        bad-left = sym (ap (λ (r : Taken). r.bad) parts) ∙ t.bad-left;
         goes = goes-piece (ap (λ (r : Taken). r.values) parts) d' t.goes;
       }
     where

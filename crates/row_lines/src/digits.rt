@@ -8,14 +8,13 @@ fn put_line(row: &[u8], out: &mut [u8], from: usize) -> usize
     requires { from + length row.now < length out.old }
     ensures { PutDown (line_text row.now) out.old from out.new result }
 {
-    let mut i = 0;
-    while i < row.len() {
-        out[from + i] = b'0' + row[i] % 10;
-        i += 1;
+    let mut at = from;
+    for value in row {
+        out[at] = b'0' + value % 10;
+        at += 1;
     }
-    let end = from + i;
-    out[end] = b'\n';
-    end + 1
+    out[at] = b'\n';
+    at + 1
 }
 
 // Puts the lines of rows that stand end to end, as far as there are values and there is room, and answers how long they are.
@@ -24,8 +23,7 @@ pub fn put_lines(values: &[u8], rows: usize, outputs: usize, out: &mut [u8]) -> 
 {
     let mut at = 0;
     let mut from = 0;
-    let mut row = 0;
-    while row < rows {
+    for _ in 0..rows {
         if values.len() - from < outputs {
             return at;
         }
@@ -35,7 +33,6 @@ pub fn put_lines(values: &[u8], rows: usize, outputs: usize, out: &mut [u8]) -> 
         let to = from + outputs;
         at = put_line(&values[from..to], out, at);
         from = to;
-        row += 1;
     }
     at
 }

@@ -9,7 +9,7 @@ mod spaces; // spaces.rt: the buffer that a text is read into
 mod words; // words.rt: the values of a word
 
 pub use digits::put_lines;
-pub use judging::Line;
+pub use judging::Bad;
 pub use lines::{Block, take_rows};
 pub use spaces::{carry, end_text};
 pub use words::{first_other, put_values};

@@ -33,10 +33,8 @@ pub fn carry(text: &mut [u8], from: usize, to: usize) -> usize
         return 0;
     }
     let long = to - from;
-    let mut i = 0;
-    while i < long {
+    for i in 0..long {
         text[i] = text[from + i];
-        i += 1;
     }
     long
 }

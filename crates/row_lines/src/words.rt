@@ -25,14 +25,9 @@ fn mark_of(byte: u8) -> u8
 pub fn first_other(word: &[u8]) -> usize
     ensures { result ≡ first_other word.now }
 {
-    let mut i = 0;
-    while i < word.len() {
-        if mark_of(word[i]) == OTHER {
-            return i;
-        }
-        i += 1;
-    }
-    i
+    word.iter()
+        .position(|byte| mark_of(*byte) == OTHER)
+        .unwrap_or(word.len())
 }
 
 // How many values a word has.
@@ -40,12 +35,10 @@ pub(crate) fn count_values(word: &[u8]) -> usize
     ensures { result ≡ length (values_of word.now) }
 {
     let mut values = 0;
-    let mut i = 0;
-    while i < word.len() {
-        if mark_of(word[i]) < GAP {
+    for byte in word {
+        if mark_of(*byte) < GAP {
             values += 1;
         }
-        i += 1;
     }
     values
 }
@@ -56,9 +49,8 @@ pub(crate) fn put_at(word: &[u8], values: &mut [u8], from: usize) -> usize
     ensures { PutDown (take (length values.old - from) (values_of word.now)) values.old from values.new result }
 {
     let mut at = from;
-    let mut i = 0;
-    while i < word.len() {
-        let mark = mark_of(word[i]);
+    for byte in word {
+        let mark = mark_of(*byte);
         if mark < GAP {
             if at == values.len() {
                 return at;
@@ -66,7 +58,6 @@ pub(crate) fn put_at(word: &[u8], values: &mut [u8], from: usize) -> usize
             values[at] = mark;
             at += 1;
         }
-        i += 1;
     }
     at
 }

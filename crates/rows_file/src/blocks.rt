@@ -1,19 +1,19 @@
 // A block of rows: taken from the text, run, and written as lines.
 use crate::reading::{behind, front, space};
-use crate::states::{Ended, Progress, Step, Task};
+use crate::states::{Progress, Stopped, Task};
+use refusals::Refusal;
 use row_lines::Block;
-use shelf::{Run, Writing};
+use shelf::Run;
 use std::io::Write;
 use std::num::{wrapping_add_u64, wrapping_add_usize};
 
 // The whole lines that stand in the buffer, at most 1,024.
 pub(crate) fn take(task: Task, progress: Progress, buffer: &[u8], values: &mut [u8]) -> Block {
-    let at = progress.at;
-    let filled = progress.filled;
-    row_lines::take_rows(behind(at, front(filled, buffer)), 1024, task.inputs, values)
+    let text = behind(progress.at, front(progress.filled, buffer));
+    row_lines::take_rows(text, 1024, task.inputs, values)
 }
 
-// Runs a block, writes its lines, and counts its rows on standard error.
+// Runs a block, writes its lines, and counts its rows on standard error. Answers how far it is then.
 pub(crate) fn run_block(
     rt: &impl Eprint,
     file: &[u8],
@@ -22,29 +22,29 @@ pub(crate) fn run_block(
     block: Block,
     values: &[u8],
     out: &mut impl Write,
-) -> Step {
+) -> Result<Progress, Stopped> {
     let mut outputs = space();
-    let run = evaluate(file, task.number, block.rows, values, &mut outputs);
-    let writing = run.writing;
-    match writing {
-        Writing::Refused { number, place } => Step::Over(Ended::Refused {
-            number,
-            place,
-            rows: progress.rows,
-            values: progress.values,
-        }),
-        Writing::Wrote(count) => {
-            if !write_lines(task, block.rows, front(count, &outputs), out) {
-                return Step::Over(Ended::Unwritten);
-            }
-            let next = behind_block(progress, block, run.work);
-            show_count(rt, next.rows);
-            Step::On(next)
-        }
+    let ran = evaluate(file, task.number, block.rows, values, &mut outputs);
+    let run = ran.map_err(|refusal| Stopped::Refused {
+        refusal,
+        rows: progress.rows,
+        values: progress.values,
+    })?;
+    if !write_lines(task, block.rows, front(run.written, &outputs), out) {
+        return Err(Stopped::Unwritten);
     }
+    let next = behind_block(progress, block, run.work);
+    show_count(rt, next.rows);
+    Ok(next)
 }
 
-fn evaluate(file: &[u8], number: u16, rows: usize, values: &[u8], outputs: &mut [u8]) -> Run {
+fn evaluate(
+    file: &[u8],
+    number: u16,
+    rows: usize,
+    values: &[u8],
+    outputs: &mut [u8],
+) -> Result<Run, Refusal> {
     let mut scratch = [0u32; 40960];
     evaluate_in(file, number, rows, values, &mut scratch, outputs)
 }
@@ -56,7 +56,7 @@ fn evaluate_in(
     values: &[u8],
     scratch: &mut [u32; 40960],
     outputs: &mut [u8],
-) -> Run {
+) -> Result<Run, Refusal> {
     shelf::evaluate_rows(file, number, rows, values, scratch, outputs)
 }
 

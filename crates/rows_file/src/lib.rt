@@ -3,10 +3,10 @@
 #![tactic(auto)]
 
 mod blocks; // blocks.rt: a block of rows
-mod reading; // reading.rt: bytes into a buffer, and parts of it
+mod reading; // reading.rt: parts of a buffer
 mod states; // states.rt: what is run, how far it is, and how it ended
 mod steps; // steps.rt: step by step
 
-pub use reading::{Loaded, front, load_from};
-pub use states::{Ended, Task};
+pub use reading::front;
+pub use states::{Done, Stopped, Task};
 pub use steps::run_text;

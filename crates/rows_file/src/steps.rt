@@ -1,8 +1,7 @@
 // A text of rows, step by step. It may be longer than any buffer: it is read piece by piece.
 use crate::blocks::{run_block, take};
-use crate::reading::{Loaded, front, load_from, space};
-use crate::states::{Ended, Progress, Step, Task};
-use row_lines::Line;
+use crate::reading::{front, space};
+use crate::states::{Done, Progress, Stopped, Task};
 use std::io::{Read, Write};
 use std::num::wrapping_add_usize;
 
@@ -12,7 +11,7 @@ pub fn run_text(
     task: Task,
     text: &mut impl Read,
     out: &mut impl Write,
-) -> Ended {
+) -> Result<Done, Stopped> {
     let mut buffer = space();
     run_steps(rt, file, task, text, out, &mut buffer)
 }
@@ -25,7 +24,7 @@ fn run_steps(
     text: &mut impl Read,
     out: &mut impl Write,
     buffer: &mut [u8],
-) -> Ended {
+) -> Result<Done, Stopped> {
     let mut progress = Progress {
         at: 0,
         filled: 0,
@@ -35,17 +34,20 @@ fn run_steps(
         work: 0,
     };
     for _ in 0..u64::MAX {
-        match take_step(rt, file, task, progress, text, out, buffer) {
-            Step::On(next) => {
-                progress = next;
+        match take_step(rt, file, task, progress, text, out, buffer)? {
+            Some(next) => progress = next,
+            None => {
+                return Ok(Done {
+                    rows: progress.rows,
+                    work: progress.work,
+                });
             }
-            Step::Over(ended) => return ended,
         }
     }
-    Ended::Unread
+    Err(Stopped::Unread)
 }
 
-// A block of the rows that stand in the buffer; where there is none, more of the text.
+// A block of the rows that stand in the buffer; where there is none, more of the text. Answers how far it is then, or nothing at the end.
 fn take_step(
     rt: &impl Eprint,
     file: &[u8],
@@ -54,35 +56,34 @@ fn take_step(
     text: &mut impl Read,
     out: &mut impl Write,
     buffer: &mut [u8],
-) -> Step {
+) -> Result<Option<Progress>, Stopped> {
     let mut values = space();
     let block = take(task, progress, buffer, &mut values);
     if 0 < block.rows {
-        let given = block.given;
-        return run_block(rt, file, task, progress, block, front(given, &values), out);
+        let given = front(block.given, &values);
+        return run_block(rt, file, task, progress, block, given, out).map(Some);
     }
-    let line = block.line;
-    match line {
-        Line::Row => read_on(progress, text, buffer),
-        _ => Step::Over(Ended::Bad(progress.rows, line)),
+    match block.bad {
+        Some(bad) => Err(Stopped::Bad(progress.rows, bad)),
+        None => read_on(progress, text, buffer),
     }
 }
 
 // More of the text, behind what is left of it; or the end.
-fn read_on(progress: Progress, text: &mut impl Read, buffer: &mut [u8]) -> Step {
+fn read_on(
+    progress: Progress,
+    text: &mut impl Read,
+    buffer: &mut [u8],
+) -> Result<Option<Progress>, Stopped> {
     if progress.over {
-        return Step::Over(Ended::Rows(progress.rows, progress.work));
+        return Ok(None);
     }
-    let at = progress.at;
-    let filled = progress.filled;
-    let kept = row_lines::carry(buffer, at, filled);
+    let kept = row_lines::carry(buffer, progress.at, progress.filled);
     if buffer.len() <= kept {
-        return Step::Over(Ended::Long(progress.rows));
+        return Err(Stopped::Long(progress.rows));
     }
-    match load_from(text, &mut buffer[kept..]) {
-        Loaded::Failed => Step::Over(Ended::Unread),
-        Loaded::Bytes(count) => Step::On(read_more(progress, kept, count, buffer)),
-    }
+    let count = streams::read_full(text, &mut buffer[kept..]).map_err(|_| Stopped::Unread)?;
+    Ok(Some(read_more(progress, kept, count, buffer)))
 }
 
 // Nothing more is read where the text is over; its last line is then ended, if it is not.
@@ -99,8 +100,6 @@ fn refilled(progress: Progress, filled: usize, over: bool) -> Progress {
         at: 0,
         filled,
         over,
-        rows: progress.rows,
-        values: progress.values,
-        work: progress.work,
+        ..progress
     }
 }

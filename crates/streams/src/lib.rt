@@ -37,6 +37,7 @@ pub fn read_full<S: Read>(source: &mut S, buffer: &mut [u8]) -> io::Result<usize
     ensures end { IfOk result (λ n. n < length buffer.new → IsAtEnd (S.remaining source.new)) }
 {
     let mut filled = 0;
+    // No count to go through: each read gives as many bytes as it has. `read_exact` says nothing of the bytes in front of an end.
     while filled < buffer.len() {
         let count = source.read(&mut buffer[filled..])?;
         if count == 0 {
@@ -72,10 +73,7 @@ pub fn remove(rt: &impl Files, name: &[u8]) -> io::Result<()> {
 
 // A name as the library wants it. Bytes that are no text name no file that it can reach.
 fn text_of(name: &[u8]) -> io::Result<&str> {
-    match str::from_utf8(name) {
-        Ok(text) => Ok(text),
-        Err(_) => Err(Error::from(ErrorKind::InvalidFilename)),
-    }
+    str::from_utf8(name).map_err(|_| Error::from(ErrorKind::InvalidFilename))
 }
 
 #[cfg(test)]
