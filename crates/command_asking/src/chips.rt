@@ -1,98 +1,47 @@
 // Chip families: a file of sixteen bytes, the delays of the gates in their order.
-use command_words::words::{Parsed, word_at};
-use rows_file::{Loaded, front};
+use command_files::failing::{Failure, Outcome};
+use command_files::files;
+use command_words::words::parse;
 use shelf::Family;
-use std::io;
 use std::rt::Files;
 
 // The family of a file that was named, where it holds one.
-#[derive(Clone, Copy)]
-struct Choice {
-    good: bool,
-    family: Family,
-}
-
-fn nothing() -> Choice {
-    Choice {
-        good: false,
-        family: Family { delays: [0u8; 16] },
-    }
-}
-
-// A file that is not there or has another length is told.
-fn named(rt: &(impl Files + Input + Print), path: &[u8]) -> io::Result<Choice> {
+fn named<'a>(rt: &(impl Files + Input), path: &'a [u8]) -> Result<Family, Failure<'a>> {
     let mut bytes = [0u8; 17];
-    match command_files::files::load_bytes(rt, path, &mut bytes) {
-        Loaded::Failed => {
-            command_files::files::cannot_read(rt, path)?;
-            Ok(nothing())
-        }
-        Loaded::Bytes(count) => {
-            if count != 16 {
-                command_words::saying::fail(rt, b"not a family of sixteen bytes: ", path)?;
-                return Ok(nothing());
-            }
-            Ok(Choice {
-                good: true,
-                family: families::of_bytes(front(count, &bytes)),
-            })
-        }
+    let Some(bytes) = files::load_bytes(rt, path, &mut bytes) else {
+        return Err(Failure::UnreadFile(path));
+    };
+    if bytes.len() != 16 {
+        return Err(Failure::NotAFamily(path));
     }
+    Ok(families::of_bytes(bytes))
 }
 
-pub fn list(rt: &(impl Files + Input + Print), chip: &[u8], path: &[u8]) -> io::Result<()> {
-    let chosen = named(rt, chip)?;
-    if chosen.good {
-        crate::asking::list(rt, path, chosen.family)?;
-    }
-    Ok(())
+pub fn list<'a>(rt: &(impl Files + Input + Print), chip: &'a [u8], path: &'a [u8]) -> Outcome<'a> {
+    crate::asking::list(rt, path, named(rt, chip)?)
 }
 
-pub fn count(
+pub fn count<'a>(
     rt: &(impl Files + Input + Print),
-    chip: &[u8],
-    path: &[u8],
-    number: &[u8],
-) -> io::Result<()> {
-    let chosen = named(rt, chip)?;
-    if chosen.good {
-        crate::asking::count(rt, path, number, chosen.family)?;
-    }
-    Ok(())
+    chip: &'a [u8],
+    path: &'a [u8],
+    module: &'a [u8],
+) -> Outcome<'a> {
+    crate::asking::count(rt, path, module, named(rt, chip)?)
 }
 
 // What a word says of a gate.
-#[derive(Clone, Copy)]
-enum Delay {
-    Of(u8),
-    Other,
+fn delay_in<'a>(word: &'a [u8]) -> Result<u8, Failure<'a>> {
+    parse(word)
+        .and_then(|number| u8::try_from(number).ok())
+        .ok_or(Failure::NotADelay(word))
 }
 
-fn delay_in(word: &[u8]) -> Delay {
-    match command_words::words::parse(word) {
-        Parsed::Other => Delay::Other,
-        Parsed::Number(n) => {
-            if 255 < n {
-                return Delay::Other;
-            }
-            Delay::Of(n as u8)
-        }
-    }
-}
-
-// Writes the delays that a line has behind its first word to the file `family`.
-pub fn write(rt: &(impl Files + Print), line: &[u8]) -> io::Result<()> {
+// Writes the delays that words say, sixteen at most, to the file `family`.
+pub fn write<'a>(rt: &(impl Files + Print), words: &[&'a [u8]]) -> Outcome<'a> {
     let mut delays = [0u8; 16];
-    for i in 0..16 {
-        let word = word_at(line, i + 1);
-        match delay_in(word) {
-            Delay::Other => {
-                return command_words::saying::fail(rt, b"not a delay from 0 to 255: ", word);
-            }
-            Delay::Of(delay) => {
-                delays[i] = delay;
-            }
-        }
+    for (delay, word) in delays.iter_mut().zip(words) {
+        *delay = delay_in(word)?;
     }
-    command_files::files::write(rt, &delays, b"family")
+    files::write(rt, &delays, b"family")
 }

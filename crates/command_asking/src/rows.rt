@@ -1,87 +1,55 @@
 // A text of rows, run on a module: the files that it is read from and written to. The work is told where it is asked for.
-use command_words::words::{Parsed, is};
-use rows_file::{Ended, Loaded, Task, front};
-use std::io;
+use command_files::failing::{Failure, Outcome};
+use command_files::{files, texts};
+use rows_file::{Done, Stopped, Task};
 use std::io::Read;
 use std::rt::Files;
 
-pub fn rows(
-    rt: &(impl Files + Input + Print + Eprint),
-    work: bool,
-    path: &[u8],
-    number: &[u8],
-    from: &[u8],
-    to: &[u8],
-) -> io::Result<()> {
-    if is(path, b"-") && is(from, b"-") {
-        return command_words::saying::fail(rt, b"FILE and ROWS cannot both be ", path);
-    }
-    match command_files::texts::module(rt, path, number) {
-        Parsed::Other => command_files::texts::no_module(rt, path, number),
-        Parsed::Number(n) => rows_of(rt, work, path, n, from, to),
-    }
-}
-
-fn rows_of(
-    rt: &(impl Files + Input + Print + Eprint),
-    work: bool,
-    path: &[u8],
-    number: u16,
-    from: &[u8],
-    to: &[u8],
-) -> io::Result<()> {
-    let mut file = [0u8; 65536];
-    match command_files::files::load(rt, path, &mut file) {
-        Loaded::Failed => command_files::files::cannot_read(rt, path),
-        Loaded::Bytes(count) => rows_in(rt, work, front(count, &file), number, from, to),
-    }
+// The texts that rows are read from and that their outputs are written to.
+#[derive(Clone, Copy)]
+pub struct Texts<'a> {
+    pub from: &'a [u8],
+    pub to: &'a [u8],
 }
 
 // How many inputs the module has is asked first, so that a line with another count of values can be told by its number.
-fn rows_in(
+pub fn rows<'a>(
     rt: &(impl Files + Input + Print + Eprint),
     work: bool,
-    file: &[u8],
-    number: u16,
-    from: &[u8],
-    to: &[u8],
-) -> io::Result<()> {
-    let mut scratch = [0u32; 40960];
-    let counted = crate::asking::count_in(file, number, families::unit(), &mut scratch);
-    if counted.number != 0 {
-        return command_words::refusing::refuse(rt, counted.number, counted.place);
+    path: &'a [u8],
+    module: &'a [u8],
+    texts: Texts<'a>,
+) -> Outcome<'a> {
+    if path == b"-".as_slice() && path == texts.from {
+        return Err(Failure::BothFrom(path));
     }
-    let figures = counted.figures;
-    rows_from(
-        rt,
-        work,
-        file,
-        Task {
-            number,
-            inputs: figures.inputs as usize,
-            outputs: figures.outputs as usize,
-        },
-        from,
-        to,
-    )
+    let number = texts::module(rt, path, module)?;
+    let mut space = [0u8; 65536];
+    let file = files::load(rt, path, &mut space)?;
+    let figures = crate::asking::count_in(file, number, families::unit())?;
+    let task = Task {
+        number,
+        inputs: figures.inputs as usize,
+        outputs: figures.outputs as usize,
+    };
+    rows_from(rt, work, file, task, texts)
 }
 
-fn rows_from(
+fn rows_from<'a>(
     rt: &(impl Files + Input + Print + Eprint),
     work: bool,
     file: &[u8],
     task: Task,
-    from: &[u8],
-    to: &[u8],
-) -> io::Result<()> {
-    let Ok(mut text) = command_files::files::open(rt, from) else {
-        return command_words::saying::missing(rt, from);
+    texts: Texts<'a>,
+) -> Outcome<'a> {
+    let Ok(mut text) = files::open(rt, texts.from) else {
+        return Err(Failure::Unread(texts.from));
     };
     let mut name = [0u8; 4096];
-    let long = command_files::files::partial(to, &mut name);
-    let ended = rows_through(rt, file, task, &mut text, front(long, &name), to);
-    command_files::files::close(text);
-    crate::telling::tell(rt, work, ended, task.inputs, from, to)
+    let part = files::partial(texts.to, &mut name);
+    let ended = rows_through(rt, file, task, &mut text, part, texts.to);
+    drop(text);
+    crate::telling::tell(rt, work, ended, task.inputs, texts)
 }
 
 // The lines go to a file of another name, which takes the file's place once all of them are there, and is removed where something is
@@ -93,22 +61,18 @@ fn rows_through(
     text: &mut impl Read,
     part: &[u8],
     to: &[u8],
-) -> Ended {
+) -> Result<Done, Stopped> {
     let Ok(mut out) = streams::create(rt, part) else {
-        return Ended::Unwritten;
+        return Err(Stopped::Unwritten);
     };
     let ended = rows_file::run_text(rt, file, task, text, &mut out);
     drop(out);
-    match ended {
-        Ended::Rows(_, _) => {
-            if command_files::files::take_place(rt, part, to) {
-                return ended;
-            }
-            Ended::Unwritten
-        }
-        _ => {
-            let _ = streams::remove(rt, part);
-            ended
-        }
+    if ended.is_err() {
+        let _ = streams::remove(rt, part);
+        return ended;
     }
+    if files::take_place(rt, Ok(()), part, to).is_err() {
+        return Err(Stopped::Unwritten);
+    }
+    ended
 }

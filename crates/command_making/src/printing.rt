@@ -1,69 +1,58 @@
 // A file as a text in the published list form, on standard output: all of it, or a module alone, as a list of one.
-use command_words::words::Parsed;
-use rows_file::{Loaded, front};
-use shelf::Writing;
-use std::io;
+use command_files::answered::written;
+use command_files::failing::Outcome;
+use command_files::{files, texts};
+use refusals::Refusal;
 use std::rt::Files;
 
-#[derive(Clone, Copy)]
-enum Wanted {
-    All,
-    Module(u16),
+pub fn print<'a>(rt: &(impl Files + Input + Print), path: &'a [u8]) -> Outcome<'a> {
+    print_wanted(rt, path, None)
 }
 
-pub fn print(rt: &(impl Files + Input + Print), path: &[u8]) -> io::Result<()> {
-    print_wanted(rt, path, Wanted::All)
-}
-
-pub fn print_module(
+pub fn print_module<'a>(
     rt: &(impl Files + Input + Print),
-    path: &[u8],
-    number: &[u8],
-) -> io::Result<()> {
-    match command_files::texts::module(rt, path, number) {
-        Parsed::Other => command_files::texts::no_module(rt, path, number),
-        Parsed::Number(n) => print_wanted(rt, path, Wanted::Module(n)),
-    }
+    path: &'a [u8],
+    module: &'a [u8],
+) -> Outcome<'a> {
+    let number = texts::module(rt, path, module)?;
+    print_wanted(rt, path, Some(number))
 }
 
-fn print_wanted(rt: &(impl Files + Input + Print), path: &[u8], wanted: Wanted) -> io::Result<()> {
-    let mut file = [0u8; 65536];
-    match command_files::files::load(rt, path, &mut file) {
-        Loaded::Failed => command_files::files::cannot_read(rt, path),
-        Loaded::Bytes(count) => print_of(rt, front(count, &file), wanted),
-    }
+// All modules, or the one of a number.
+fn print_wanted<'a>(
+    rt: &(impl Files + Input + Print),
+    path: &'a [u8],
+    wanted: Option<u16>,
+) -> Outcome<'a> {
+    let mut space = [0u8; 65536];
+    let file = files::load(rt, path, &mut space)?;
+    print_of(rt, file, wanted)
 }
 
 // A buffer that has room for any file's text.
-fn print_of(rt: &impl Print, file: &[u8], wanted: Wanted) -> io::Result<()> {
+fn print_of<'a>(rt: &impl Print, file: &[u8], wanted: Option<u16>) -> Outcome<'a> {
     let mut text = [0u8; 393210];
-    print_in(rt, file, wanted, &mut text)
-}
-
-fn print_in(
-    rt: &impl Print,
-    file: &[u8],
-    wanted: Wanted,
-    text: &mut [u8; 393210],
-) -> io::Result<()> {
-    match shelf::print_text(file, text) {
-        Writing::Refused { number, place } => command_words::refusing::refuse(rt, number, place),
-        Writing::Wrote(count) => show(rt, front(count, text), wanted),
-    }
-}
-
-fn show(rt: &impl Print, text: &[u8], wanted: Wanted) -> io::Result<()> {
+    let made = shelf::print_text(file, &mut text);
+    let text = written(made, &text)?;
     match wanted {
-        Wanted::All => command_words::saying::say(rt, text),
-        Wanted::Module(number) => show_list(rt, print_parts::module_list(text, number)),
+        None => rt.write_all(text)?,
+        Some(number) => match print_parts::module_list(text, number) {
+            Some(list) => show_list(rt, list)?,
+            None => {
+                let refusal = Refusal {
+                    number: 18,
+                    place: 0,
+                };
+                return Err(refusal.into());
+            }
+        },
     }
+    Ok(())
 }
 
-fn show_list(rt: &impl Print, list: &[u8]) -> io::Result<()> {
-    if list.len() < 1 {
-        return command_words::refusing::refuse(rt, 18, 0);
-    }
-    command_words::saying::say(rt, b"(")?;
-    command_words::saying::say(rt, list)?;
-    command_words::saying::say(rt, b")\n")
+fn show_list<'a>(rt: &impl Print, list: &[u8]) -> Outcome<'a> {
+    print!(rt; "(")?;
+    rt.write_all(list)?;
+    println!(rt; ")")?;
+    Ok(())
 }

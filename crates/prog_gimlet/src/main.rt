@@ -32,13 +32,13 @@ fn gather(rt: &impl Env, line: &mut [u8]) -> usize {
 
 // A word and the byte of 0 behind it, where there is room. Answers the place behind them.
 fn append(word: &[u8], line: &mut [u8], at: usize) -> usize {
-    if line.len() <= at {
+    let Some(rest) = line.get_mut(at..) else {
         return at;
-    }
-    if line.len() - at <= word.len() {
+    };
+    let Some(place) = rest.get_mut(..word.len() + 1) else {
         return at;
-    }
-    let end = list_text::put_bytes(word, line, at);
-    line[end] = 0;
-    end + 1
+    };
+    place[..word.len()].copy_from_slice(word);
+    place[word.len()] = 0;
+    at + word.len() + 1
 }

@@ -2,31 +2,21 @@
 // first, so that what is left as it was can be seen.
 #![tactic(auto)]
 
+use refusals::Refusal;
 use std::io;
-use test_orders::print_line;
+use test_orders::{order, show};
 
 fn main(rt: HostRuntime) -> io::Result<()> {
-    let mut few = [255u8; 4];
-    order(&rt, 0, &mut few)?;
-    print_line(&rt, &few)?;
-    order(&rt, 65, &mut few)?;
-    print_line(&rt, &few)?;
-    let mut short = [255u8; 66];
-    order(&rt, 1, &mut short)?;
-    print_line(&rt, &short)?;
-    let mut exact = [255u8; 67];
-    order(&rt, 1, &mut exact)?;
-    print_line(&rt, &exact)?;
-    let mut long = [255u8; 70];
-    order(&rt, 1, &mut long)?;
-    print_line(&rt, &long)?;
-    let mut one_less = [255u8; 1018];
-    order(&rt, 64, &mut one_less)?;
-    let mut widest = [255u8; 1019];
-    order(&rt, 64, &mut widest)
+    show::<4, _>(&rt, write, 0)?;
+    show::<4, _>(&rt, write, 65)?;
+    show::<66, _>(&rt, write, 1)?;
+    show::<67, _>(&rt, write, 1)?;
+    show::<70, _>(&rt, write, 1)?;
+    order::<1018, _>(&rt, write, 64)?;
+    order::<1019, _>(&rt, write, 64)
 }
 
-fn order(rt: &impl Print, width: usize, out: &mut [u8]) -> io::Result<()> {
-    test_orders::print_order(rt, width, out.len())?;
-    test_orders::print_answer(rt, write_order::adder(width, out))
+// A function of this crate, since one of another crate has no proof where it is passed by its name.
+fn write(width: usize, buffer: &mut [u8]) -> Result<usize, Refusal> {
+    write_order::adder(width, buffer)
 }

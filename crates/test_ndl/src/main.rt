@@ -3,28 +3,32 @@
 // byte less of names. Of every other line the answer is printed.
 #![tactic(auto)]
 
-use answers::Writing;
+ghost use Rattle.std.specs.Prelude.{◌≤◌};
+
+use refusals::Refusal;
 use std::io;
 use std::io::Read;
 
 fn main(rt: HostRuntime) -> io::Result<()> {
     let mut file = [0u8; 67];
-    shelf::adder(1, &mut file);
-    let mut names = [0u8; 129];
+    let _ = shelf::adder(1, &mut file); // the buffer is as long as the file
+    let mut line = [0u8; 129];
     let mut input = rt.reader();
-    streams::read_full(&mut input, &mut names)?;
-    first(&rt, &file, &names)?;
-    list_all(&rt, &mut input, &file, &mut names)
+    streams::read_full(&mut input, &mut line)?;
+    first(&rt, &file, names_of(&line))?;
+    list_all(&rt, &mut input, &file, &mut line)
 }
 
-fn first(rt: &impl Print, file: &[u8], line: &[u8]) -> io::Result<()> {
-    if line.len() < 129 {
-        return Ok(());
-    }
-    show(rt, file, &line[0..128])?;
-    fit(rt, file, &line[0..128])?;
-    let mut text = [0u8; 420];
-    print_answer(rt, shelf::write_ndl(file, &line[0..127], &mut text))
+// A line without the byte that is its end.
+fn names_of(line: &[u8]) -> &[u8] {
+    line.get(..128).unwrap_or(line)
+}
+
+fn first(rt: &impl Print, file: &[u8], names: &[u8]) -> io::Result<()> {
+    show(rt, file, names)?;
+    fit::<420>(rt, file, names)?;
+    fit::<419>(rt, file, names)?;
+    fit::<420>(rt, file, names.get(..127).unwrap_or(names))
 }
 
 fn show(rt: &impl Print, file: &[u8], names: &[u8]) -> io::Result<()> {
@@ -34,11 +38,12 @@ fn show(rt: &impl Print, file: &[u8], names: &[u8]) -> io::Result<()> {
     print_answer(rt, made)
 }
 
-fn fit(rt: &impl Print, file: &[u8], names: &[u8]) -> io::Result<()> {
-    let mut fitting = [0u8; 420];
-    print_answer(rt, shelf::write_ndl(file, names, &mut fitting))?;
-    let mut short = [0u8; 419];
-    print_answer(rt, shelf::write_ndl(file, names, &mut short))
+// The answer for a buffer of a length.
+fn fit<const N: usize>(rt: &impl Print, file: &[u8], names: &[u8]) -> io::Result<()>
+    requires { N ≤ 5190 }
+{
+    let mut text = [0u8; N];
+    print_answer(rt, shelf::write_ndl(file, names, &mut text))
 }
 
 // The other lines, a hundred at most.
@@ -46,32 +51,21 @@ fn list_all(
     rt: &impl Print,
     input: &mut impl Read,
     file: &[u8],
-    names: &mut [u8],
+    line: &mut [u8; 129],
 ) -> io::Result<()> {
-    let mut left: u32 = 100;
-    while 0 < left {
-        if streams::read_full(input, names)? < 129 {
+    for _ in 0..100 {
+        if streams::read_full(input, line)? < 129 {
             return Ok(());
         }
-        list(rt, file, names)?;
-        left -= 1;
+        rt.write_all(line)?;
+        fit::<5190>(rt, file, names_of(line))?;
     }
     Ok(())
 }
 
-// The line's last byte is its end.
-fn list(rt: &impl Print, file: &[u8], line: &[u8]) -> io::Result<()> {
-    if line.len() < 129 {
-        return Ok(());
-    }
-    rt.write_all(line)?;
-    let mut text = [0u8; 5190];
-    print_answer(rt, shelf::write_ndl(file, &line[0..128], &mut text))
-}
-
-fn print_answer(rt: &impl Print, answer: Writing) -> io::Result<()> {
+fn print_answer(rt: &impl Print, answer: Result<usize, Refusal>) -> io::Result<()> {
     match answer {
-        Writing::Wrote(count) => println!(rt; "wrote {count}"),
-        Writing::Refused { number, place } => println!(rt; "refused {number} {place}"),
+        Ok(count) => println!(rt; "wrote {count}"),
+        Err(Refusal { number, place }) => println!(rt; "refused {number} {place}"),
     }
 }

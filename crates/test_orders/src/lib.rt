@@ -1,43 +1,63 @@
 // Prints what is ordered of a writer, and what comes back.
 #![tactic(auto)]
 
-ghost use Rattle.std.specs.Prelude.{◌<◌};
+ghost use Rattle.std.specs.Prelude.{◌≤◌};
 
-use answers::Writing;
+use refusals::Refusal;
 use std::io;
 
-// The width and the buffer's length.
-pub fn print_order(rt: &impl Print, width: usize, buffer: usize) -> io::Result<()> {
-    print!(rt; "width {width} buffer {buffer}")
+// Orders a width into a buffer of a length: prints both, and the answer.
+pub fn order<const N: usize, F: FnOnce(usize, &mut [u8]) -> Result<usize, Refusal>>(
+    rt: &impl Print,
+    writer: F,
+    width: usize,
+) -> io::Result<()>
+    requires callable { F.IsAlwaysCallable writer }
+    requires short { N ≤ 65536 }
+{
+    let mut buffer = [255u8; N];
+    order_into(rt, writer, width, &mut buffer)
+}
+
+// The same, and then the buffer. Each byte of it is FF at first, so that what is left as it was can be seen.
+pub fn show<const N: usize, F: FnOnce(usize, &mut [u8]) -> Result<usize, Refusal>>(
+    rt: &impl Print,
+    writer: F,
+    width: usize,
+) -> io::Result<()>
+    requires callable { F.IsAlwaysCallable writer }
+    requires short { N ≤ 65536 }
+{
+    let mut buffer = [255u8; N];
+    order_into(rt, writer, width, &mut buffer)?;
+    print_line(rt, &buffer)
+}
+
+fn order_into<F: FnOnce(usize, &mut [u8]) -> Result<usize, Refusal>>(
+    rt: &impl Print,
+    writer: F,
+    width: usize,
+    buffer: &mut [u8],
+) -> io::Result<()>
+    requires { F.IsAlwaysCallable writer }
+{
+    let long = buffer.len();
+    print!(rt; "width {width} buffer {long}")?;
+    print_answer(rt, writer(width, buffer))
 }
 
 // The answer, which ends the line.
-pub fn print_answer(rt: &impl Print, answer: Writing) -> io::Result<()> {
+pub fn print_answer(rt: &impl Print, answer: Result<usize, Refusal>) -> io::Result<()> {
     match answer {
-        Writing::Wrote(count) => println!(rt; " wrote {count}"),
-        Writing::Refused { number, place } => println!(rt; " refused {number} {place}"),
+        Ok(count) => println!(rt; " wrote {count}"),
+        Err(Refusal { number, place }) => println!(rt; " refused {number} {place}"),
     }
 }
 
 // A line of bytes in hexadecimal.
 pub fn print_line(rt: &impl Print, bytes: &[u8]) -> io::Result<()> {
-    print_bytes(rt, bytes)?;
-    println!(rt)
-}
-
-fn print_bytes(rt: &impl Print, bytes: &[u8]) -> io::Result<()> {
-    for i in 0..bytes.len() {
-        print_byte(rt, bytes[i])?;
+    for byte in bytes {
+        print!(rt; " {byte:02X}")?;
     }
-    Ok(())
-}
-
-fn print_byte(rt: &impl Print, b: u8) -> io::Result<()> {
-    rt.write_all(&[b' ', digit(b / 16), digit(b % 16)])
-}
-
-fn digit(d: u8) -> u8
-    requires { d < 16 }
-{
-    if d < 10 { b'0' + d } else { b'A' + (d - 10) }
+    println!(rt)
 }

@@ -1,55 +1,7 @@
-// What the command says.
-use std::io;
+// How each command is asked for: `gimlet help` prints these one after the other.
 
-pub fn say(rt: &impl Print, text: &[u8]) -> io::Result<()> {
-    rt.write_all(text)
-}
-
-pub fn say_number(rt: &impl Print, number: u64) -> io::Result<()> {
-    rt.print(number)
-}
-
-pub fn end_line(rt: &impl Print) -> io::Result<()> {
-    say(rt, b"\n")
-}
-
-// A figure with its name in front.
-pub fn say_figure(rt: &impl Print, name: &[u8], figure: u32) -> io::Result<()> {
-    say(rt, name)?;
-    say_number(rt, figure as u64)
-}
-
-// A command that could not be carried out: why, and on what.
-pub fn fail(rt: &impl Print, why: &[u8], what: &[u8]) -> io::Result<()> {
-    say(rt, b"failed: ")?;
-    say(rt, why)?;
-    say(rt, what)?;
-    end_line(rt)
-}
-
-// A file that should be there.
-pub fn missing(rt: &impl Print, path: &[u8]) -> io::Result<()> {
-    fail(rt, b"cannot read ", path)
-}
-
-// A word that should be a number.
-pub fn not_a_number(rt: &impl Print, word: &[u8]) -> io::Result<()> {
-    fail(rt, b"not a number from 0 to 65535: ", word)
-}
-
-// A command that is not one of ours.
-pub fn usage(rt: &impl Print) -> io::Result<()> {
-    say(
-        rt,
-        b"failed: no such command, or not its words; see gimlet help\n",
-    )
-}
-
-// How each command is asked for.
-pub fn help(rt: &impl Print) -> io::Result<()> {
-    say(
-        rt,
-        b"\
+// Commands that ask about the modules of a file.
+pub const ASKING: &[u8] = b"\
 gimlet check FILE                whether the file is accepted: ok, or refused and why
 gimlet strict FILE               whether it is accepted and uses no four-input gate
 gimlet rewrite FILE OUT          writes it with gates of two inputs in place of those of
@@ -70,6 +22,10 @@ gimlet run --work FILE ..        the same, and a last line with the occurrences 
 gimlet rows FILE MODULE ROWS OUT runs the module on each line of ROWS, a word of values
                                  as for run, and writes its outputs as a line of OUT
 gimlet rows --work FILE ..       the same, and a last line with the occurrences they ran
+";
+
+// Commands that make a file or a text.
+pub const MAKING: &[u8] = b"\
 gimlet flatten FILE MODULE OUT   writes the module as plain gates to the file OUT
 gimlet find GROUP HOUSE MODULE   which file has the module, the group's before the
                                  house's; with a word OUT more, writes a file of it
@@ -88,18 +44,24 @@ gimlet counter WIDTH OUT         writes a leading-zero counter, width 1 to 64; i
 gimlet read TEXT OUT             makes the file OUT from a text in the published list form
 gimlet print FILE                the file as such a text; with a word MODULE more, the
                                  module alone, as a list of one
+";
+
+// Commands that file words of bases, and this one.
+pub const FILING: &[u8] = b"\
 gimlet file WORD                 the shelf of a word of 1 to 16 bases A, C, G and T: the
                                  leading zeros of its 32 bits, 0 to 32
 gimlet file-sequence FILE LENGTH how many words of that length go to each shelf, a line
                                  with a bar for each, and the total. FILE holds bases,
                                  or is FASTA: each record is a sequence of its own
 gimlet help                      this text
+";
+
+// What the words and the answers are.
+pub const WORDS: &[u8] = b"\
 FILE or ROWS may be -, for standard input. FILE, GROUP and HOUSE may be texts in the
 published list form where their names end in .lisp, .list or .lsp. MODULE is a module's
 number; of a FILE that is a text it may be a name.
 An answer is one line, and with --work a last one more; a listing and file-sequence have more lines.
 A refusal is a line with its number and place, and lines that say them in words.
 What could not be carried out at all is a line that begins with failed.
-",
-    )
-}
+";

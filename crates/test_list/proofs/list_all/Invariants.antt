@@ -1,9 +1,0 @@
--- Case after case, the lists as long as they were.
-use Rattle.std.proofs.Common.{◌≡◌, length}
-use Rattle.test_list.proofs.list_all.Given as goal
-
-abbrev pub invariant-loop-left : goal.invariant-loop-left
-invariant-loop-left g l = (length l.label ≡ length l.initial.label) × (length l.file ≡ length l.initial.file)
-
-abbrev pub decreases-loop-left : goal.decreases-loop-left
-decreases-loop-left g l = l.left
