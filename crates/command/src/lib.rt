@@ -19,7 +19,8 @@ pub fn perform(rt: &(impl Files + Input + Print + Eprint), line: &[u8]) -> io::R
     }
 }
 
-// The command of a name, by the words that it is asked for in.
+// The command of a name, by the words that it is asked for in. The commands go by groups, each of which hands on what is none of its own: a proof of
+// all in one match would take as long as their number squared.
 fn carry_out<'a>(rt: &(impl Files + Input + Print + Eprint), words: &[&'a [u8]]) -> Outcome<'a> {
     match words {
         [b"help"] => print_help(rt),
@@ -27,9 +28,16 @@ fn carry_out<'a>(rt: &(impl Files + Input + Print + Eprint), words: &[&'a [u8]])
         [b"strict", file] => asking::strict(rt, file),
         [b"list", file] => asking::list(rt, file, list_file::chip::here(rt)),
         [b"list", b"--family", chip, file] => chips::list(rt, chip, file),
+        [b"family", delays @ ..] if delays.len() == 16 => chips::write(rt, delays),
+        _ => ask(rt, words),
+    }
+}
+
+// The commands that count and run a module.
+fn ask<'a>(rt: &(impl Files + Input + Print + Eprint), words: &[&'a [u8]]) -> Outcome<'a> {
+    match words {
         [b"count", file, module] => asking::count(rt, file, module, list_file::chip::here(rt)),
         [b"count", b"--family", chip, file, module] => chips::count(rt, chip, file, module),
-        [b"family", delays @ ..] if delays.len() == 16 => chips::write(rt, delays),
         [b"run", file, module, values] => asking::run(rt, false, file, module, values),
         [b"run", b"--work", file, module, values] => asking::run(rt, true, file, module, values),
         [b"rows", file, module, from, to] => {
@@ -42,7 +50,7 @@ fn carry_out<'a>(rt: &(impl Files + Input + Print + Eprint), words: &[&'a [u8]])
     }
 }
 
-// The commands that make a file or a text, and those that file words.
+// Those that make a file of files.
 fn make<'a>(rt: &(impl Files + Input + Print), words: &[&'a [u8]]) -> Outcome<'a> {
     match words {
         [b"rewrite", file, out] => making::rewrite(rt, file, out),
@@ -50,8 +58,13 @@ fn make<'a>(rt: &(impl Files + Input + Print), words: &[&'a [u8]]) -> Outcome<'a
         [b"find", group, house, module] => shelves::find(rt, group, house, module, b""),
         [b"find", group, house, module, out] => shelves::find(rt, group, house, module, out),
         [b"join", group, house, out] => shelves::join(rt, group, house, out),
-        [b"ndl", file, out] => listing::ndl(rt, file, out, b""),
-        [b"ndl", file, out, names] => listing::ndl(rt, file, out, names),
+        _ => order(rt, words),
+    }
+}
+
+// Those that write a file to order.
+fn order<'a>(rt: &(impl Files + Input + Print), words: &[&'a [u8]]) -> Outcome<'a> {
+    match words {
         [b"adder", width, out] => making::to_order(
             rt,
             |width, bytes| shelf::adder(width, bytes),
@@ -76,6 +89,15 @@ fn make<'a>(rt: &(impl Files + Input + Print), words: &[&'a [u8]]) -> Outcome<'a
             width,
             out,
         ),
+        _ => write(rt, words),
+    }
+}
+
+// Those that read and write texts, and those that file words.
+fn write<'a>(rt: &(impl Files + Input + Print), words: &[&'a [u8]]) -> Outcome<'a> {
+    match words {
+        [b"ndl", file, out] => listing::ndl(rt, file, out, b""),
+        [b"ndl", file, out, names] => listing::ndl(rt, file, out, names),
         [b"read", text, out] => making::read(rt, text, out),
         [b"print", file] => printing::print(rt, file),
         [b"print", file, module] => printing::print_module(rt, file, module),
