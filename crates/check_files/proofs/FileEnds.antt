@@ -48,7 +48,7 @@ going-ends {ms} (Ok tt) g =
     }
 going-ends {ms} (Err r) g =
     elim g.judged [
-      | broken b ↦ rw b
+      | broken low b ↦ rw b
       | over is good size ↦ rw (good, is) (size (good-fits 0 ms good))
     ]
 

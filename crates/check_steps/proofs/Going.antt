@@ -21,13 +21,14 @@ use Rattle.std.specs.Prelude.{Ok, Err}
 use Rattle.refusals.specs.Refused.{refusal_at}
 use Rattle.check_steps.specs.Found.{Found, Judges, broken, over, over_of}
 use Rattle.check_steps.specs.Going.{Done}
+use Rattle.check_steps.proofs.Rules.{rule-low}
 
 -- The module at k, in front of those that are done.
 module _ (ms : List Module) (k : ℕ) {m : Module} {later : List Module} (e : At ms k m later) where
   -- It breaks a rule: then that one counts.
   pub judged-broken : {rule : ℕ} → module_verdict k m later ≡ refused rule k → Judges (Err (refusal_at rule k)) k ms
   unfolding modules_verdict
-  judged-broken breaks = broken (rw (e, breaks) refl)
+  judged-broken breaks = broken (rule-low k m later breaks) (rw (e, breaks) refl)
 
   module _ (fine : module_verdict k m later ≡ good) where
     modules-behind : modules_verdict k (drop k ms) ≡ modules_verdict (k + 1) (drop (k + 1) ms)
@@ -48,7 +49,7 @@ module _ (ms : List Module) (k : ℕ) {m : Module} {later : List Module} (e : At
         modules-behind ∙ j.0,
         λ fits. rw e (measured_fine fits k e ((done refl).tabled fits) s.summed (sizes-behind (j.1 fits)) small),
       )
-      judged-kept (Err r) done (broken b) small = broken (modules-behind ∙ b)
+      judged-kept (Err r) done (broken low b) small = broken low (modules-behind ∙ b)
       judged-kept (Err r) done (over is fine_behind size) small = over is (modules-behind ∙ fine_behind) (λ fits. over-behind (size fits))
 
       pub judged-over :
@@ -56,7 +57,7 @@ module _ (ms : List Module) (k : ℕ) {m : Module} {later : List Module} (e : At
       judged-over (Ok tt) done j large =
           over refl (modules-behind ∙ j.0)
           (λ fits. rw e (measured_over fits k e ((done refl).tabled fits) s.summed (sizes-behind (j.1 fits)) large))
-      judged-over (Err r) done (broken b) large = broken (modules-behind ∙ b)
+      judged-over (Err r) done (broken low b) large = broken low (modules-behind ∙ b)
       judged-over (Err r) done (over is fine_behind size) large = over is (modules-behind ∙ fine_behind) (λ fits. over-behind (size fits))
 
       -- Its image, its nets and its figures join those of the others.

@@ -1,4 +1,5 @@
 -- Facts that the proofs cite.
+pub mod Rules
 pub mod Repeats
 pub mod Going
 pub mod FileWalk

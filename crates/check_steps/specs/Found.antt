@@ -31,7 +31,7 @@ over_of (Err before) place = Err before
 -- Why the modules from position k on are refused: one of them breaks a rule of 6 to 16, the first that does; or none does, and a size is
 -- over its limit. Sizes count only where the whole file keeps rules 6 to 16.
 pub data Refuses (r : Refusal) (k : ℕ) (ms : List Module) : Type 0 where
-  broken : modules_verdict k (drop k ms) ≡ refused r.number r.place → Refuses r k ms
+  broken : r.number ≤ 16 → modules_verdict k (drop k ms) ≡ refused r.number r.place → Refuses r k ms
   over : r.number ≡ 17 → modules_verdict k (drop k ms) ≡ good → (Fits ms → sizes_verdict k (drop k ms) ≡ refused 17 r.place) → Refuses r k ms
 
 -- What was found in the modules from position k on.
