@@ -1,3 +1,2 @@
 -- From the library's answers to the numbers that a C caller gets.
 pub mod Reporting
-pub mod Telling

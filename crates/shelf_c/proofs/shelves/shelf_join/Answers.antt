@@ -1,6 +1,6 @@
 -- The number of the file is that of the case that `join` answers.
 use Rattle.std.proofs.Common.{sym, ◌∙◌, length}
-use Rattle.shelf_c.proofs.Telling.{join-told}
+use Rattle.join_ending.specs.Joins.{join-told}
 use Rattle.shelf_c.proofs.shelves.shelf_join.Goals as goal
 
 pub returns-in-Ok-clause-which_after : goal.returns-in-Ok-clause-which_after

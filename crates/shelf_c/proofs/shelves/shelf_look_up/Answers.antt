@@ -1,6 +1,6 @@
 -- The number of the file is that of the case that `which_shelf` answers.
 use Rattle.std.proofs.Common.{sym, ap, ◌∙◌, Ok}
-use Rattle.shelf_c.proofs.Telling.{look-told}
+use Rattle.call_look_up.specs.Looking.{look-told}
 use Rattle.shelf_c.proofs.shelves.shelf_look_up.Goals as goal
 
 pub returns-in-Ok-House-clause-which_after : goal.returns-in-Ok-House-clause-which_after
