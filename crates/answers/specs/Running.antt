@@ -28,22 +28,34 @@ pub record Runs (decision : Decision Ran) (scratch out scratch' out' : List ℕ)
   pub settled : Settles (written_by decision) scratch out scratch' out' (writing_in result)
   pub worked : work_in result ≡ work_after decision
 
--- A call that settles, beside the work that goes with its answer.
+-- What was written, with the work beside it: a refusal has none.
+abbrev pub run_of : Result ℕ Refusal → (work : ℕ) → Result Run Refusal
+run_of (Ok count) work = Ok (record { written = count; work = work })
+run_of (Err r) work = Err r
+
+written-beside : (w : Result ℕ Refusal) (work : ℕ) → writing_in (run_of w work) ≡ w
+written-beside (Ok count) work = refl
+written-beside (Err r) work = refl
+
+-- A call that settles, beside the work that goes with its answer, whatever it answers.
 pub runs-beside :
+    (decision : Decision Written) {work counted : ℕ} {scratch out scratch' out' : List ℕ} {w : Result ℕ Refusal}
+    → Settles decision scratch out scratch' out' w
+    → ((written : Written) → decision ≡ answer written → counted ≡ work)
+    → Runs (with_work decision work) scratch out scratch' out' (run_of w counted)
+runs-beside (refusal number place) settles counts =
+    record { settled = rw (written-beside _ _) settles; worked = rw settles.answered.is refl }
+runs-beside (answer written) settles counts =
+    record { settled = rw (written-beside _ _) settles; worked = rw settles.answered.is (counts written refl) }
+
+-- The same where it is known that it was answered.
+pub runs-answered :
     (decision : Decision Written) {work counted count : ℕ} {scratch out scratch' out' : List ℕ} {w : Result ℕ Refusal}
     → w ≡ Ok count
     → Settles decision scratch out scratch' out' w
     → ((written : Written) → decision ≡ answer written → counted ≡ work)
     → Runs (with_work decision work) scratch out scratch' out' (Ok (record { written = count; work = counted }))
-runs-beside (refusal number place) is settles counts = absurd (ok_not_err (sym is ∙ settles.answered.is))
-runs-beside (answer written) is settles counts =
-    record {
-      settled = record {
-        answered = record { is = sym is ∙ settles.answered.is; out = settles.answered.out };
-        scratched = settles.scratched;
-      };
-      worked = counts written refl;
-    }
+runs-answered decision is settles counts = runs-beside decision {w = Ok _} (rw is at settles) counts
 
 -- What a caller is promised: the answer and both buffers are those of the call as it is without its work, and the work is beside them.
 pub record RunsAs (decision : Decision Written) (ran : Decision Ran) (scratch out scratch' out' : List ℕ) (result : Result Run Refusal) : Type 0 where

@@ -6,7 +6,7 @@ use Rattle.meaning.specs.Rows.{most_rows, rows_evaluation_on}
 use Rattle.laws.specs.Calls.{demand-met}
 use Rattle.laws.specs.Work.{block_works}
 use Rattle.answers.specs.Answers.{when_answered}
-use Rattle.answers.specs.Running.{runs-beside}
+use Rattle.answers.specs.Running.{runs-answered}
 use Rattle.call_flatten.proofs.Measured.{size_low}
 use Rattle.call_rows.proofs.run_at.Goals as goal
 
@@ -26,7 +26,7 @@ pub returns : goal.returns
 returns c s =
     let a = c.args in
     let values = a.values.now in
-    runs-beside (rows_evaluation_on a.site.number a.rows values (length a.scratch.now) (length a.out.now) s.ms s.found.m)
+    runs-answered (rows_evaluation_on a.site.number a.rows values (length a.scratch.now) (length a.out.now) s.ms s.found.m)
     c.in_ok-written.was (c.rows_at.ensures s)
     (λ written h.
     ap (λ (n : ℕ). a.rows * n) s.size_is ∙ sym (block_works s.ms a.site.number a.rows (length s.found.m.inputs) values))
