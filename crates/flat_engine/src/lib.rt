@@ -31,7 +31,7 @@ pub fn flatten(image: Image, k: usize, number: u16, scratch: &mut [u16], bytes: 
         next: inputs as u16,
         at: 0,
     };
-    let last = crate::walk::place_module(image, k, first, scratch, bytes);
+    let last = crate::walk::place_module(&image, k, first, scratch, bytes);
     let gates = last.at;
     let whole = flat_bytes::front::set_front(
         image.numbers,

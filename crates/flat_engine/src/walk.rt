@@ -1,5 +1,5 @@
 // A module and its list of occurrences, placed through each other: placing a module walks over its occurrences, which places the modules
-// that they refer to.
+// that they refer to. The image comes by reference: by value its three slices would be copied at each call.
 ghost use Rattle.std.specs.Prelude.{get_or};
 ghost use Rattle.image.specs.Places.{HeaderOf};
 ghost use Rattle.flat_engine.specs.Plan.{Plan, Ready, SomeReady, SomeWalkable, Done};
@@ -12,14 +12,14 @@ use image::places::Header;
 // The module at position k. The nets of its inputs stand at the front of the scratch, and in the end those of all its slots do.
 #[cycle(place_module_walk)]
 pub(crate) fn place_module(
-    image: Image,
+    image: &Image<'_>,
     k: usize,
     pen: Pen,
     scratch: &mut [u16],
     bytes: &mut [u8],
 ) -> Pen
-    requires { SomeReady image.numbers.now image.starts.now image.nets.now k pen scratch.old bytes.old }
-    ensures { (p : Plan) → Ready p image.entry.numbers.now image.entry.starts.now image.entry.nets.now k pen scratch.old bytes.old → Done p scratch.old scratch.new result bytes.new }
+    requires { SomeReady image.now.numbers.now image.now.starts.now image.now.nets.now k pen scratch.old bytes.old }
+    ensures { (p : Plan) → Ready p image.now.numbers.now image.now.starts.now image.now.nets.now k pen scratch.old bytes.old → Done p scratch.old scratch.new result bytes.new }
 {
     let header = image::places::module_at(image.numbers, image.starts[k]);
     walk(image, k, header, pen, scratch, bytes)
@@ -29,15 +29,15 @@ pub(crate) fn place_module(
 // front of that part, and its outputs from there.
 #[cycle(place_module_walk)]
 fn walk(
-    image: Image,
+    image: &Image<'_>,
     k: usize,
     header: Header,
     pen: Pen,
     scratch: &mut [u16],
     bytes: &mut [u8],
 ) -> Pen
-    requires { SomeWalkable image.numbers.now image.starts.now image.nets.now k header pen scratch.old bytes.old }
-    ensures { (p : Plan) → Ready p image.entry.numbers.now image.entry.starts.now image.entry.nets.now k pen scratch.old bytes.old → HeaderOf image.entry.numbers.now (get_or image.entry.starts.now k 0) p.m header → Done p scratch.old scratch.new result bytes.new }
+    requires { SomeWalkable image.now.numbers.now image.now.starts.now image.now.nets.now k header pen scratch.old bytes.old }
+    ensures { (p : Plan) → Ready p image.now.numbers.now image.now.starts.now image.now.nets.now k pen scratch.old bytes.old → HeaderOf image.now.numbers.now (get_or image.now.starts.now k 0) p.m header → Done p scratch.old scratch.new result bytes.new }
 {
     let frame = image.nets[k];
     // The pen's numbers by themselves, since a struct that is lent on is kept in memory.

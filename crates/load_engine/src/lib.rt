@@ -23,20 +23,20 @@ pub struct Weighed {
 
 // Tally and largest load of the module at position k; the loads of its inputs and outputs are left in `loads`. An entry of `known` above 0 says that
 // both are kept: the tally in its row, and the entry is the largest load plus 1. What is kept is looked up, so the work is bounded by the
-// length of the file.
+// length of the file. The image comes by reference: by value its three slices would be copied at each call.
 fn weigh_once(
-    image: Image,
+    image: &Image<'_>,
     k: usize,
     scratch: &mut [u32],
     loads: &mut [u32],
     rows: &mut [u32],
     known: &mut [u32],
 ) -> Weighed
-    requires workable { Workable image.numbers.now image.starts.now image.nets.now k (length scratch.old) loads.old known.old }
-    requires tallying { Tallying image.numbers.now image.starts.now k rows.old (marks known.old) }
-    ensures load { (s : Workable image.entry.numbers.now image.entry.starts.now image.entry.nets.now k (length scratch.old) loads.old known.old)
-        → Loaded image.entry.numbers.now image.entry.starts.now s.loadable.rs s.loadable.scene.m k result.load scratch.old scratch.new loads.new known.new }
-    ensures tally { (s : Tallying image.entry.numbers.now image.entry.starts.now k rows.old (marks known.old))
+    requires workable { Workable image.now.numbers.now image.now.starts.now image.now.nets.now k (length scratch.old) loads.old known.old }
+    requires tallying { Tallying image.now.numbers.now image.now.starts.now k rows.old (marks known.old) }
+    ensures load { (s : Workable image.now.numbers.now image.now.starts.now image.now.nets.now k (length scratch.old) loads.old known.old)
+        → Loaded image.now.numbers.now image.now.starts.now s.loadable.rs s.loadable.scene.m k result.load scratch.old scratch.new loads.new known.new }
+    ensures tally { (s : Tallying image.now.numbers.now image.now.starts.now k rows.old (marks known.old))
         → Tallied s.countable.rs k result.tally.counts rows.new (marks known.new) }
 {
     let kept = kept_at(known, k);
@@ -92,7 +92,7 @@ pub fn weigh(image: Image, k: usize, room: usize, scratch: &mut [u32], loads: &m
 {
     let mut rows = [0u32; 2048];
     let mut known = [0u32; 128];
-    let weighed = weigh_once(image, k, scratch, loads, &mut rows, &mut known);
+    let weighed = weigh_once(&image, k, scratch, loads, &mut rows, &mut known);
     clear(room, scratch);
     weighed
 }

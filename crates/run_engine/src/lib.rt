@@ -30,7 +30,7 @@ pub fn evaluate(
 {
     let header = image.module(k);
     crate::buffers::load(values, scratch);
-    run_walk::walk::run_module::<Values>(image, k, scratch);
+    run_walk::walk::run_module::<Values>(&image, k, scratch);
     crate::buffers::give(image.numbers, header.from, header.to, scratch, out);
     image::buffers::clear(room, scratch);
 }
@@ -56,7 +56,7 @@ pub fn delays(
     let header = image.module(k);
     image::buffers::clear(header.inputs, scratch);
     image::buffers::clear(header.inputs, others);
-    run_times::walk::run_module(family, image, k, scratch, others);
+    run_times::walk::run_module(family, &image, k, scratch, others);
     let latest = run_times::gate::latest(image.numbers, header.from, header.to, scratch, others);
     image::buffers::clear(room, scratch);
     latest

@@ -28,7 +28,7 @@ fn run_block(
     let k = site.position;
     let header = image.module(k);
     lanes::rows::take_block(values, header.inputs, from, count, entries);
-    run_walk::walk::run_module::<Rows>(image, k, entries);
+    run_walk::walk::run_module::<Rows>(&image, k, entries);
     crate::outputs::give_block(
         image.numbers,
         header.from,

@@ -12,12 +12,18 @@ use image::places::Header;
 
 // The module at position k. The arrivals of its inputs stand at the front of both lists, and then those of its whole frame do.
 #[cycle(run_module_walk)]
-pub fn run_module(family: Family, image: Image<'_>, k: usize, units: &mut [u32], others: &mut [u32])
-    requires runnable { Runnable image.numbers.now image.starts.now image.nets.now k units.old }
-    requires runnable_2 { Runnable image.numbers.now image.starts.now image.nets.now k others.old }
-    ensures unit { (s : Runnable image.entry.numbers.now image.entry.starts.now image.entry.nets.now k units.old)
+pub fn run_module(
+    family: Family,
+    image: &Image<'_>,
+    k: usize,
+    units: &mut [u32],
+    others: &mut [u32],
+)
+    requires runnable { Runnable image.now.numbers.now image.now.starts.now image.now.nets.now k units.old }
+    requires runnable_2 { Runnable image.now.numbers.now image.now.starts.now image.now.nets.now k others.old }
+    ensures unit { (s : Runnable image.now.numbers.now image.now.starts.now image.now.nets.now k units.old)
         → Ran (times_work one_each) s.scene.m s.scene.later units.old units.new }
-    ensures family { (s : Runnable image.entry.numbers.now image.entry.starts.now image.entry.nets.now k others.old)
+    ensures family { (s : Runnable image.now.numbers.now image.now.starts.now image.now.nets.now k others.old)
         → Ran (times_work (delay_in family.delays)) s.scene.m s.scene.later others.old others.new }
 {
     walk(family, image, k, image.module(k), units, others);
@@ -27,17 +33,17 @@ pub fn run_module(family: Family, image: Image<'_>, k: usize, units: &mut [u32],
 #[cycle(run_module_walk)]
 fn walk(
     family: Family,
-    image: Image<'_>,
+    image: &Image<'_>,
     k: usize,
     header: Header,
     units: &mut [u32],
     others: &mut [u32],
 )
-    requires walkable { Walkable image.numbers.now image.starts.now image.nets.now k header units.old }
-    requires walkable_2 { Walkable image.numbers.now image.starts.now image.nets.now k header others.old }
-    ensures unit { (s : Walkable image.entry.numbers.now image.entry.starts.now image.entry.nets.now k header units.old)
+    requires walkable { Walkable image.now.numbers.now image.now.starts.now image.now.nets.now k header units.old }
+    requires walkable_2 { Walkable image.now.numbers.now image.now.starts.now image.now.nets.now k header others.old }
+    ensures unit { (s : Walkable image.now.numbers.now image.now.starts.now image.now.nets.now k header units.old)
         → Ran (times_work one_each) s.runnable.scene.m s.runnable.scene.later units.old units.new }
-    ensures family { (s : Walkable image.entry.numbers.now image.entry.starts.now image.entry.nets.now k header others.old)
+    ensures family { (s : Walkable image.now.numbers.now image.now.starts.now image.now.nets.now k header others.old)
         → Ran (times_work (delay_in family.delays)) s.runnable.scene.m s.runnable.scene.later others.old others.new }
 {
     let numbers = image.numbers;

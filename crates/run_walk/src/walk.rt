@@ -1,6 +1,7 @@
 // A module and its list of occurrences, evaluated through each other: a module by the walk over its occurrences, which evaluates each
 // module that it meets, in the part of scratch behind its own frame. So the stack grows with the nesting of modules only. An occurrence
-// that drives no net leaves nothing behind, so the module that it refers to is not evaluated.
+// that drives no net leaves nothing behind, so the module that it refers to is not evaluated. The image comes by reference: by value its
+// three slices would be copied at each call.
 ghost use Rattle.run_walk.specs.Running.{Runnable, Walkable, Ran};
 
 use crate::work::Work;
@@ -10,9 +11,9 @@ use image::places::Header;
 
 // The module at position k. Its inputs stand at the front of scratch, and then its whole frame does.
 #[cycle(run_module_walk)]
-pub fn run_module<W: Work>(image: Image<'_>, k: usize, scratch: &mut [W::Entry])
-    requires { Runnable image.numbers.now image.starts.now image.nets.now k scratch.old }
-    ensures { (s : Runnable image.entry.numbers.now image.entry.starts.now image.entry.nets.now k scratch.old)
+pub fn run_module<W: Work>(image: &Image<'_>, k: usize, scratch: &mut [W::Entry])
+    requires { Runnable image.now.numbers.now image.now.starts.now image.now.nets.now k scratch.old }
+    ensures { (s : Runnable image.now.numbers.now image.now.starts.now image.now.nets.now k scratch.old)
         → Ran W.work s.scene.m s.scene.later scratch.old scratch.new }
 {
     walk::<W>(image, k, image.module(k), scratch);
@@ -20,9 +21,9 @@ pub fn run_module<W: Work>(image: Image<'_>, k: usize, scratch: &mut [W::Entry])
 
 // Its occurrences, from first to last. Each fills the next slots of the frame.
 #[cycle(run_module_walk)]
-fn walk<W: Work>(image: Image<'_>, k: usize, header: Header, scratch: &mut [W::Entry])
-    requires { Walkable image.numbers.now image.starts.now image.nets.now k header scratch.old }
-    ensures { (s : Walkable image.entry.numbers.now image.entry.starts.now image.entry.nets.now k header scratch.old)
+fn walk<W: Work>(image: &Image<'_>, k: usize, header: Header, scratch: &mut [W::Entry])
+    requires { Walkable image.now.numbers.now image.now.starts.now image.now.nets.now k header scratch.old }
+    ensures { (s : Walkable image.now.numbers.now image.now.starts.now image.now.nets.now k header scratch.old)
         → Ran W.work s.runnable.scene.m s.runnable.scene.later scratch.old scratch.new }
 {
     let numbers = image.numbers;

@@ -9,7 +9,7 @@ use Rattle.load_engine.proofs.Loading.{Loading}
 use Rattle.load_engine.proofs.+weigh_once.Given as goal
 
 abbrev pub decreases-weigh_once : goal.decreases-weigh_once
-decreases-weigh_once l = length l.image.starts.now - l.k
+decreases-weigh_once l = length l.image.now.starts.now - l.k
 
 abbrev pub invariant-loop : goal.invariant-loop
 invariant-loop l =

@@ -6,10 +6,10 @@ use Rattle.flat_engine.proofs.Progress.{Walking}
 use Rattle.flat_engine.proofs.walk.+place_module_walk.Given as goal
 
 abbrev pub decreases-place_module : goal.decreases-place_module
-decreases-place_module l = 2 * (length l.image.starts.now - l.k) + 1
+decreases-place_module l = 2 * (length l.image.now.starts.now - l.k) + 1
 
 abbrev pub decreases-walk : goal.decreases-walk
-decreases-walk l = 2 * (length l.image.starts.now - l.k)
+decreases-walk l = 2 * (length l.image.now.starts.now - l.k)
 
 abbrev pub invariant-walk-loop : goal.invariant-walk-loop
 invariant-walk-loop l =

@@ -8,10 +8,10 @@ use Rattle.run_times.specs.Times.{one_each, times_work}
 use Rattle.run_times.proofs.walk.+run_module_walk.Given as goal
 
 abbrev pub decreases-run_module : goal.decreases-run_module
-decreases-run_module l = 2 * (length l.image.starts.now - l.k) + 1
+decreases-run_module l = 2 * (length l.image.now.starts.now - l.k) + 1
 
 abbrev pub decreases-walk : goal.decreases-walk
-decreases-walk l = 2 * (length l.image.starts.now - l.k)
+decreases-walk l = 2 * (length l.image.now.starts.now - l.k)
 
 abbrev pub invariant-walk-loop : goal.invariant-walk-loop
 invariant-walk-loop l =

@@ -6,10 +6,10 @@ use Rattle.run_walk.proofs.Progress.{Walking}
 use Rattle.run_walk.proofs.walk.+run_module_walk.Given as goal
 
 abbrev pub decreases-run_module : goal.decreases-run_module
-decreases-run_module g l = 2 * (length l.image.starts.now - l.k) + 1
+decreases-run_module g l = 2 * (length l.image.now.starts.now - l.k) + 1
 
 abbrev pub decreases-walk : goal.decreases-walk
-decreases-walk g l = 2 * (length l.image.starts.now - l.k)
+decreases-walk g l = 2 * (length l.image.now.starts.now - l.k)
 
 abbrev pub invariant-walk-loop : goal.invariant-walk-loop
 invariant-walk-loop g l = let i = l.fn.image in
