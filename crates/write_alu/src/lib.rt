@@ -84,7 +84,15 @@ fn alu_module(width: u16, copied: u16, bytes: &mut [u8], at: usize) -> usize
     let carries = cells(width, copied, bytes, bits);
     let outputs = look_ahead(width, carry, p, bytes, carries);
     let result = flags(width, bytes, outputs);
-    gate_row(Gate::Xor, 6 * width + 9, q, carry, width, bytes, result)
+    gate_row(
+        Gate::Xor as u16,
+        6 * width + 9,
+        q,
+        carry,
+        width,
+        bytes,
+        result,
+    )
 }
 
 // The whole file, and how many bytes it has.

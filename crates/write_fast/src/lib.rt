@@ -39,10 +39,10 @@ fn fast_module(width: u16, bytes: &mut [u8], at: usize) -> usize
     let b = 2 * width + 1;
     let p = 3 * width + 1;
     let passes = fast_head(width, bytes, at);
-    let makes = gate_row(Gate::Xor, p, a, b, width, bytes, passes);
-    let carries = gate_row(Gate::And, 4 * width + 1, a, b, width, bytes, makes);
+    let makes = gate_row(Gate::Xor as u16, p, a, b, width, bytes, passes);
+    let carries = gate_row(Gate::And as u16, 4 * width + 1, a, b, width, bytes, makes);
     let sums = look_ahead(width, 0, p, bytes, carries);
-    gate_row(Gate::Xor, 5 * width + 1, p, 0, width, bytes, sums)
+    gate_row(Gate::Xor as u16, 5 * width + 1, p, 0, width, bytes, sums)
 }
 
 // The whole file, and how many bytes it has.

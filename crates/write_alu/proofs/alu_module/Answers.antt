@@ -54,7 +54,7 @@ gate_row-requires c =
     let three = laying-put c.copies-bits.ensures (laying-put c.control_lines-again.ensures one) in
     let five = laying-put c.look_ahead-outputs.ensures (laying-put c.cells-carries.ensures three) in
     let pre = c.requires in
-    (omega (arith, pre.0), omega (arith, pre.0), omega (arith, pre.0), laying-left (laying-put c.flags-result.ensures five))
+    (omega arith, omega (arith, pre.0), omega (arith, pre.0), omega (arith, pre.0), laying-left (laying-put c.flags-result.ensures five))
 
 pub returns : goal.returns
 returns c =

@@ -19,12 +19,12 @@ fast_head-passes-requires c = (c.requires.0, room-first _ (laying-left (start c.
 pub gate_row-makes-requires : goal.gate_row-makes-requires
 gate_row-makes-requires c =
     let one = laying-put c.fast_head-passes.ensures (start c.args.width c.requires.1) in
-    (omega arith, omega arith, omega arith, room-first _ (laying-left one))
+    (omega arith, omega arith, omega arith, omega arith, room-first _ (laying-left one))
 
 pub gate_row-carries-requires : goal.gate_row-carries-requires
 gate_row-carries-requires c =
     let one = laying-put c.fast_head-passes.ensures (start c.args.width c.requires.1) in
-    (omega arith, omega arith, omega arith, room-first _ (laying-left (laying-put c.gate_row-makes.ensures one)))
+    (omega arith, omega arith, omega arith, omega arith, room-first _ (laying-left (laying-put c.gate_row-makes.ensures one)))
 
 pub look_ahead-sums-requires : goal.look_ahead-sums-requires
 look_ahead-sums-requires c =
@@ -36,7 +36,7 @@ pub gate_row-requires : goal.gate_row-requires
 gate_row-requires c =
     let one = laying-put c.fast_head-passes.ensures (start c.args.width c.requires.1) in
     let three = laying-put c.gate_row-carries.ensures (laying-put c.gate_row-makes.ensures one) in
-    (omega arith, omega arith, omega arith, laying-left (laying-put c.look_ahead-sums.ensures three))
+    (omega arith, omega arith, omega arith, omega arith, laying-left (laying-put c.look_ahead-sums.ensures three))
 
 pub returns : goal.returns
 returns c =
