@@ -36,7 +36,7 @@ pub listed : {text numbers : List ℕ} {r : Result ℕ Refusal} {count : ℕ} �
 listed {text} {numbers} {r} {count} h is = go (reading text) refl h.right
   where
     go : (d : Decision (List ListedModule)) → reading text ≡ d → ReadAs d numbers r → Listed text numbers count
-    go (refusal number place) e a = absurd cc
+    go (refusal number place) e (a, some) = absurd cc
     go (answer ms) e (n, read, are, few) =
         let same : n ≡ count = cc in
         record { ms = ms; is = e; numbers-are = rw same at are; inside = omega arith }

@@ -102,7 +102,7 @@ pub was : {text numbers : List ℕ} {count : ℕ} → Reads text numbers (Ok cou
 was {text} {numbers} {count} h = go (reading text) refl h.right
   where
     go : (d : Decision (List ListedModule)) → reading text ≡ d → ReadAs d numbers (Ok count) → Was text numbers count
-    go (refusal number place) e a = cc
+    go (refusal number place) e (a, some) = cc
     go (answer ms) e (n, is, numbers-are, few) =
         let same : n ≡ count = cc in
         record { ms = ms; is = e; numbers-are = rw same at numbers-are; few = omega arith }
@@ -113,7 +113,7 @@ read-refused {text} {numbers} {number} {place} h out before = go (reading text) 
   where
     go : (d : Decision (List ListedModule)) → reading text ≡ d → ReadAs d numbers (Err (refusal_at number place))
         → Answers (on_listed d (λ ms. shelving (numbered ms) out)) before before (Err (refusal_at number place))
-    go (refusal number' place') e a =
+    go (refusal number' place') e (a, some) =
         let same : refusal_at number place ≡ refusal_at number' place' = cc in
         let n : number ≡ number' = ap (λ r. r.number) same in
         let p : place ≡ place' = ap (λ r. r.place) same in

@@ -50,12 +50,15 @@ looping_first text numbers tree tree' count r same g =
 
 -- A refusal at a part.
 pub turn-refused : (text numbers tree : List ℕ) (i : ℕ) (r : Refusal) → Turned text i (Err r) numbers tree → Reads text numbers (Err r)
-turn-refused text numbers tree i r d = record { right = rw d.1 refl }
+turn-refused text numbers tree i r (place, is, some) = record { right = rw is (refl, some) }
 
 module _ (text numbers₀ tree₀ numbers tree : List ℕ) (s : State) (i : ℕ) (l : Looping text numbers₀ tree₀ numbers tree s i) (e : length text ≤ i) where
   pub short-reads : s.mode < 17 → Reads text numbers (Err (refusal_at 25 i))
   short-reads m =
-      record { right = rw (parse-short text i (desk_of numbers s.marks) l.reading.known l.reading.heard e s.mode l.reading.parse m) refl }
+      record {
+        right = rw (parse-short text i (desk_of numbers s.marks) l.reading.known l.reading.heard e s.mode l.reading.parse m)
+            (refl, λ z. omega arith);
+      }
 
   pub whole-reads : 17 ≤ s.mode → Reads text numbers (Ok s.marks.at)
   whole-reads m =

@@ -53,10 +53,10 @@ pub record GoesOn (text : List ℕ) (i : ℕ) (turn : Turn) (numbers tree : List
   pub on : Reading text turn.next turn.state numbers tree
   pub further : i < turn.next
 
--- A turn goes on, or it has met what the text is refused for.
+-- A turn goes on, or it has met what the text is refused for. No refusal has number 0.
 abbrev pub Turned : (text : List ℕ) (i : ℕ) → Result Turn Refusal → (numbers tree : List ℕ) → Type 0
 Turned text i (Ok turn) numbers tree = GoesOn text i turn numbers tree
-Turned text i (Err refused) numbers tree = (refused.place ≡ i) × (reading text ≡ refusal refused.number refused.place)
+Turned text i (Err refused) numbers tree = (refused.place ≡ i) × (reading text ≡ refusal refused.number refused.place) × (refused.number ≡ 0 → ⊥)
 
 pub record Openable (text : List ℕ) (i mode : ℕ) (s : State) (numbers tree : List ℕ) : Type 0 where
   pub here : Turnable text i s numbers tree
@@ -97,7 +97,7 @@ pub record Readable (text numbers tree : List ℕ) : Type 0 where
   pub text-most : length text ≤ most_text
 
 abbrev pub ReadAs : Decision (List ListedModule) → (numbers : List ℕ) → Result ℕ Refusal → Type 0
-ReadAs (refusal number place) numbers r = r ≡ Err (refusal_at number place)
+ReadAs (refusal number place) numbers r = (r ≡ Err (refusal_at number place)) × (number ≡ 0 → ⊥)
 ReadAs (answer ms) numbers r = (count : ℕ) × (r ≡ Ok count) × (take count numbers ≡ file_numbers (numbered ms)) × (count ≤ length numbers)
 
 pub record Reads (text numbers : List ℕ) (r : Result ℕ Refusal) : Type 0 where
