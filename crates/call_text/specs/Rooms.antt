@@ -18,7 +18,15 @@ pub record InTree (text numbers : List ℕ) (tree : ℕ) : Type 0 where
   pub tree_room : 4 * (length text + 128) ≤ tree
   pub tree-most : tree ≤ 1049088
 
--- A text and a list that is long enough for any.
+-- Lists for short texts, for longer ones and for all.
+pub record Short (text numbers : List ℕ) : Type 0 where
+  pub most : length text ≤ 2048
+  pub room : 2 * length text + 2 ≤ length numbers
+
+pub record Middle (text numbers : List ℕ) : Type 0 where
+  pub most : length text ≤ 32768
+  pub room : 2 * length text + 2 ≤ length numbers
+
 pub record Long (text numbers : List ℕ) : Type 0 where
   pub most : length text ≤ 262144
   pub room : 2 * length text + 2 ≤ length numbers
@@ -60,23 +68,55 @@ in_tree {text} {tree} {numbers} {bytes} h =
     let room : 2 * length text + 2 ≤ numbers = h.room in
     record { most = h.most; room = omega arith; tree_room = h.tree_room; tree-most = h.tree-most }
 
+ready_of : (text numbers : List ℕ) (r : Result ℕ Refusal) (n m : ℕ) → Reads text numbers r → length numbers ≡ length (replicate {A = ℕ} n 0) → n < 4194304
+    → min (2 * n) 65535 ≤ m → Ready text r numbers (replicate m 0)
+ready_of text numbers r n m h e l w =
+    let long : length (replicate {A = ℕ} n 0) ≡ n = length-replicate n 0 in
+    let wide : length (replicate {A = ℕ} m 0) ≡ m = length-replicate m 0 in
+    record { reads = h; room = omega arith; few = omega arith }
+
 pub ready : {text : List ℕ} {tree n bytes : ℕ} {numbers : List ℕ} {r : Result ℕ Refusal} → InLists text tree n bytes → Reads text numbers r
     → length numbers ≡ length (replicate {A = ℕ} n 0) → Ready text r numbers (replicate bytes 0)
 ready {text} {tree} {n} {bytes} {numbers} {r} h reads e =
-    let long : length (replicate {A = ℕ} n 0) ≡ n = length-replicate n 0 in
-    let wide : length (replicate {A = ℕ} bytes 0) ≡ bytes = length-replicate bytes 0 in
     let few : n ≤ 524290 = h.few in
-    let room : min (2 * n) 65535 ≤ bytes = h.bytes-room in
-    record { reads = reads; room = omega arith; few = omega arith }
+    ready_of text numbers r n bytes reads e (omega arith) h.bytes-room
 
--- The longest, said for any length too.
+-- The longer lists, said for any length too.
+middle_of : (text : List ℕ) (n : ℕ) → length text ≤ 32768 → 65538 ≤ n → Middle text (replicate n 0)
+middle_of text n l m =
+    let long : length (replicate {A = ℕ} n 0) ≡ n = length-replicate n 0 in
+    record { most = l; room = omega arith }
+
 long_of : (text : List ℕ) (n : ℕ) → length text ≤ 262144 → 524290 ≤ n → Long text (replicate n 0)
 long_of text n l m =
     let long : length (replicate {A = ℕ} n 0) ≡ n = length-replicate n 0 in
     record { most = l; room = omega arith }
 
+same-few : 65538 ≤ 65538
+same-few = omega arith
+
+fewer-numbers : 65538 < 4194304
+fewer-numbers = omega arith
+
 same-many : 524290 ≤ 524290
 same-many = omega arith
 
+few-numbers : 524290 < 4194304
+few-numbers = omega arith
+
+all-bytes : (n : ℕ) → min n 65535 ≤ 65535
+all-bytes n = omega arith
+
 pub long-numbers : (text : List ℕ) → length text ≤ 262144 → Long text (replicate 524290 0)
 long-numbers text l = long_of text 524290 l same-many
+
+pub middle-numbers : (text : List ℕ) → length text ≤ 32768 → Middle text (replicate 65538 0)
+middle-numbers text l = middle_of text 65538 l same-few
+
+pub ready-middle : (text numbers : List ℕ) (r : Result ℕ Refusal) → Reads text numbers r → length numbers ≡ length (replicate {A = ℕ} 65538 0)
+    → Ready text r numbers (replicate 65535 0)
+ready-middle text numbers r h e = ready_of text numbers r 65538 65535 h e fewer-numbers (all-bytes (2 * 65538))
+
+pub ready-long : (text numbers : List ℕ) (r : Result ℕ Refusal) → Reads text numbers r → length numbers ≡ length (replicate {A = ℕ} 524290 0)
+    → Ready text r numbers (replicate 65535 0)
+ready-long text numbers r h e = ready_of text numbers r 524290 65535 h e few-numbers (all-bytes (2 * 524290))
