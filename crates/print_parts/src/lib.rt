@@ -34,13 +34,14 @@ fn number_of(list: &[u8]) -> u32 {
     number
 }
 
-// The list of a module by its number, if the text has such a module.
+// The list of a module by its number, if the text has such a module: between the first byte and the last two, whatever these are. Nothing at
+// all is no module's list.
 pub fn module_list(text: &[u8], number: u16) -> Option<&[u8]> {
-    let mut modules = text.strip_prefix(b"(")?.strip_suffix(b")\n")?;
+    let mut modules = text.get(1..text.len().checked_sub(2)?)?;
     while !modules.is_empty() {
         let (list, behind) = modules.split_at(list_end(modules));
         if number_of(list) == u32::from(number) {
-            return Some(list);
+            return (!list.is_empty()).then_some(list);
         }
         modules = behind.get(2..)?;
     }
