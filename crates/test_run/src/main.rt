@@ -3,6 +3,8 @@
 // adder, or 2 and that of a counter, which is written first.
 #![tactic(auto)]
 
+ghost use Rattle.std.specs.Prelude.{◌≤◌, length, IfOk};
+
 use refusals::Refusal;
 use std::io;
 use std::io::Read;
@@ -26,7 +28,9 @@ fn main(rt: HostRuntime) -> io::Result<()> {
 }
 
 // Reads or writes the file of a case at the front of a buffer.
-fn read_file<'a>(input: &mut impl Read, buffer: &'a mut [u8]) -> io::Result<&'a [u8]> {
+fn read_file<'a>(input: &mut impl Read, buffer: &'a mut [u8]) -> io::Result<&'a [u8]>
+    ensures { IfOk result (λ part. length part.now ≤ length buffer.old) }
+{
     let source = read_number(input)?;
     if source == 0 {
         return read_part(input, buffer);
@@ -41,7 +45,9 @@ fn read_file<'a>(input: &mut impl Read, buffer: &'a mut [u8]) -> io::Result<&'a 
 }
 
 // What was written at the front of a buffer.
-fn written<'a>(made: Result<usize, Refusal>, buffer: &'a [u8]) -> &'a [u8] {
+fn written<'a>(made: Result<usize, Refusal>, buffer: &'a [u8]) -> &'a [u8]
+    ensures { length result.now ≤ length buffer.now }
+{
     match made {
         Ok(count) => buffer.get(..count).unwrap_or(&[]),
         Err(Refusal { .. }) => &[],
@@ -49,7 +55,9 @@ fn written<'a>(made: Result<usize, Refusal>, buffer: &'a [u8]) -> &'a [u8] {
 }
 
 // The front of a buffer; nothing where the buffer is too short.
-fn front<'a, T>(count: u16, buffer: &'a mut [T]) -> &'a mut [T] {
+fn front<'a, T>(count: u16, buffer: &'a mut [T]) -> &'a mut [T]
+    ensures { length result.now ≤ length buffer.old }
+{
     buffer.get_mut(..count as usize).unwrap_or(&mut [])
 }
 
