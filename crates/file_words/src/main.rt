@@ -2,7 +2,7 @@
 // feed; carriage returns are taken out.
 #![tactic(auto)]
 
-use refusals::Refusal;
+use filing::Refusal;
 use std::io;
 use std::io::Read;
 

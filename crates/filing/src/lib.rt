@@ -20,7 +20,7 @@ use crate::counter::counter_file;
 use crate::sequences::fill;
 use crate::shelves::shelf_at;
 use crate::words::run_words;
-use refusals::Refusal;
+pub use shelf::Refusal;
 
 // The shelf of a word that is one.
 fn shelf_of(word: &[u8]) -> u8
