@@ -20,7 +20,7 @@ overflow_mul-result c =
     (λ written h. leb-true _ _ (demand-met 27 0 (leb a.rows most_rows) h).met)
     in
     let most = mul-le a.rows a.site.size 1024 65535 few (size_low s) in
-    record { fits = omega arith }
+    record { fits = omega (arith, size_low s) }
 
 pub returns : goal.returns
 returns c s =
