@@ -3,14 +3,17 @@ ghost use Rattle.std.specs.Prelude.{◌+◌, ◌≤◌, ◌^◌, length};
 ghost use Rattle.meaning.specs.Adder.{up_from};
 ghost use Rattle.bytes_out.specs.Filled.{Put};
 
-// A piece as it stands.
+// A piece as it stands, byte by byte: pieces are short, and a call that moves memory costs more than they do.
 pub fn copy(piece: &[u8], bytes: &mut [u8], at: usize) -> usize
     requires { at + length piece.now ≤ length bytes.old }
     ensures { Put piece.now bytes.old at bytes.new result }
 {
-    let end = at + piece.len();
-    bytes[at..end].copy_from_slice(piece);
-    end
+    let mut at = at;
+    for byte in piece {
+        bytes[at] = *byte;
+        at += 1;
+    }
+    at
 }
 
 // The numbers from one on, as many as said.
