@@ -6,7 +6,8 @@ use check_lists::numbering::Numbering;
 use check_sizes::{Figures, Sums};
 
 // All occurrences of the module at position k, whose inputs are `width` nets: each checked, and made its part of the image where it is
-// fine.
+// fine. A function of its own, so that its loop has the registers to itself.
+#[inline(never)]
 pub fn check_body(
     numbers: &mut [u16],
     from: usize,
