@@ -20,6 +20,7 @@ use Rattle.std.specs.Prelude.{Ok, Err}
 use Rattle.refusals.specs.Refused.{refusal_at}
 use Rattle.check_steps.specs.Found.{Repeating, Known, broken}
 use Rattle.check_steps.specs.FileParts.{filed-of}
+use Rattle.check_steps.proofs.Rules.{rules-low}
 
 repeated_here :
     (ms : List Module) (k : ℕ) {m : Module} {later : List Module} → At ms k m later → k ≡ first_repeat ms → is_box (assoc m.number later) ≡ true
@@ -63,8 +64,8 @@ module _ {numbers starts : List ℕ} {modules repeated : ℕ} (b : Repeating num
         none = λ fine. omega (arith, b.laidout.all, b.repeats, repeat_inside b.ms);
       }
 
-  breaks : {rule : ℕ} → rule ≤ 16 → modules_verdict repeated (drop repeated b.ms) ≡ refused rule repeated → Known (Err (refusal_at rule repeated)) repeated b.ms
-  breaks low judged = record { judged = broken low judged; none = λ fine. absurd (cc) }
+  breaks : {rule : ℕ} → modules_verdict repeated (drop repeated b.ms) ≡ refused rule repeated → Known (Err (refusal_at rule repeated)) repeated b.ms
+  breaks judged = record { judged = broken (rules-low repeated (drop repeated b.ms) judged) judged; none = λ fine. absurd (cc) }
 
   -- The module that is repeated begins among the numbers, and its number decides between the rules.
   module _ (some : repeated < modules) where
@@ -86,7 +87,7 @@ module _ {numbers starts : List ℕ} {modules repeated : ℕ} (b : Repeating num
     repeat_starts = omega (arith, stands.within)
 
     pub repeat_of-gate : get_or numbers start 0 < 16 → Known (Err (refusal_at 6 repeated)) repeated b.ms
-    repeat_of-gate h = breaks (omega arith) (repeat_breaks_6 b.ms repeated there.at b.repeats (omega (arith, number_is)))
+    repeat_of-gate h = breaks (repeat_breaks_6 b.ms repeated there.at b.repeats (omega (arith, number_is)))
 
     pub repeat_of_module : 16 ≤ get_or numbers start 0 → Known (Err (refusal_at 7 repeated)) repeated b.ms
-    repeat_of_module h = breaks (omega arith) (repeat_breaks_7 b.ms repeated there.at b.repeats (omega (arith, number_is)))
+    repeat_of_module h = breaks (repeat_breaks_7 b.ms repeated there.at b.repeats (omega (arith, number_is)))

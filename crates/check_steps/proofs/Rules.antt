@@ -1,11 +1,11 @@
 -- A module is refused with one of rules 6 to 16, never with 17, which is about sizes.
-use Prim.Native.Nat.{ℕ, ◌≤◌}
+use Prim.Native.Nat.{ℕ, suc, ◌≤◌}
 use mathlib.Core.Path.{◌≡◌}
 use mathlib.Core.Bool.{Bool, true, false}
 use mathlib.Core.List.{List, [], ◌∷◌, ◌++◌}
 use native.Mathlib.Omega.{arith}
 use Rattle.meaning.specs.Syntax.{Occurrence, Module}
-use Rattle.meaning.specs.Verdict.{Verdict, good, refused, keep, and_then, occurrence_verdict, body_verdict, module_verdict}
+use Rattle.meaning.specs.Verdict.{Verdict, good, refused, keep, and_then, occurrence_verdict, body_verdict, module_verdict, modules_verdict}
 
 record Low (v : Verdict) : Type 0 where
   low : (rule place : ℕ) → v ≡ refused rule place → rule ≤ 16
@@ -42,3 +42,12 @@ module-low p m later =
 
 pub rule-low : (p : ℕ) (m : Module) (later : List Module) {rule place : ℕ} → module_verdict p m later ≡ refused rule place → rule ≤ 16
 rule-low p m later e = (module-low p m later).low _ _ e
+
+modules-low : (p : ℕ) (ms : List Module) → Low (modules_verdict p ms)
+unfolding modules_verdict
+modules-low p [] = low-good
+modules-low p (m ∷ later) = then-low (module_verdict p m later) (module-low p m later) (modules-low (suc p) later)
+
+-- Nor is a list of modules.
+pub rules-low : (p : ℕ) (ms : List Module) {rule place : ℕ} → modules_verdict p ms ≡ refused rule place → rule ≤ 16
+rules-low p ms e = (modules-low p ms).low _ _ e

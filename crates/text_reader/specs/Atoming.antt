@@ -32,14 +32,14 @@ netted_mode mode f = rw (ne_eqb mode 3 (λ e. f (inl e)), ne_eqb mode 13 (λ e. 
 module _ (text : List ℕ) (i : ℕ) (s : State) (numbers tree : List ℕ) (a : AtomAt text i s numbers tree) where
   pub atom-lost : (mode : ℕ) → mode ≡ mode_after s.mode 4 → 18 ≤ mode → Turned text i (Err (refusal_at 25 i)) numbers tree
   atom-lost mode leads off =
-      refused_turn text i 25 numbers tree (λ z. omega arith)
+      refused_turn text i 25 numbers tree
       (atom-off text i s.mode (desk_of numbers s.marks) a.here.reading.known a.here.reading.heard a.here.reading.parse a.here.inside a.is
       (omega arith))
 
   -- An atom of over 32 bytes.
   pub atom-long : (mode end : ℕ) → mode ≡ mode_after s.mode 4 → mode < 18 → end ≡ i + length (word (drop i text)) → 32 < end - i
       → Turned text i (Err (refusal_at 26 i)) numbers tree
-  atom-long mode end leads fine ends long = refused_turn text i 26 numbers tree (λ z. omega arith) (go (is_name s.mode) refl)
+  atom-long mode end leads fine ends long = refused_turn text i 26 numbers tree (go (is_name s.mode) refl)
     where
       on : mode_after s.mode 4 < 18
       on = omega arith
@@ -153,7 +153,7 @@ module _ (text : List ℕ) (i end mode : ℕ) (s : State) (numbers tree : List �
           go : Named name tree s.names s.nets s.root s.count a.atom.here.reading.known a.atom.here.reading.heard a.atom.here.reading.dict tree' count' number
               → Turned text i (Err (refusal_at 26 i)) numbers tree'
           go (none e left) =
-              refused_turn text i 26 numbers tree' (λ z. omega arith)
+              refused_turn text i 26 numbers tree'
               (name-over text i s.mode (desk_of numbers s.marks) a.atom.here.reading.known a.atom.here.reading.heard a.atom.here.reading.parse
               a.atom.here.inside a.atom.is on named
               (ap (λ t. too_long (word (drop i text)) || t) (ap (none_left a.atom.here.reading.known) (sym name-is) ∙ left) ∙ or-true (too_long (word (drop i text)))))
@@ -216,7 +216,7 @@ module _ (text : List ℕ) (i end mode : ℕ) (s : State) (numbers tree : List �
       -- 192 nets in the list.
       pub net-full : 192 ≤ get_or numbers s.marks.list 0 → Turned text i (Err (refusal_at 26 i)) numbers tree
       net-full l =
-          refused_turn text i 26 numbers tree (λ z. omega arith)
+          refused_turn text i 26 numbers tree
           (net-over text i s.mode (desk_of numbers s.marks) a.atom.here.reading.known a.atom.here.reading.heard a.atom.here.reading.parse
           a.atom.here.inside a.atom.is on netted
           (ap (λ t. too_long (word (drop i text)) || t || none_left a.atom.here.reading.heard (word (drop i text))) (ap (leb 192) counted ∙ le-leb 192 (get_or numbers s.marks.list 0) l)
@@ -246,7 +246,7 @@ module _ (text : List ℕ) (i end mode : ℕ) (s : State) (numbers tree : List �
             go : Netted name tree s.names s.nets s.root s.count a.atom.here.reading.known a.atom.here.reading.heard a.atom.here.reading.dict tree' count' number
                 → Turned text i (Err (refusal_at 26 i)) numbers tree'
             go (none e left) =
-                refused_turn text i 26 numbers tree' (λ z. omega arith)
+                refused_turn text i 26 numbers tree'
                 (net-over text i s.mode (desk_of numbers s.marks) a.atom.here.reading.known a.atom.here.reading.heard a.atom.here.reading.parse
                 a.atom.here.inside a.atom.is on netted
                 (ap (λ t. too_long (word (drop i text)) || leb 192 (get_or (take s.marks.at numbers) s.marks.list 0) || t)

@@ -4,6 +4,7 @@ pub mod Standing
 pub mod Parts
 pub mod Dict
 pub mod Reading
+pub mod Refusing
 pub mod Turning
 pub mod Gating
 pub mod Atoming

@@ -17,6 +17,7 @@ use Rattle.text_reader.specs.declared.turns.State.{State}
 use Rattle.text_reader.specs.Parse.{Parse, parse-space}
 use Rattle.text_reader.specs.Parts.{parse-openable, sign-off, open_over, open_on, close-on, mark_on}
 use Rattle.text_reader.specs.Dict.{fresh}
+use Rattle.text_reader.specs.Refusing.{refusal-numbered}
 use Rattle.text_reader.specs.Reading.{in_mode, rooted, closed, Rooms, Reading, Turnable, Turned, Openable}
 
 -- A turn that goes on, and one that refuses.
@@ -24,9 +25,9 @@ pub turned_on : (text : List ℕ) (i next : ℕ) (s : State) (numbers tree : Lis
     → Turned text i (Ok (record { next = next; state = s })) numbers tree
 turned_on text i next s numbers tree r l = record { on = r; further = l }
 
-pub refused_turn : (text : List ℕ) (i number : ℕ) (numbers tree : List ℕ) → (number ≡ 0 → ⊥) → reading text ≡ refusal number i
+pub refused_turn : (text : List ℕ) (i number : ℕ) (numbers tree : List ℕ) → reading text ≡ refusal number i
     → Turned text i (Err (refusal_at number i)) numbers tree
-refused_turn text i number numbers tree some e = (refl, e, some)
+refused_turn text i number numbers tree e = (refl, e, refusal-numbered text e)
 
 pub state_mode : (text : List ℕ) (i : ℕ) (s : State) (numbers tree : List ℕ) → Reading text i s numbers tree → s.mode < 19
 state_mode text i s numbers tree r =
@@ -74,7 +75,7 @@ module _ (text : List ℕ) (i : ℕ) (s : State) (numbers tree : List ℕ) (t : 
     pub sign-lost : 18 ≤ mode → Turned text i (Err (refusal_at 25 i)) numbers tree
     sign-lost off =
         let same : mode_after s.mode part ≡ mode_after s.mode (sign_code this.it) = ap (mode_after s.mode) this.code in
-        refused_turn text i 25 numbers tree (λ z. omega arith)
+        refused_turn text i 25 numbers tree
         (sign-off text i s.mode (desk_of numbers s.marks) t.reading.known t.reading.heard t.reading.parse t.inside this.it this.is
         (omega arith))
 
@@ -173,7 +174,7 @@ module _ (text : List ℕ) (i mode : ℕ) (s : State) (numbers tree : List ℕ) 
 
   pub open_refused : opened_over s.mode (desk_of numbers s.marks) ≡ true → Turned text i (Err (refusal_at 26 i)) numbers tree
   open_refused e =
-      refused_turn text i 26 numbers tree (λ z. omega arith)
+      refused_turn text i 26 numbers tree
       (open_over text i s.mode (desk_of numbers s.marks) o.here.reading.known o.here.reading.heard o.here.reading.parse o.here.inside o.is
       leads-on e)
 
